@@ -18,6 +18,7 @@ draw      Draw the slot tables of a plan as an image (SVG)
 replay    Play the events of a script on a station, and print the answers
 simulate  Simulate a station on a log of received words with times
 survey    Print which words are on recorded lines, and how often each comes
+judge     Judge whether what a box sent is right, by logs of its words
 live      Run a station on threads, and print how many words and cells passed
 END_OF_LINES
 }
@@ -46,13 +47,14 @@ _a429() {
         draw) options="--group --slots --width --html $options" ;;
         simulate) options="--time --from --until --summary --csv --json $options" ;;
         survey) options="--time --from --rate --rows --slack --csv --json $options" ;;
+        judge) options="--in --tolerance --events --time --from --csv --json $options" ;;
     esac
     case ${COMP_WORDS[COMP_CWORD - 1]} in
         --width) COMPREPLY=($(compgen -W "64 128 256" -- "$word")); return ;;
         --time) COMPREPLY=($(compgen -W "us ms s" -- "$word")); return ;;
         --from) COMPREPLY=($(compgen -W "first" -- "$word")); return ;;
         --sdi | --ssm) COMPREPLY=($(compgen -W "0 1 2 3" -- "$word")); return ;;
-        --group | --slots | --until | --limit | --rate | --slack | --data | --bnr | --bits | --bcd) COMPREPLY=(); return ;;
+        --group | --slots | --until | --limit | --rate | --slack | --tolerance | --data | --bnr | --bits | --bcd) COMPREPLY=(); return ;;
     esac
     case $word in
         -*) COMPREPLY=($(compgen -W "$options" -- "$word")) ;;

@@ -12,6 +12,7 @@ use Rattle.a429_equipment.specs.SameStation.{same_station}
 use Rattle.a429_slots.specs.Tables.{Placed, cell_at, demands_of, placed_at}
 use Rattle.a429_slots.specs.Kept.{BeginsAt, StandsJustAt}
 use Rattle.a429_grid.specs.Reversal.{reversed}
+use Rattle.a429_pack.specs.Demanded.{AreFewestBuses}
 use Rattle.a429_pack.specs.Schedules.{RecursWithin, Schedule}
 use Rattle.a429_pack.specs.Sums.{start_of}
 use Rattle.a429_slots.specs.Planned.{AreFewestBusesFor, HasPeriod, IsPlannedFor}
@@ -114,29 +115,28 @@ has_period_four = ((2, omega arith, refl), (omega arith, omega arith), λ q is w
 abbrev one_row_four : Schedule
 one_row_four = record { rows = 1; slots = 4; cell = λ bus slot. Some 0 }
 
-fewest_four : AreFewestBusesFor 100000 rows_four 1
-fewest_four = record {
-  exponents = 2 ∷ [];
-  fit = (has_period_four, tt);
-  fewest = record {
-    enough = (
-      one_row_four,
-      refl,
-      record {
-        names = λ bus slot output on in_time is. omega (arith, same_Some 0 output is);
-        long = omega arith;
-        recurs = recurs;
-      },
-    );
-    least = λ s S. let (bus, slot, inside, from, before, is) = S.recurs 0 (omega arith) 0 S.long in omega (arith, inside);
-  };
+pub one_bus_for_four : AreFewestBuses (2 ∷ []) 1
+one_bus_for_four = record {
+  enough = (
+    one_row_four,
+    refl,
+    record {
+      names = λ bus slot output on in_time is. omega (arith, same_Some 0 output is);
+      long = omega arith;
+      recurs = recurs;
+    },
+  );
+  least = λ s S. let (bus, slot, inside, from, before, is) = S.recurs 0 (omega arith) 0 S.long in omega (arith, inside);
 }
   where
     recurs : (output : ℕ) → output < 1 → RecursWithin (slice_index (4 ∷ []) output) output one_row_four
     recurs zero below from few = (0, from, omega arith, omega arith, omega arith, refl)
     recurs (suc output) below from few = absurd (omega (arith, below))
 
-stands_only_four : (bus slot : ℕ) → cell_at (table_of 2 new) bus slot ≡ Some 0 → (bus ≡ 0) × (slot % 4 ≡ 0)
+fewest_four : AreFewestBusesFor 100000 rows_four 1
+fewest_four = record { exponents = 2 ∷ []; fit = (has_period_four, tt); fewest = one_bus_for_four }
+
+pub stands_only_four : (bus slot : ℕ) → cell_at (table_of 2 new) bus slot ≡ Some 0 → (bus ≡ 0) × (slot % 4 ≡ 0)
 unfolding cell_at
 stands_only_four bus slot h = elim (cases_eq 0 bus) [
   | inr other ↦ let none : cell_at (table_of 2 new) bus slot ≡ None = rw (ne_eqb 0 bus other) refl in absurd (none-some 0 (sym none ∙ h))
@@ -146,7 +146,7 @@ stands_only_four bus slot h = elim (cases_eq 0 bus) [
   ]
 ]
 
-stands_there_four : (bus slot : ℕ) → bus ≡ 0 → slot % 4 ≡ 0 → cell_at (table_of 2 new) bus slot ≡ Some 0
+pub stands_there_four : (bus slot : ℕ) → bus ≡ 0 → slot % 4 ≡ 0 → cell_at (table_of 2 new) bus slot ≡ Some 0
 unfolding cell_at
 stands_there_four bus slot same even = rw (eq-eqb 0 bus (sym same), eq-eqb (slot % 4) 0 even) refl
 

@@ -12,3 +12,9 @@ pub mod ReadBack
 pub mod NextSends
 pub mod ChangesExample
 pub mod ManyChangesExample
+pub mod AnsweredCells
+pub mod SlotBoxes
+pub mod RecordedWords
+pub mod LoggedSends
+pub mod JudgedGroups
+pub mod JudgedExample

@@ -21,11 +21,11 @@ use Rattle.a429_callers.proofs.ChangesExample.{apart, has, next_is_own, only_out
 
 -- ---- from one place on
 
-abbrev EachOf : (ℕ → Type 0) → ℕ → ℕ → Type 0
+abbrev pub EachOf : (ℕ → Type 0) → ℕ → ℕ → Type 0
 EachOf P from zero = ⊤
 EachOf P from (suc n) = P from × EachOf P (from + 1) n
 
-each_of : (P : ℕ → Type 0) (from n : ℕ) → EachOf P from n → (j : ℕ) → from ≤ j → j < from + n → P j
+pub each_of : (P : ℕ → Type 0) (from n : ℕ) → EachOf P from n → (j : ℕ) → from ≤ j → j < from + n → P j
 each_of P from zero all j low high = absurd (omega (arith, low, high))
 each_of P from (suc n) (one, more) j low high = elim (cases_eq j from) [
   | inl same ↦ subst P (sym same) one

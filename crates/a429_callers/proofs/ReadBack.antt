@@ -1,11 +1,10 @@
 -- A sheet as comma-separated values is read back.
-use Rattle.std.proofs.Common.{◌≡◌, ◌≢◌, ◌∙◌, [], ◌∷◌, ℕ, List, map, ap, ap₂, refl, subst}
+use Rattle.std.proofs.Common.{◌≡◌, ◌≢◌, ◌∙◌, [], ◌∷◌, ℕ, List, map, ap₂, refl, subst}
 use Rattle.csv.specs.Reading.{AreRecords, default_config}
 use Rattle.csv.specs.Writing.{read_back}
 use Rattle.csv.specs.declared.parser.State.TheVariants as st
 use Rattle.a429_text.specs.Fields.{texts_of}
-use Rattle.a429_text.specs.Sheets.{csv_text_of, sheet_text}
-use Rattle.a429_text.specs.declared.sheets.SheetForm.TheVariants.{Csv}
+use Rattle.a429_text.specs.Sheets.{csv_text_of}
 use Rattle.a429_callers.specs.ReadBack.{HaveCells, SheetsAreReadBack}
 use Rattle.a429_callers.proofs.Icd.Texts.{records_back}
 

@@ -7,3 +7,6 @@ pub mod ReadBack
 pub mod NextSends
 pub mod ChangesExample
 pub mod ManyChangesExample
+pub mod SlotBoxes
+pub mod JudgedGroups
+pub mod JudgedExample

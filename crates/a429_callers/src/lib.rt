@@ -2,6 +2,7 @@
 //! words. There is also a law of definitions that no running code uses.
 #![tactic(auto)]
 
+pub mod boxes;
 pub mod client;
 pub mod conclusions;
 pub mod latency;

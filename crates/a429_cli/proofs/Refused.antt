@@ -29,6 +29,8 @@ table_fault_unjudged table refused.Gate f = absurd f
 table_fault_unjudged table refused.Source f = absurd f
 table_fault_unjudged table refused.Sink f = absurd f
 table_fault_unjudged table refused.TooMuch f = absurd f
+table_fault_unjudged table refused.Tolerance f = absurd f
+table_fault_unjudged table refused.Apart f = absurd f
 table_fault_unjudged table refused.Memory f = absurd f
 
 pub unfit_unjudged : (table : List ℕ) (t : TableRecord) (g o : ℕ) → reading table ≡ Ok t → IsFirstUnfitOf t g o → (r : CommandRefusal) → IsUnfitNamed t g o r → IsUnjudged table r
@@ -51,4 +53,6 @@ unfit_unjudged table t g o is first refused.Gate named = absurd named
 unfit_unjudged table t g o is first refused.Source named = absurd named
 unfit_unjudged table t g o is first refused.Sink named = absurd named
 unfit_unjudged table t g o is first refused.TooMuch named = absurd named
+unfit_unjudged table t g o is first refused.Tolerance named = absurd named
+unfit_unjudged table t g o is first refused.Apart named = absurd named
 unfit_unjudged table t g o is first refused.Memory named = absurd named

@@ -7,6 +7,7 @@ pub mod PlanReplies
 pub mod Drawings
 pub mod SlotReplies
 pub mod SurveyReplies
+pub mod JudgeAnswers
 pub mod Loads
 pub mod Findings
 pub mod Importing

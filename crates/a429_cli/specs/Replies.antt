@@ -20,6 +20,7 @@ use Rattle.a429_live.specs.LiveReplies.{IsLiveReply, TakesLive}
 use Rattle.a429_replay.specs.Replaying.{IsReplay, TakesFurther}
 use Rattle.a429_recordings.specs.SimulationReplies.{IsSimulation, simulation_form}
 use Rattle.a429_recordings.specs.Surveys.{IsNoSurvey, survey_form}
+use Rattle.a429_cli.specs.JudgeAnswers.{IsJudgement, IsUnjudged}
 use Rattle.a429_cli.specs.SurveyReplies.{IsSurveyed}
 use Rattle.a429_cli.specs.WholeReplies.{IsReplyBy}
 use Rattle.a429_cli.specs.declared.plan_texts.PlanText.TheVariants as told
@@ -32,11 +33,12 @@ is_whole verb.Simulate = false
 is_whole verb.Live = false
 is_whole _ = true
 
--- the status of a refusal: `load`, `lint` and `diff` keep 1 for what they find
+-- the status of a refusal: `load`, `lint`, `diff` and `judge` keep 1 for what they find
 abbrev pub trouble_of : Verb → ℕ
 trouble_of verb.Load = 2
 trouble_of verb.Lint = 2
 trouble_of verb.Diff = 2
+trouble_of verb.Judge = 2
 trouble_of _ = 1
 
 -- the status and the bytes of such an answer, by these files and by what the command is given
@@ -54,6 +56,7 @@ IsAnswerOf verb.Lint file r = IsLinted file r.options.form r.first
 IsAnswerOf verb.Diff file r = IsDiffOf file r.options.all r.options.form r.first r.second
 IsAnswerOf verb.Draw file r = IsImageOf file r.first r.options.group (picture_of r.options)
 IsAnswerOf verb.Survey file r = IsSurveyed file (r.first ∷ r.more) (survey_form r.options)
+IsAnswerOf verb.Judge file r = IsJudgement file r
 IsAnswerOf _ file r = λ status bytes. ⊥
 
 -- why there is none
@@ -67,6 +70,7 @@ IsNoAnswer verb.Lint file r = IsNoLint file r.first
 IsNoAnswer verb.Diff file r = IsNoDiff file r.first r.second
 IsNoAnswer verb.Draw file r = IsNoImage file r.first r.options.group (picture_of r.options)
 IsNoAnswer verb.Survey file r = IsNoSurvey file (r.first ∷ r.more) (survey_form r.options)
+IsNoAnswer verb.Judge file r = IsUnjudged file r
 IsNoAnswer _ file r = IsNoPlan file r.first
 
 -- the status and the bytes that answer a command, by these files and by what it is given

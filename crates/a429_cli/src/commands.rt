@@ -14,6 +14,7 @@ use crate::drawings::{Picture, drawing_reply};
 use crate::encode::encode_reply;
 use crate::findings::{diff_reply, lint_reply};
 use crate::import::import_reply;
+use crate::judging::judge_reply;
 use crate::lines::tell_lines;
 use crate::loads::load_reply;
 use crate::plan_texts::{PlanText, check_reply, plan_reply};
@@ -39,7 +40,7 @@ use std::alloc::Global;
 /// Runs a command: `words` are the arguments without the program's name. Answers, refusals and help that is asked for
 /// go to `out`. The text of a usage error, and what `hints` says about a refusal, go to `err`. The status is 0 if the
 /// command was done, 1 if it was refused, and 2 after a usage error. The command `live` is a usage error here. The
-/// status of `load`, `lint` and `diff` is 1 if something was found, and 2 after a refusal. If the output or `err` fails, the
+/// status of `load`, `lint`, `diff` and `judge` is 1 if something was found, and 2 after a refusal. If the output or `err` fails, the
 /// status is 1 and nothing more is written there.
 pub fn command<'a, H: Hints, F: FileReader, O: Output, V: Output>(
     alloc: Global,
@@ -212,6 +213,7 @@ fn reply_to<F: FileReader>(
             let survey = SurveyForm::of(options);
             survey_reply(alloc, files, first, more, survey, seen)
         }
+        Verb::Judge => judge_reply(alloc, files, asked, seen),
         Verb::Lines | Verb::Replay | Verb::Simulate | Verb::Live => unreachable!(),
     }
 }

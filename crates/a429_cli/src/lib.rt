@@ -22,6 +22,7 @@ mod drawings;
 mod encode;
 mod findings;
 mod import;
+mod judging;
 pub mod laws;
 mod lines;
 mod live;

@@ -31,8 +31,10 @@ pub replay_has_words : (table script : List ℕ) → IsName table → IsName scr
 replay_has_words table script a b = record {
   first = a;
   second = b;
+  third = refl;
   number = refl;
   more = tt;
+  inputs = refl;
   options = can_give_nothing;
   summarized = λ _ json. absurd (false≢true json);
   coded = λ code. absurd (false≢true code);

@@ -58,7 +58,7 @@ fn a_reader_may_refuse_any_file(rt: HostRuntime) {
 }
 
 /// Commands, and how many files each has.
-static COMMANDS: [(&[&str], usize); 16] = [
+static COMMANDS: [(&[&str], usize); 17] = [
     (&["word", "600000c1"], 0),
     (&["encode", "203", "--data", "0"], 0),
     (&["lines", "t"], 1),
@@ -75,6 +75,7 @@ static COMMANDS: [(&[&str], usize); 16] = [
     (&["replay", "t", "s", "u", "u"], 4),
     (&["simulate", "t", "s", "u"], 3),
     (&["survey", "s", "u"], 2),
+    (&["judge", "t", "s", "u", "u", "--in", "s"], 5),
 ];
 
 /// How many files a command reads, unless it is a usage error, which writes nothing to standard output.

@@ -14,14 +14,14 @@ use Rattle.clap.specs.Words.{Row, Rule, Shape, Text, first_of, one_of}
 use Rattle.clap.specs.Takes.{value_passes}
 use Rattle.clap.specs.Walk.{Held, finished, has_row, idle, nothing_held, walk_from}
 use Rattle.a429_equipment.specs.Limits.{most_frames}
-use Rattle.a429_console.specs.CommandLine.{All, Bcd, Bits, Bnr, Code, CommandRow, Csv, Data, From, Group, Html, Json, Limit, OptionName, Rate, Rows, Sdi, Slack, Slots, Ssm, Summary, Time, Until, Width, last_time, least_rate, most_bits, most_pair, most_percent, most_rate, most_slack, most_slots, options_of, row_of}
+use Rattle.a429_console.specs.CommandLine.{All, Bcd, Bits, Bnr, Code, CommandRow, Csv, Data, Events, From, Group, Html, Inputs, Json, Limit, OptionName, Rate, Rows, Sdi, Slack, Slots, Ssm, Summary, Time, Tolerance, Until, Width, last_time, least_rate, most_bits, most_pair, most_percent, most_rate, most_slack, most_slots, most_tolerance, options_of, row_of}
 use Rattle.a429_console.specs.Requests.{AskedBytes, HasWords, IsName, OptionBytes, flag_word, has_one_value, has_option, is_csv, is_flag, is_json, origin_word, unit_word, word_given, words_if, words_of, words_of_options, words_with}
 use Rattle.a429_console.specs.RequestRows.{AreFields, AreOptions, AsksFor, IsAskedBy, form_of, is_set, is_value_given, number_of, origin_given, unit_given, values_of, width_given}
 use Rattle.a429_text.specs.declared.sheets.SheetForm.{SheetForm}
 use Rattle.a429_text.specs.declared.sheets.SheetForm.TheVariants as form
 use Rattle.a429_console.specs.declared.arguments.forms.Verb.{Verb}
 use Rattle.a429_console.specs.declared.arguments.forms.Verb.TheVariants as verb
-use Rattle.a429_console.proofs.CommandFacts.{AreAt, Facts, IsAtIf, all_options, new, others, plain_leaf, required, facts, ids_after, ids_if, many_at, many_is_many, name_at, name_is_single, next_if, number_at, number_is_single, position_after, shape, use_if, uses}
+use Rattle.a429_console.proofs.CommandFacts.{AreAt, Facts, IsAtIf, all_options, new, others, plain_leaf, required, facts, ids_after, ids_if, many_at, many_is_many, name_at, name_is_single, number_at, number_is_single, number_place, position_after, shape, third_place, use_if, uses}
 use Rattle.a429_console.proofs.CommandWords.{asks_for, ends_well, row, row_of_words}
 use Rattle.a429_console.proofs.Decimals.{decimal_is_name, number_of_decimal}
 use Rattle.a429_console.proofs.FoundRows.{flag_unset, option_found, option_missing, required_given, still_found, still_missing, use_id, use_row, uses_found, uses_still_found, with_defaults}
@@ -107,28 +107,31 @@ more_read s o names (Some id) more i ids h rows passes found (at, by) words new 
 -- ---- what is found at the end
 
 at_option : (Q : OptionName → Type 0) → AllByRecursion Q all_options → (name : OptionName) → Q name
-at_option Q (a, (b, (c, (d, (e, (f, (g, (h, (i, (j, (k, (l, (m, (n, (o, (p, (q, (r, (s, (t, (u, (v, _)))))))))))))))))))))) Csv = a
-at_option Q (a, (b, (c, (d, (e, (f, (g, (h, (i, (j, (k, (l, (m, (n, (o, (p, (q, (r, (s, (t, (u, (v, _)))))))))))))))))))))) Json = b
-at_option Q (a, (b, (c, (d, (e, (f, (g, (h, (i, (j, (k, (l, (m, (n, (o, (p, (q, (r, (s, (t, (u, (v, _)))))))))))))))))))))) All = c
-at_option Q (a, (b, (c, (d, (e, (f, (g, (h, (i, (j, (k, (l, (m, (n, (o, (p, (q, (r, (s, (t, (u, (v, _)))))))))))))))))))))) Group = d
-at_option Q (a, (b, (c, (d, (e, (f, (g, (h, (i, (j, (k, (l, (m, (n, (o, (p, (q, (r, (s, (t, (u, (v, _)))))))))))))))))))))) Slots = e
-at_option Q (a, (b, (c, (d, (e, (f, (g, (h, (i, (j, (k, (l, (m, (n, (o, (p, (q, (r, (s, (t, (u, (v, _)))))))))))))))))))))) Width = f
-at_option Q (a, (b, (c, (d, (e, (f, (g, (h, (i, (j, (k, (l, (m, (n, (o, (p, (q, (r, (s, (t, (u, (v, _)))))))))))))))))))))) Html = g
-at_option Q (a, (b, (c, (d, (e, (f, (g, (h, (i, (j, (k, (l, (m, (n, (o, (p, (q, (r, (s, (t, (u, (v, _)))))))))))))))))))))) Time = h
-at_option Q (a, (b, (c, (d, (e, (f, (g, (h, (i, (j, (k, (l, (m, (n, (o, (p, (q, (r, (s, (t, (u, (v, _)))))))))))))))))))))) From = i
-at_option Q (a, (b, (c, (d, (e, (f, (g, (h, (i, (j, (k, (l, (m, (n, (o, (p, (q, (r, (s, (t, (u, (v, _)))))))))))))))))))))) Until = j
-at_option Q (a, (b, (c, (d, (e, (f, (g, (h, (i, (j, (k, (l, (m, (n, (o, (p, (q, (r, (s, (t, (u, (v, _)))))))))))))))))))))) Summary = k
-at_option Q (a, (b, (c, (d, (e, (f, (g, (h, (i, (j, (k, (l, (m, (n, (o, (p, (q, (r, (s, (t, (u, (v, _)))))))))))))))))))))) Code = l
-at_option Q (a, (b, (c, (d, (e, (f, (g, (h, (i, (j, (k, (l, (m, (n, (o, (p, (q, (r, (s, (t, (u, (v, _)))))))))))))))))))))) Limit = m
-at_option Q (a, (b, (c, (d, (e, (f, (g, (h, (i, (j, (k, (l, (m, (n, (o, (p, (q, (r, (s, (t, (u, (v, _)))))))))))))))))))))) Rate = n
-at_option Q (a, (b, (c, (d, (e, (f, (g, (h, (i, (j, (k, (l, (m, (n, (o, (p, (q, (r, (s, (t, (u, (v, _)))))))))))))))))))))) Rows = o
-at_option Q (a, (b, (c, (d, (e, (f, (g, (h, (i, (j, (k, (l, (m, (n, (o, (p, (q, (r, (s, (t, (u, (v, _)))))))))))))))))))))) Slack = p
-at_option Q (a, (b, (c, (d, (e, (f, (g, (h, (i, (j, (k, (l, (m, (n, (o, (p, (q, (r, (s, (t, (u, (v, _)))))))))))))))))))))) Sdi = q
-at_option Q (a, (b, (c, (d, (e, (f, (g, (h, (i, (j, (k, (l, (m, (n, (o, (p, (q, (r, (s, (t, (u, (v, _)))))))))))))))))))))) Ssm = r
-at_option Q (a, (b, (c, (d, (e, (f, (g, (h, (i, (j, (k, (l, (m, (n, (o, (p, (q, (r, (s, (t, (u, (v, _)))))))))))))))))))))) Data = s
-at_option Q (a, (b, (c, (d, (e, (f, (g, (h, (i, (j, (k, (l, (m, (n, (o, (p, (q, (r, (s, (t, (u, (v, _)))))))))))))))))))))) Bnr = t
-at_option Q (a, (b, (c, (d, (e, (f, (g, (h, (i, (j, (k, (l, (m, (n, (o, (p, (q, (r, (s, (t, (u, (v, _)))))))))))))))))))))) Bits = u
-at_option Q (a, (b, (c, (d, (e, (f, (g, (h, (i, (j, (k, (l, (m, (n, (o, (p, (q, (r, (s, (t, (u, (v, _)))))))))))))))))))))) Bcd = v
+at_option Q (a, (b, (c, (d, (e, (f, (g, (h, (i, (j, (k, (l, (m, (n, (o, (p, (q, (r, (s, (t, (u, (v, (w, (x, (y, _))))))))))))))))))))))))) Csv = a
+at_option Q (a, (b, (c, (d, (e, (f, (g, (h, (i, (j, (k, (l, (m, (n, (o, (p, (q, (r, (s, (t, (u, (v, (w, (x, (y, _))))))))))))))))))))))))) Json = b
+at_option Q (a, (b, (c, (d, (e, (f, (g, (h, (i, (j, (k, (l, (m, (n, (o, (p, (q, (r, (s, (t, (u, (v, (w, (x, (y, _))))))))))))))))))))))))) All = c
+at_option Q (a, (b, (c, (d, (e, (f, (g, (h, (i, (j, (k, (l, (m, (n, (o, (p, (q, (r, (s, (t, (u, (v, (w, (x, (y, _))))))))))))))))))))))))) Group = d
+at_option Q (a, (b, (c, (d, (e, (f, (g, (h, (i, (j, (k, (l, (m, (n, (o, (p, (q, (r, (s, (t, (u, (v, (w, (x, (y, _))))))))))))))))))))))))) Slots = e
+at_option Q (a, (b, (c, (d, (e, (f, (g, (h, (i, (j, (k, (l, (m, (n, (o, (p, (q, (r, (s, (t, (u, (v, (w, (x, (y, _))))))))))))))))))))))))) Width = f
+at_option Q (a, (b, (c, (d, (e, (f, (g, (h, (i, (j, (k, (l, (m, (n, (o, (p, (q, (r, (s, (t, (u, (v, (w, (x, (y, _))))))))))))))))))))))))) Html = g
+at_option Q (a, (b, (c, (d, (e, (f, (g, (h, (i, (j, (k, (l, (m, (n, (o, (p, (q, (r, (s, (t, (u, (v, (w, (x, (y, _))))))))))))))))))))))))) Time = h
+at_option Q (a, (b, (c, (d, (e, (f, (g, (h, (i, (j, (k, (l, (m, (n, (o, (p, (q, (r, (s, (t, (u, (v, (w, (x, (y, _))))))))))))))))))))))))) From = i
+at_option Q (a, (b, (c, (d, (e, (f, (g, (h, (i, (j, (k, (l, (m, (n, (o, (p, (q, (r, (s, (t, (u, (v, (w, (x, (y, _))))))))))))))))))))))))) Until = j
+at_option Q (a, (b, (c, (d, (e, (f, (g, (h, (i, (j, (k, (l, (m, (n, (o, (p, (q, (r, (s, (t, (u, (v, (w, (x, (y, _))))))))))))))))))))))))) Summary = k
+at_option Q (a, (b, (c, (d, (e, (f, (g, (h, (i, (j, (k, (l, (m, (n, (o, (p, (q, (r, (s, (t, (u, (v, (w, (x, (y, _))))))))))))))))))))))))) Code = l
+at_option Q (a, (b, (c, (d, (e, (f, (g, (h, (i, (j, (k, (l, (m, (n, (o, (p, (q, (r, (s, (t, (u, (v, (w, (x, (y, _))))))))))))))))))))))))) Limit = m
+at_option Q (a, (b, (c, (d, (e, (f, (g, (h, (i, (j, (k, (l, (m, (n, (o, (p, (q, (r, (s, (t, (u, (v, (w, (x, (y, _))))))))))))))))))))))))) Rate = n
+at_option Q (a, (b, (c, (d, (e, (f, (g, (h, (i, (j, (k, (l, (m, (n, (o, (p, (q, (r, (s, (t, (u, (v, (w, (x, (y, _))))))))))))))))))))))))) Rows = o
+at_option Q (a, (b, (c, (d, (e, (f, (g, (h, (i, (j, (k, (l, (m, (n, (o, (p, (q, (r, (s, (t, (u, (v, (w, (x, (y, _))))))))))))))))))))))))) Slack = p
+at_option Q (a, (b, (c, (d, (e, (f, (g, (h, (i, (j, (k, (l, (m, (n, (o, (p, (q, (r, (s, (t, (u, (v, (w, (x, (y, _))))))))))))))))))))))))) Inputs = q
+at_option Q (a, (b, (c, (d, (e, (f, (g, (h, (i, (j, (k, (l, (m, (n, (o, (p, (q, (r, (s, (t, (u, (v, (w, (x, (y, _))))))))))))))))))))))))) Tolerance = r
+at_option Q (a, (b, (c, (d, (e, (f, (g, (h, (i, (j, (k, (l, (m, (n, (o, (p, (q, (r, (s, (t, (u, (v, (w, (x, (y, _))))))))))))))))))))))))) Events = s
+at_option Q (a, (b, (c, (d, (e, (f, (g, (h, (i, (j, (k, (l, (m, (n, (o, (p, (q, (r, (s, (t, (u, (v, (w, (x, (y, _))))))))))))))))))))))))) Sdi = t
+at_option Q (a, (b, (c, (d, (e, (f, (g, (h, (i, (j, (k, (l, (m, (n, (o, (p, (q, (r, (s, (t, (u, (v, (w, (x, (y, _))))))))))))))))))))))))) Ssm = u
+at_option Q (a, (b, (c, (d, (e, (f, (g, (h, (i, (j, (k, (l, (m, (n, (o, (p, (q, (r, (s, (t, (u, (v, (w, (x, (y, _))))))))))))))))))))))))) Data = v
+at_option Q (a, (b, (c, (d, (e, (f, (g, (h, (i, (j, (k, (l, (m, (n, (o, (p, (q, (r, (s, (t, (u, (v, (w, (x, (y, _))))))))))))))))))))))))) Bnr = w
+at_option Q (a, (b, (c, (d, (e, (f, (g, (h, (i, (j, (k, (l, (m, (n, (o, (p, (q, (r, (s, (t, (u, (v, (w, (x, (y, _))))))))))))))))))))))))) Bits = x
+at_option Q (a, (b, (c, (d, (e, (f, (g, (h, (i, (j, (k, (l, (m, (n, (o, (p, (q, (r, (s, (t, (u, (v, (w, (x, (y, _))))))))))))))))))))))))) Bcd = y
 
 each_of : (P : OptionName → Bool) (names : List OptionName) → list_all P names ≡ true → AllByRecursion (λ (name : OptionName). P name ≡ true) names
 each_of P [] all = tt
@@ -311,6 +314,10 @@ module _ (r : AskedBytes) (us : List (Rule × Text)) (f : Facts r.verb us) (has 
     slack =
         ap (number_of 0 most_slack) (one_field Slack (option_map decimal r.options.slack) refl refl)
         ∙ number_of_decimal 0 most_slack r.options.slack (omega arith) (from_zero most_slack r.options.slack (has.options Slack));
+    tolerance =
+        ap (number_of 0 most_tolerance) (one_field Tolerance (option_map decimal r.options.tolerance) refl refl)
+        ∙ number_of_decimal 0 most_tolerance r.options.tolerance (omega arith) (from_zero most_tolerance r.options.tolerance (has.options Tolerance));
+    events = flag_field Events r.options.events refl;
     fields = fields_are_read;
     value =
         rw (made_of v (is_value_given end_rows) (λ made. value_is ∙ has.encoded made), slack_is, flag_field Rows r.options.rows refl)
@@ -318,6 +325,10 @@ module _ (r : AskedBytes) (us : List (Rule × Text)) (f : Facts r.verb us) (has 
   }
 
   -- ---- the other values
+
+  -- no option is given several times
+  pub none_repeated : values_of (id_of Inputs) end_rows ≡ r.inputs
+  none_repeated = rw (value_row Inputs None refl refl, has.inputs) refl
 
   uses_read_again : AllByRecursion (λ (u : Rule × Text). row_at u.0.id end_rows ≡ Some (use_row u)) us
   uses_read_again =
@@ -371,17 +382,28 @@ module _ (r : AskedBytes) (text : Text) (has : HasWords r) (number_is : NumberTe
   row_here = row_of r.verb
 
   abbrev us : List (Rule × Text)
-  us = uses r.verb r.first r.second text
+  us = uses r.verb r.first r.second r.third text
 
   abbrev place : ℕ
-  place = next_if 2 row_here.second
+  place = number_place r.verb
+
+  abbrev third_at : ℕ
+  third_at = third_place r.verb
+
+  -- the words after the second name
+  abbrev after_second : List (Rule × Text)
+  after_second = use_if (name_at third_at) row_here.third r.third ++ use_if (number_at place) row_here.number text
 
   f : Facts r.verb us
-  f = facts r.first r.second text r.verb
+  f = facts r.first r.second r.third text r.verb
 
   second_plain : (given : Option Text) → IsNameIf given r.second → ArePlain (use_if (name_at 2) given r.second)
   second_plain None none = tt
   second_plain (Some id) name = ((name_is_single 2 id, (name_is_plain r.second name, refl)), tt)
+
+  third_plain : (given : Option Text) → IsNameIf given r.third → ArePlain (use_if (name_at third_at) given r.third)
+  third_plain None none = tt
+  third_plain (Some id) name = ((name_is_single third_at id, (name_is_plain r.third name, refl)), tt)
 
   number_plain : (given : Option (Text × ℕ)) → NumberText given text r.number → ArePlain (use_if (number_at place) given text)
   number_plain None is = tt
@@ -390,7 +412,8 @@ module _ (r : AskedBytes) (text : Text) (has : HasWords r) (number_is : NumberTe
   plain : ArePlain us
   plain = (
     (name_is_single 1 row_here.first, (name_is_plain r.first has.first, refl)),
-    all_append (use_if (name_at 2) row_here.second r.second) (use_if (number_at place) row_here.number text) (second_plain row_here.second has.second) (number_plain row_here.number number_is),
+    all_append (use_if (name_at 2) row_here.second r.second) after_second (second_plain row_here.second has.second)
+        (all_append (use_if (name_at third_at) row_here.third r.third) (use_if (number_at place) row_here.number text) (third_plain row_here.third has.third) (number_plain row_here.number number_is)),
   )
 
   -- the words pass, and come to these rows
@@ -428,12 +451,19 @@ module _ (r : AskedBytes) (text : Text) (has : HasWords r) (number_is : NumberTe
   there : AllByRecursion IsThere us
   there = uses_read_again r us f has
 
-  others_there : AllByRecursion IsThere (use_if (name_at 2) row_here.second r.second) × AllByRecursion IsThere (use_if (number_at place) row_here.number text)
-  others_there = all_parts IsThere (use_if (name_at 2) row_here.second r.second) (use_if (number_at place) row_here.number text) there.1
+  others_there : AllByRecursion IsThere (use_if (name_at 2) row_here.second r.second) × AllByRecursion IsThere after_second
+  others_there = all_parts IsThere (use_if (name_at 2) row_here.second r.second) after_second there.1
+
+  rest_there : AllByRecursion IsThere (use_if (name_at third_at) row_here.third r.third) × AllByRecursion IsThere (use_if (number_at place) row_here.number text)
+  rest_there = all_parts IsThere (use_if (name_at third_at) row_here.third r.third) (use_if (number_at place) row_here.number text) others_there.1
 
   second_field : (given : Option Text) → IsNameIf given r.second → AllByRecursion IsThere (use_if (name_at 2) given r.second) → MatchOption given (r.second ≡ []) (λ id. first_of id found_rows ≡ Some r.second)
   second_field None none all = none
   second_field (Some id) name (found, all) = rw found refl
+
+  third_field : (given : Option Text) → IsNameIf given r.third → AllByRecursion IsThere (use_if (name_at third_at) given r.third) → MatchOption given (r.third ≡ []) (λ id. first_of id found_rows ≡ Some r.third)
+  third_field None none all = none
+  third_field (Some id) name (found, all) = rw found refl
 
   number_field : (given : Option (Text × ℕ)) → IsNumberIf given r.number → NumberText given text r.number → AllByRecursion IsThere (use_if (number_at place) given text) → MatchOption given (r.number ≡ 0) (λ n. number_of 0 n.1 (one_of n.0 found_rows) ≡ Some (Some r.number))
   number_field None none is all = none
@@ -443,22 +473,30 @@ module _ (r : AskedBytes) (text : Text) (has : HasWords r) (number_is : NumberTe
   asked = record {
     first = rw there.0 refl;
     second = second_field row_here.second has.second others_there.0;
-    number = number_field row_here.number has.number number_is others_there.1;
+    third = third_field row_here.third has.third rest_there.0;
+    number = number_field row_here.number has.number number_is rest_there.1;
     more = more_field r us f has row_here.more refl has.more;
+    inputs = none_repeated r us f has;
     options = options_are_read r us f has;
   }
 
-  words_are : (second : Option Text) (number : Option (Text × ℕ)) (more : List Text)
-      → map word_of (use_if (name_at 2) second r.second ++ use_if (number_at place) number text) ++ more ≡ words_if second (r.second ∷ []) ++ (words_if number (text ∷ []) ++ more)
-  words_are None None more = refl
-  words_are (Some id) None more = refl
-  words_are None (Some number) more = refl
-  words_are (Some id) (Some number) more = refl
+  words_after : (third : Option Text) (number : Option (Text × ℕ)) (more : List Text)
+      → map word_of (use_if (name_at third_at) third r.third ++ use_if (number_at place) number text) ++ more ≡ words_if third (r.third ∷ []) ++ (words_if number (text ∷ []) ++ more)
+  words_after None None more = refl
+  words_after (Some id) None more = refl
+  words_after None (Some number) more = refl
+  words_after (Some id) (Some number) more = refl
+
+  words_are : (second third : Option Text) (number : Option (Text × ℕ)) (more : List Text)
+      → map word_of (use_if (name_at 2) second r.second ++ (use_if (name_at third_at) third r.third ++ use_if (number_at place) number text)) ++ more
+      ≡ words_if second (r.second ∷ []) ++ (words_if third (r.third ∷ []) ++ (words_if number (text ∷ []) ++ more))
+  words_are None third number more = words_after third number more
+  words_are (Some id) third number more = ap (λ (words : List Text). r.second ∷ words) (words_after third number more)
 
   pub asks_with : AsksFor (words_with text r) r
   asks_with =
       let rest = r.more ++ words_of_options r.options (options_of r.verb) in
-      subst (λ (words : List Text). AsksFor (row_here.name ∷ r.first ∷ words) r) (words_are row_here.second row_here.number rest)
+      subst (λ (words : List Text). AsksFor (row_here.name ∷ r.first ∷ words) r) (words_are row_here.second row_here.third row_here.number rest)
       (asks_for row_here.name (shape r.verb) (map word_of us ++ rest) all_read.to r f.named refl all_read.walks well (subst (λ (found : List Row). IsAskedBy found r) (sym comes) asked))
 
 -- ---- with its number in decimal digits

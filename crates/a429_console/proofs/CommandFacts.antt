@@ -9,7 +9,7 @@ use Rattle.clap.specs.Simple.{filled, with_index}
 use Rattle.clap.specs.Takes.{default_passes}
 use Rattle.clap.specs.Walk.{arg_by_id, arg_by_index}
 use Rattle.clap.proofs.OnLiterals.{clap_on_literals}
-use Rattle.a429_console.specs.CommandLine.{All, Bcd, Bits, Bnr, Code, Csv, Data, From, Group, Html, Json, Limit, OptionName, Rate, Rows, Sdi, Slack, Slots, Ssm, Summary, Time, Until, Width, command_line, many_rule, number_rule, options_of, required_rule, row_app, row_of}
+use Rattle.a429_console.specs.CommandLine.{All, Bcd, Bits, Bnr, Code, Csv, Data, Events, From, Group, Html, Inputs, Json, Limit, OptionName, Rate, Rows, Sdi, Slack, Slots, Ssm, Summary, Time, Tolerance, Until, Width, command_line, many_rule, number_rule, options_of, required_rule, row_app, row_of}
 use Rattle.a429_console.specs.declared.arguments.forms.Verb.{Verb}
 use Rattle.a429_console.specs.declared.arguments.forms.Verb.TheVariants as verb
 use Rattle.a429_console.proofs.CommandWords.{IsNamed, leaf}
@@ -41,9 +41,17 @@ abbrev pub next_if : {A : Type 0} → ℕ → Option A → ℕ
 next_if i None = i
 next_if i (Some x) = min (i + 1) usize_max
 
-abbrev pub uses : Verb → Text → Text → Text → List (Rule × Text)
-uses v first second number =
-    (name_at 1 (row_of v).first, first) ∷ (use_if (name_at 2) (row_of v).second second ++ use_if (number_at (next_if 2 (row_of v).second)) (row_of v).number number)
+-- the place after the second name, and that after the third
+abbrev pub third_place : Verb → ℕ
+third_place v = next_if 2 (row_of v).second
+
+abbrev pub number_place : Verb → ℕ
+number_place v = next_if (third_place v) (row_of v).third
+
+abbrev pub uses : Verb → Text → Text → Text → Text → List (Rule × Text)
+uses v first second third number =
+    (name_at 1 (row_of v).first, first)
+    ∷ (use_if (name_at 2) (row_of v).second second ++ (use_if (name_at (third_place v)) (row_of v).third third ++ use_if (number_at (number_place v)) (row_of v).number number))
 
 pub name_is_single : (i : ℕ) (id : Text) → IsSingle (name_at i id)
 name_is_single i id = record { range = refl; action = refl; reading = refl; trailing = refl }
@@ -106,7 +114,7 @@ plain_parts s all =
     }
 
 abbrev pub all_options : List OptionName
-all_options = Csv ∷ Json ∷ All ∷ Group ∷ Slots ∷ Width ∷ Html ∷ Time ∷ From ∷ Until ∷ Summary ∷ Code ∷ Limit ∷ Rate ∷ Rows ∷ Slack ∷ Sdi ∷ Ssm ∷ Data ∷ Bnr ∷ Bits ∷ Bcd ∷ []
+all_options = Csv ∷ Json ∷ All ∷ Group ∷ Slots ∷ Width ∷ Html ∷ Time ∷ From ∷ Until ∷ Summary ∷ Code ∷ Limit ∷ Rate ∷ Rows ∷ Slack ∷ Inputs ∷ Tolerance ∷ Events ∷ Sdi ∷ Ssm ∷ Data ∷ Bnr ∷ Bits ∷ Bcd ∷ []
 
 -- no two arguments have one id
 abbrev pub ids_are_new : Verb → List (Rule × Text) → Bool
@@ -155,9 +163,9 @@ known : {v : Verb} {us : List (Rule × Text)} → IsNamed (row_of v).name (shape
     → AreFound (shape v).rules (options_of v) → AllByRecursion HasPlainDefault (shape v).rules → is_checked v us ≡ true → Facts v us
 known named at more options plain checked = record { named = named; at = at; more = more; options = options; plain = plain; checked = checked }
 
-module _ (first second number : Text) where
+module _ (first second third number : Text) where
   -- of each: its arguments with one word each, the repeated names, its options, and the default value of each of its rules
-  pub facts : (v : Verb) → Facts v (uses v first second number)
+  pub facts : (v : Verb) → Facts v (uses v first second third number)
   unfolding command_line clap_on_literals
   facts verb.Word = known (record { met = refl; leads = refl; label = refl; no_help = refl }) (refl, refl, tt) tt tt (inl refl, (inl refl, tt)) refl
   facts verb.Encode = known (record { met = refl; leads = refl; label = refl; no_help = refl }) (refl, refl, tt) tt (refl, refl, (refl, refl, (refl, refl, (refl, refl, (refl, refl, (refl, refl, tt)))))) (inl refl, (inl refl, (inl refl, (inl refl, (inl refl, (inl refl, (inl refl, (inl refl, tt)))))))) refl
@@ -175,4 +183,5 @@ module _ (first second number : Text) where
   facts verb.Replay = known (record { met = refl; leads = refl; label = refl; no_help = refl }) (refl, refl, (refl, refl, tt)) (refl, refl) tt (inl refl, (inl refl, (inl refl, (inl refl, tt)))) refl
   facts verb.Simulate = known (record { met = refl; leads = refl; label = refl; no_help = refl }) (refl, refl, (refl, refl, tt)) (refl, refl) (refl, refl, (refl, refl, (refl, refl, (refl, refl, (refl, refl, (refl, refl, tt)))))) (inl refl, (inl refl, (inl refl, (inl refl, (inl refl, (inl refl, (inr (Summary, refl, refl, refl, refl), (inr (Csv, refl, refl, refl, refl), (inr (Json, refl, refl, refl, refl), (inl refl, tt)))))))))) refl
   facts verb.Survey = known (record { met = refl; leads = refl; label = refl; no_help = refl }) (refl, refl, tt) (refl, refl) (refl, refl, (refl, refl, (refl, refl, (refl, refl, (refl, refl, (refl, refl, (refl, refl, tt))))))) (inl refl, (inl refl, (inl refl, (inl refl, (inl refl, (inr (Rows, refl, refl, refl, refl), (inl refl, (inr (Csv, refl, refl, refl, refl), (inr (Json, refl, refl, refl, refl), (inl refl, tt)))))))))) refl
+  facts verb.Judge = known (record { met = refl; leads = refl; label = refl; no_help = refl }) (refl, refl, (refl, refl, (refl, refl, tt))) (refl, refl) (refl, refl, (refl, refl, (refl, refl, (refl, refl, (refl, refl, (refl, refl, (refl, refl, tt))))))) (inl refl, (inl refl, (inl refl, (inl refl, (inl refl, (inl refl, (inr (Events, refl, refl, refl, refl), (inl refl, (inl refl, (inr (Csv, refl, refl, refl, refl), (inr (Json, refl, refl, refl, refl), (inl refl, tt)))))))))))) refl
   facts verb.Live = known (record { met = refl; leads = refl; label = refl; no_help = refl }) (refl, refl, (refl, refl, (refl, refl, tt))) (refl, refl) tt (inl refl, (inl refl, (inl refl, (inl refl, (inl refl, tt))))) refl

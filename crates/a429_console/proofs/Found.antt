@@ -42,9 +42,10 @@ pub row_is_plain : (row : CommandRow) → (row_app row).top.is_plain ≡ true
 row_is_plain row =
     let one = with_rule (new_app row.name) (required_rule row.first) in
     let two = with_any required_rule one row.second in
-    let three = with_any number_rule two row.number in
-    rules_keep_plain row.options (with_any many_rule three row.more)
-    ∙ (any_keeps_plain many_rule three row.more ∙ (any_keeps_plain number_rule two row.number ∙ any_keeps_plain required_rule one row.second))
+    let three = with_any required_rule two row.third in
+    let four = with_any number_rule three row.number in
+    rules_keep_plain row.options (with_any many_rule four row.more)
+    ∙ (any_keeps_plain many_rule four row.more ∙ (any_keeps_plain number_rule three row.number ∙ (any_keeps_plain required_rule two row.third ∙ any_keeps_plain required_rule one row.second)))
 
 -- a text that is read as true or false sets an option if and only if it is that of true
 set_by : (E : Type 0) (t : Text) (read : Option Bool) → ReadsOne {E = E} ParsesBool t read → unwrap_or read false ≡ bytes_eq t (codes "true")
@@ -85,12 +86,12 @@ name_is None default text is = absurd (cc is)
 name_is (Some t) default text is = same_Some t.now text is
 
 -- what is given of the options is read as it
-pub options_are : (o : OptionBytes) (f : SheetForm) (all html summary code rows : Bool) (group : Option Text) (slots width : Option ℕ) (time : TimeUnit) (from : LogOrigin) (until limit rate slack : Option ℕ) (fields : FieldBytes) → f ≡ o.form → all ≡ o.all
+pub options_are : (o : OptionBytes) (f : SheetForm) (all html summary code rows events : Bool) (group : Option Text) (slots width : Option ℕ) (time : TimeUnit) (from : LogOrigin) (until limit rate slack tolerance : Option ℕ) (fields : FieldBytes) → f ≡ o.form → all ≡ o.all
     → group ≡ o.group → slots ≡ o.slots → width ≡ o.width → html ≡ o.html → time ≡ o.time → from ≡ o.from → until ≡ o.until → summary ≡ o.summary → code ≡ o.code → limit ≡ o.limit → rate ≡ o.rate → rows ≡ o.rows
-    → slack ≡ o.slack → fields ≡ o.fields
-    → record { form = f; all = all; group = group; slots = slots; width = width; html = html; time = time; from = from; until = until; summary = summary; code = code; limit = limit; rate = rate; rows = rows; slack = slack; fields = fields } ≡ o
-options_are o f all html summary code rows group slots width time from until limit rate slack fields a b c d e g t u h i j k m n p l =
-    rw (a, b, c, d, e, g, t, u, h, i, j, k, m, n, p, l) refl
+    → slack ≡ o.slack → tolerance ≡ o.tolerance → events ≡ o.events → fields ≡ o.fields
+    → record { form = f; all = all; group = group; slots = slots; width = width; html = html; time = time; from = from; until = until; summary = summary; code = code; limit = limit; rate = rate; rows = rows; slack = slack; tolerance = tolerance; events = events; fields = fields } ≡ o
+options_are o f all html summary code rows events group slots width time from until limit rate slack tolerance fields a b c d e g t u h i j k m n p q r l =
+    rw (a, b, c, d, e, g, t, u, h, i, j, k, m, n, p, q, r, l) refl
 
 -- and of the fields of a word
 pub fields_are : (f : FieldBytes) (sdi ssm bits : Option ℕ) (hex bnr bcd : Option Text) → sdi ≡ f.sdi → ssm ≡ f.ssm → hex ≡ f.hex → bnr ≡ f.bnr → bits ≡ f.bits → bcd ≡ f.bcd
@@ -98,6 +99,6 @@ pub fields_are : (f : FieldBytes) (sdi ssm bits : Option ℕ) (hex bnr bcd : Opt
 fields_are f sdi ssm bits hex bnr bcd a b c d e g = rw (a, b, c, d, e, g) refl
 
 -- and so is all that is asked for
-pub asked_is : (r : AskedBytes) (v : Verb) (first second : Text) (number : ℕ) (more : List Text) (options : OptionBytes) → v ≡ r.verb → first ≡ r.first → second ≡ r.second → number ≡ r.number → more ≡ r.more
-    → options ≡ r.options → record { verb = v; first = first; second = second; number = number; more = more; options = options } ≡ r
-asked_is r v first second number more options a b c d e f = rw (a, b, c, d, e, f) refl
+pub asked_is : (r : AskedBytes) (v : Verb) (first second third : Text) (number : ℕ) (more inputs : List Text) (options : OptionBytes) → v ≡ r.verb → first ≡ r.first → second ≡ r.second → third ≡ r.third → number ≡ r.number → more ≡ r.more → inputs ≡ r.inputs
+    → options ≡ r.options → record { verb = v; first = first; second = second; third = third; number = number; more = more; inputs = inputs; options = options } ≡ r
+asked_is r v first second third number more inputs options a b c d e f g h = rw (a, b, c, d, e, f, g, h) refl

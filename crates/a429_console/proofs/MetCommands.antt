@@ -31,6 +31,7 @@ by_name verb.Draw verb.Draw is = refl
 by_name verb.Replay verb.Replay is = refl
 by_name verb.Simulate verb.Simulate is = refl
 by_name verb.Survey verb.Survey is = refl
+by_name verb.Judge verb.Judge is = refl
 by_name verb.Live verb.Live is = refl
 by_name _ _ is = absurd (cc is)
 

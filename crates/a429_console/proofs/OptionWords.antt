@@ -8,7 +8,7 @@ use Rattle.clap.specs.Simple.{filled}
 use Rattle.clap.specs.Takes.{value_passes}
 use Rattle.clap.specs.Walk.{Held, Waiting, arg_by_id, arg_by_long, has_row, idle}
 use Rattle.clap.proofs.OnLiterals.{clap_on_literals}
-use Rattle.a429_console.specs.CommandLine.{All, Bcd, Bits, Bnr, Code, Csv, Data, From, Group, Html, Json, Limit, OptionName, Rate, Rows, Sdi, Slack, Slots, Ssm, Summary, Time, Until, Width, option_rule}
+use Rattle.a429_console.specs.CommandLine.{All, Bcd, Bits, Bnr, Code, Csv, Data, Events, From, Group, Html, Inputs, Json, Limit, OptionName, Rate, Rows, Sdi, Slack, Slots, Ssm, Summary, Time, Tolerance, Until, Width, option_rule}
 use Rattle.a429_console.specs.Requests.{OptionBytes, flag_word, is_csv, is_flag, is_json, option_words, word_given, words_of_options}
 use Rattle.a429_console.proofs.CommandWords.{row}
 use Rattle.a429_console.proofs.PlainWords.{IsPlainWord, TakesValues, at_word, for_none}
@@ -42,6 +42,9 @@ is_option Limit = record { no_end = refl; long = refl }
 is_option Rate = record { no_end = refl; long = refl }
 is_option Rows = record { no_end = refl; long = refl }
 is_option Slack = record { no_end = refl; long = refl }
+is_option Inputs = record { no_end = refl; long = refl }
+is_option Tolerance = record { no_end = refl; long = refl }
+is_option Events = record { no_end = refl; long = refl }
 is_option Sdi = record { no_end = refl; long = refl }
 is_option Ssm = record { no_end = refl; long = refl }
 is_option Data = record { no_end = refl; long = refl }
@@ -54,16 +57,19 @@ abbrev pub KindOf : Rule → Bool → Type 0
 KindOf a true = IsSwitch a
 KindOf a false = IsSingle a
 
-kind_of_option : (name : OptionName) → KindOf (built_option name) (is_flag name)
+-- an option that is given as often as one likes is none of these
+kind_of_option : (o : OptionBytes) (name : OptionName) (word : Text) → word_given o name ≡ Some word → KindOf (built_option name) (is_flag name)
 unfolding clap_on_literals
-kind_of_option Csv = record { range = refl; action = refl; reading = refl; missing = refl; passes = refl }
-kind_of_option Json = record { range = refl; action = refl; reading = refl; missing = refl; passes = refl }
-kind_of_option All = record { range = refl; action = refl; reading = refl; missing = refl; passes = refl }
-kind_of_option Html = record { range = refl; action = refl; reading = refl; missing = refl; passes = refl }
-kind_of_option Summary = record { range = refl; action = refl; reading = refl; missing = refl; passes = refl }
-kind_of_option Code = record { range = refl; action = refl; reading = refl; missing = refl; passes = refl }
-kind_of_option Rows = record { range = refl; action = refl; reading = refl; missing = refl; passes = refl }
-kind_of_option _ = record { range = refl; action = refl; reading = refl; trailing = refl }
+kind_of_option o Inputs word given = absurd (cc given)
+kind_of_option o Csv word given = record { range = refl; action = refl; reading = refl; missing = refl; passes = refl }
+kind_of_option o Json word given = record { range = refl; action = refl; reading = refl; missing = refl; passes = refl }
+kind_of_option o All word given = record { range = refl; action = refl; reading = refl; missing = refl; passes = refl }
+kind_of_option o Html word given = record { range = refl; action = refl; reading = refl; missing = refl; passes = refl }
+kind_of_option o Summary word given = record { range = refl; action = refl; reading = refl; missing = refl; passes = refl }
+kind_of_option o Code word given = record { range = refl; action = refl; reading = refl; missing = refl; passes = refl }
+kind_of_option o Rows word given = record { range = refl; action = refl; reading = refl; missing = refl; passes = refl }
+kind_of_option o Events word given = record { range = refl; action = refl; reading = refl; missing = refl; passes = refl }
+kind_of_option o _ word given = record { range = refl; action = refl; reading = refl; trailing = refl }
 
 -- no two have one name
 pub same_option : (a b : OptionName) → bytes_eq (id_of a) (id_of b) ≡ true → a ≡ b
@@ -83,6 +89,9 @@ same_option Limit Limit is = refl
 same_option Rate Rate is = refl
 same_option Rows Rows is = refl
 same_option Slack Slack is = refl
+same_option Inputs Inputs is = refl
+same_option Tolerance Tolerance is = refl
+same_option Events Events is = refl
 same_option Sdi Sdi is = refl
 same_option Ssm Ssm is = refl
 same_option Data Data is = refl
@@ -103,6 +112,7 @@ flag_is_true Html o word flag given = flag_text o.html word given
 flag_is_true Summary o word flag given = flag_text o.summary word given
 flag_is_true Code o word flag given = flag_text o.code word given
 flag_is_true Rows o word flag given = flag_text o.rows word given
+flag_is_true Events o word flag given = flag_text o.events word given
 flag_is_true _ o word flag given = absurd (cc flag)
 
 -- ---- the words of several
@@ -152,7 +162,7 @@ module _ (s : Shape) (o : OptionBytes) (passes : (name : OptionName) → WordPas
       → Reads s (at_word h w position) (option_words name word ++ words_of_options o names) (rows ++ (rows_of_word name word ++ rows_of_options o names))
   one_read name names h w rows None given pass long by none takes settles others rest = others
   one_read name names h w rows (Some word) given pass long by none takes settles others rest =
-      given_read name names h w rows word (is_flag name) refl (kind_of_option name) given pass long by none takes settles rest
+      given_read name names h w rows word (is_flag name) refl (kind_of_option o name word given) given pass long by none takes settles rest
 
   pub options_read : (names : List OptionName) (ids : List Text) (h : Held) (w : Waiting) (rows : List Row) → AreFound s.rules names → all_new ids (map id_of names) ≡ true → Within rows ids → TakesValues w → Settles s h rows
       → Reads s (at_word h w position) (words_of_options o names) (rows ++ rows_of_options o names)

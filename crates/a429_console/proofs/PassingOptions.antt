@@ -6,7 +6,7 @@ use Rattle.std.specs.Str.{bytes_eq}
 use Rattle.std.proofs.lemmas.Bool.{eqb-true}
 use Rattle.clap.specs.ValueTests.{is_unsigned_in}
 use Rattle.clap.specs.Words.{Text}
-use Rattle.a429_console.specs.CommandLine.{All, Bcd, Bits, Bnr, Code, Csv, Data, From, Group, Html, Json, Limit, OptionName, Rate, Rows, Sdi, Slack, Slots, Ssm, Summary, Time, Until, Width, last_time, least_rate, most_bits, most_pair, most_percent, most_rate, most_slack, most_slots}
+use Rattle.a429_console.specs.CommandLine.{All, Bcd, Bits, Bnr, Code, Csv, Data, Events, From, Group, Html, Inputs, Json, Limit, OptionName, Rate, Rows, Sdi, Slack, Slots, Ssm, Summary, Time, Tolerance, Until, Width, last_time, least_rate, most_bits, most_pair, most_percent, most_rate, most_slack, most_slots, most_tolerance}
 use Rattle.a429_console.specs.Requests.{CanBeGiven, IsName, IsOrigin, IsWidth, OptionBytes, flag_word, is_csv, is_json, last_origin, origin_word, unit_word, word_given}
 use Rattle.a429_console.specs.RequestRows.{origin_given, unit_given, width_given}
 use Rattle.a429_console.specs.declared.arguments.times.LogOrigin.{LogOrigin}
@@ -74,6 +74,9 @@ words_pass o can Limit = number_passes 1 most_percent o.limit (omega arith) (can
 words_pass o can Rate = number_passes least_rate most_rate o.rate (omega arith) (can Rate)
 words_pass o can Rows = flag_passes o.rows
 words_pass o can Slack = number_passes 0 most_slack o.slack (omega arith) (from_zero most_slack o.slack (can Slack))
+words_pass o can Inputs = tt
+words_pass o can Tolerance = number_passes 0 most_tolerance o.tolerance (omega arith) (from_zero most_tolerance o.tolerance (can Tolerance))
+words_pass o can Events = flag_passes o.events
 words_pass o can Sdi = number_passes 0 most_pair o.fields.sdi (omega arith) (from_zero most_pair o.fields.sdi (can Sdi))
 words_pass o can Ssm = number_passes 0 most_pair o.fields.ssm (omega arith) (from_zero most_pair o.fields.ssm (can Ssm))
 words_pass o can Data = word_passes o.fields.hex (can Data)

@@ -26,6 +26,8 @@ or_memory_weaker P Q refused.Gate more p = more p
 or_memory_weaker P Q refused.Source more p = more p
 or_memory_weaker P Q refused.Sink more p = more p
 or_memory_weaker P Q refused.TooMuch more p = more p
+or_memory_weaker P Q refused.Tolerance more p = more p
+or_memory_weaker P Q refused.Apart more p = more p
 or_memory_weaker P Q refused.Memory more p = tt
 
 -- what is printed of a refusal is allowed if the refusal is, even if it is that an allocation failed
@@ -60,6 +62,8 @@ table_fault_refuses table refused.Gate f = absurd f
 table_fault_refuses table refused.Source f = absurd f
 table_fault_refuses table refused.Sink f = absurd f
 table_fault_refuses table refused.TooMuch f = absurd f
+table_fault_refuses table refused.Tolerance f = absurd f
+table_fault_refuses table refused.Apart f = absurd f
 table_fault_refuses table refused.Memory f = absurd f
 
 pub matched_both : {X : Type 0} (result : Result X CommandRefusal) (P Q : X → Type 0) (F G : CommandRefusal → Type 0) → ((x : X) → P x → Q x) → ((e : CommandRefusal) → F e → G e) → MatchResult result P F → MatchResult result Q G

@@ -33,6 +33,10 @@ flag_rule name = record (new_rule name) { long = Some name; action = Some SetTru
 abbrev pub value_rule : Text → Rule
 value_rule name = record (new_rule name) { long = Some name; value_names = 1 }
 
+-- as many values as it is given
+abbrev pub values_rule : Text → Rule
+values_rule name = record (value_rule name) { action = Some Append }
+
 -- and whose value is a whole number from the least to the most
 abbrev pub number_value_rule : Text → ℕ → ℕ → Rule
 number_value_rule name least most = record (value_rule name) { parser = Some (reads.Unsigned least most) }
@@ -57,6 +61,10 @@ most_rate = 100000
 -- by how much an interval can be widened, in per cent
 abbrev pub most_slack : ℕ
 most_slack = 99
+
+-- how far recorded times may be wrong at most, in microseconds: the longest interval of an output
+abbrev pub most_tolerance : ℕ
+most_tolerance = 30000000
 
 -- the greatest SDI, and the greatest SSM (ARINC 429 Part 1: two bits each)
 abbrev pub most_pair : ℕ
@@ -87,6 +95,9 @@ pub data OptionName : Type 0 where
   Rate : OptionName
   Rows : OptionName
   Slack : OptionName
+  Inputs : OptionName
+  Tolerance : OptionName
+  Events : OptionName
   Sdi : OptionName
   Ssm : OptionName
   Data : OptionName
@@ -111,6 +122,9 @@ option_rule Limit = number_value_rule (codes "limit") 1 most_percent
 option_rule Rate = number_value_rule (codes "rate") least_rate most_rate
 option_rule Rows = flag_rule (codes "rows")
 option_rule Slack = number_value_rule (codes "slack") 0 most_slack
+option_rule Inputs = values_rule (codes "in")
+option_rule Tolerance = number_value_rule (codes "tolerance") 0 most_tolerance
+option_rule Events = flag_rule (codes "events")
 option_rule Sdi = number_value_rule (codes "sdi") 0 most_pair
 option_rule Ssm = number_value_rule (codes "ssm") 0 most_pair
 option_rule Data = value_rule (codes "data")
@@ -132,20 +146,22 @@ options_of verb.Diff = All ∷ Csv ∷ Json ∷ []
 options_of verb.Draw = Group ∷ Slots ∷ Width ∷ Html ∷ []
 options_of verb.Simulate = Time ∷ From ∷ Until ∷ Summary ∷ Csv ∷ Json ∷ []
 options_of verb.Survey = Time ∷ From ∷ Rate ∷ Rows ∷ Slack ∷ Csv ∷ Json ∷ []
+options_of verb.Judge = Inputs ∷ Tolerance ∷ Events ∷ Time ∷ From ∷ Csv ∷ Json ∷ []
 options_of _ = []
 
--- what a command is given: a name or two, perhaps a number up to the most, perhaps as many names as one likes, and options
+-- what a command is given: one to three names, perhaps a number up to the most, perhaps as many names as one likes, and options
 pub record CommandRow : Type 0 where
   pub name : Text
   pub first : Text
   pub second : Option Text
+  pub third : Option Text
   pub number : Option (Text × ℕ)
   pub more : Option Text
   pub options : List Rule
 
 -- a command of this name that is given one name and its options
 abbrev pub with_one : Verb → Text → Text → CommandRow
-with_one v name first = record { name = name; first = first; second = None; number = None; more = None; options = map option_rule (options_of v) }
+with_one v name first = record { name = name; first = first; second = None; third = None; number = None; more = None; options = map option_rule (options_of v) }
 
 -- a command that is given a table
 abbrev pub with_table : Verb → Text → CommandRow
@@ -168,6 +184,8 @@ row_of verb.Draw = with_table verb.Draw (codes "draw")
 row_of verb.Replay = record (with_table verb.Replay (codes "replay")) { second = Some (codes "SCRIPT"); more = Some (codes "FURTHER") }
 row_of verb.Simulate = record (with_table verb.Simulate (codes "simulate")) { second = Some (codes "LOG"); more = Some (codes "LOGS") }
 row_of verb.Survey = record (with_one verb.Survey (codes "survey") (codes "LOG")) { more = Some (codes "LOGS") }
+row_of verb.Judge =
+    record (with_table verb.Judge (codes "judge")) { second = Some (codes "IN"); third = Some (codes "OUT"); more = Some (codes "OUTS") }
 row_of verb.Live =
     record (with_table verb.Live (codes "live")) { second = Some (codes "WORDS"); number = Some (codes "FRAMES", most_frames); more = Some (codes "FURTHER") }
 
@@ -175,7 +193,7 @@ row_of verb.Live =
 abbrev pub verbs : List Verb
 verbs =
     verb.Word ∷ verb.Encode ∷ verb.Lines ∷ verb.Import ∷ verb.Plan ∷ verb.Check ∷ verb.Icd ∷ verb.Margin ∷ verb.Load ∷ verb.Slots ∷ verb.Lint ∷ verb.Diff ∷ verb.Draw
-    ∷ verb.Replay ∷ verb.Simulate ∷ verb.Survey ∷ verb.Live ∷ []
+    ∷ verb.Replay ∷ verb.Simulate ∷ verb.Survey ∷ verb.Judge ∷ verb.Live ∷ []
 
 -- ---- the command line
 
@@ -184,9 +202,13 @@ abbrev pub with_any : {A : Type 0} → (A → Rule) → App → Option A → App
 with_any rule app None = app
 with_any rule app (Some x) = with_rule app (rule x)
 
+-- the names that are given once each
+abbrev pub with_texts : App → CommandRow → App
+with_texts app row = with_any required_rule (with_any required_rule (with_rule app (required_rule row.first)) row.second) row.third
+
 -- what is given apart from options
 abbrev pub with_names : App → CommandRow → App
-with_names app row = with_any many_rule (with_any number_rule (with_any required_rule (with_rule app (required_rule row.first)) row.second) row.number) row.more
+with_names app row = with_any many_rule (with_any number_rule (with_texts app row) row.number) row.more
 
 abbrev pub row_app : CommandRow → App
 row_app row = fold with_rule (with_names (new_app row.name) row) row.options
@@ -214,6 +236,7 @@ HasRule a rule = (rule_of a ≡ rule) × (a.global ≡ false)
 abbrev pub kind_rule : Text → OptionKind → Rule
 kind_rule id given.Flag = flag_rule id
 kind_rule id (given.Text value) = value_rule id
+kind_rule id (given.Texts value) = values_rule id
 kind_rule id (given.Number value least most) = number_value_rule id least most
 
 abbrev pub form_rule : OptionForm → Rule
@@ -224,6 +247,7 @@ form_row form = record {
   name = form.name.now;
   first = form.first.id.now;
   second = option_map (λ n. n.id.now) form.second;
+  third = option_map (λ n. n.id.now) form.third;
   number = option_map (λ n. (n.id.now, n.most)) form.number;
   more = option_map (λ n. n.id.now) form.more;
   options = map form_rule form.options.now;

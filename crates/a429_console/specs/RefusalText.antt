@@ -35,6 +35,8 @@ refusal_line refused.Gate = codes "refused gate"
 refusal_line refused.Source = codes "refused source"
 refusal_line refused.Sink = codes "refused sink"
 refusal_line refused.TooMuch = codes "refused too-much"
+refusal_line refused.Tolerance = codes "refused tolerance"
+refusal_line refused.Apart = codes "refused apart"
 refusal_line refused.Memory = memory_refused
 
 -- a refusal that `Stands` allows, or that an allocation failed

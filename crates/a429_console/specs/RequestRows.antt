@@ -5,7 +5,7 @@ use Rattle.std.specs.Str.Parse.{digits_value, without_leading_plus}
 use Rattle.clap.specs.ValueTests.{is_unsigned_in}
 use Rattle.clap.specs.Words.{Row, Text, first_of, one_of, all_of, subcommand_of, takes}
 use Rattle.a429_equipment.specs.Limits.{most_frames}
-use Rattle.a429_console.specs.CommandLine.{command_line, last_time, least_rate, most_bits, most_pair, most_percent, most_rate, most_slack, most_slots, row_of}
+use Rattle.a429_console.specs.CommandLine.{command_line, last_time, least_rate, most_bits, most_pair, most_percent, most_rate, most_slack, most_slots, most_tolerance, row_of}
 use Rattle.a429_console.specs.Requests.{AskedBytes, FieldBytes, HasWords, IsName, OptionBytes, is_one_alone, last_origin, words_of, words_with}
 use Rattle.a429_console.specs.declared.arguments.choices.Choices.{Choices}
 use Rattle.a429_console.specs.declared.arguments.forms.Verb.TheVariants as verb
@@ -123,6 +123,8 @@ pub record AreOptions (name : Text) (rows : List Row) (o : OptionBytes) : Type 0
   pub rate : number_of least_rate most_rate (one_of (codes "rate") rows) ≡ Some o.rate
   pub rows_asked : is_set (one_of (codes "rows") rows) ≡ o.rows
   pub slack : number_of 0 most_slack (one_of (codes "slack") rows) ≡ Some o.slack
+  pub tolerance : number_of 0 most_tolerance (one_of (codes "tolerance") rows) ≡ Some o.tolerance
+  pub events : is_set (one_of (codes "events") rows) ≡ o.events
   pub fields : AreFields rows o.fields
   pub value : lacks_value name rows || lacks_rows rows ≡ false
 
@@ -136,8 +138,10 @@ values_of id rows = unwrap_or (all_of id rows) []
 pub record IsAskedBy (rows : List Row) (r : AskedBytes) : Type 0 where
   pub first : first_of (row_of r.verb).first rows ≡ Some r.first
   pub second : MatchOption (row_of r.verb).second (r.second ≡ []) (λ id. first_of id rows ≡ Some r.second)
+  pub third : MatchOption (row_of r.verb).third (r.third ≡ []) (λ id. first_of id rows ≡ Some r.third)
   pub number : MatchOption (row_of r.verb).number (r.number ≡ 0) (λ number. number_of 0 number.1 (one_of number.0 rows) ≡ Some (Some r.number))
   pub more : MatchOption (row_of r.verb).more (r.more ≡ []) (λ id. values_of id rows ≡ r.more)
+  pub inputs : values_of (codes "in") rows ≡ r.inputs
   pub options : AreOptions (row_of r.verb).name rows r.options
 
 -- by what was found of the arguments: the command's name and its values

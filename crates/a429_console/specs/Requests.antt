@@ -8,7 +8,7 @@ use Rattle.clap.specs.declared.builder.action.ArgAction.{ArgAction}
 use Rattle.clap.specs.declared.builder.action.ArgAction.TheVariants.{SetTrue}
 use Rattle.clap.specs.declared.error.Error.{Error}
 use Rattle.clap.specs.declared.error.kind.ErrorKind.TheVariants.{OutOfMemory}
-use Rattle.a429_console.specs.CommandLine.{All, Bcd, Bits, Bnr, Code, Csv, Data, From, Group, Html, Json, Limit, OptionName, Rate, Rows, Sdi, Slack, Slots, Ssm, Summary, Time, Until, Width, last_time, least_rate, most_bits, most_pair, most_percent, most_rate, most_slack, most_slots, option_rule, options_of, row_of}
+use Rattle.a429_console.specs.CommandLine.{All, Bcd, Bits, Bnr, Code, Csv, Data, Events, From, Group, Html, Inputs, Json, Limit, OptionName, Rate, Rows, Sdi, Slack, Slots, Ssm, Summary, Time, Tolerance, Until, Width, last_time, least_rate, most_bits, most_pair, most_percent, most_rate, most_slack, most_slots, most_tolerance, option_rule, options_of, row_of}
 use Rattle.a429_console.specs.Files.{texts_of}
 use Rattle.a429_text.specs.declared.sheets.SheetForm.{SheetForm}
 use Rattle.a429_text.specs.declared.sheets.SheetForm.TheVariants as form
@@ -61,16 +61,22 @@ pub record OptionBytes : Type 0 where
   -- rows for `import`, and by how much their intervals are wider than those of the recording, in per cent
   pub rows : Bool
   pub slack : Option ℕ
+  -- how far recorded times may be wrong, in microseconds
+  pub tolerance : Option ℕ
+  -- a row for each finding, instead of one for each output
+  pub events : Bool
   pub fields : FieldBytes
 
 -- What is asked for, by the bytes of its texts: what contracts see of an `Asked`. A command that is given one name has no second one, and so with the
--- number (of frames) and further names.
+-- third one, the number (of frames) and further names. The inputs are further logs of what came in.
 pub record AskedBytes : Type 0 where
   pub verb : Verb
   pub first : Text
   pub second : Text
+  pub third : Text
   pub number : ℕ
   pub more : List Text
+  pub inputs : List Text
   pub options : OptionBytes
 
 abbrev pub no_fields : FieldBytes
@@ -94,12 +100,14 @@ no_options = record {
   rate = None;
   rows = false;
   slack = None;
+  tolerance = None;
+  events = false;
   fields = no_fields;
 }
 
 -- a command with these names, and without a number or options
 abbrev pub asked_by_names : Verb → Text → Text → List Text → AskedBytes
-asked_by_names v first second more = record { verb = v; first = first; second = second; number = 0; more = more; options = no_options }
+asked_by_names v first second more = record { verb = v; first = first; second = second; third = []; number = 0; more = more; inputs = []; options = no_options }
 
 -- ---- its arguments
 
@@ -127,7 +135,8 @@ abbrev pub origin_word : LogOrigin → Option Text
 origin_word (origin.Time n) = if n == 0 then None else Some (decimal n)
 origin_word origin.First = Some (codes "first")
 
--- what is given of an option, as a text: a number in decimal digits, and of a flag that it is given
+-- what is given of an option, as a text: a number in decimal digits, and of a flag that it is given; an option that is given as often as one likes is no part
+-- of these options
 abbrev pub word_given : OptionBytes → OptionName → Option Text
 word_given o Csv = flag_word (is_csv o.form)
 word_given o Json = flag_word (is_json o.form)
@@ -145,6 +154,9 @@ word_given o Limit = option_map decimal o.limit
 word_given o Rate = option_map decimal o.rate
 word_given o Rows = flag_word o.rows
 word_given o Slack = option_map decimal o.slack
+word_given o Inputs = None
+word_given o Tolerance = option_map decimal o.tolerance
+word_given o Events = flag_word o.events
 word_given o Sdi = option_map decimal o.fields.sdi
 word_given o Ssm = option_map decimal o.fields.ssm
 word_given o Data = o.fields.hex
@@ -179,7 +191,8 @@ words_if (Some _) words = words
 abbrev pub words_with : Text → AskedBytes → List Text
 words_with number r =
     (row_of r.verb).name ∷ r.first
-    ∷ (words_if (row_of r.verb).second (r.second ∷ []) ++ (words_if (row_of r.verb).number (number ∷ []) ++ (r.more ++ words_of_options r.options (options_of r.verb))))
+    ∷ (words_if (row_of r.verb).second (r.second ∷ []) ++ (words_if (row_of r.verb).third (r.third ∷ []) ++ (words_if (row_of r.verb).number (number ∷ [])
+    ++ (r.more ++ words_of_options r.options (options_of r.verb)))))
 
 abbrev pub words_of : AskedBytes → List Text
 words_of r = words_with (decimal r.number) r
@@ -229,6 +242,7 @@ CanBeGiven o Until = IfSome o.until (λ n. n ≤ last_time)
 CanBeGiven o Limit = IfSome o.limit (λ n. (1 ≤ n) × (n ≤ most_percent))
 CanBeGiven o Rate = IfSome o.rate (λ n. (least_rate ≤ n) × (n ≤ most_rate))
 CanBeGiven o Slack = IfSome o.slack (λ n. n ≤ most_slack)
+CanBeGiven o Tolerance = IfSome o.tolerance (λ n. n ≤ most_tolerance)
 CanBeGiven o Sdi = IfSome o.fields.sdi (λ n. n ≤ most_pair)
 CanBeGiven o Ssm = IfSome o.fields.ssm (λ n. n ≤ most_pair)
 CanBeGiven o Data = IfSome o.fields.hex IsName
@@ -240,12 +254,15 @@ CanBeGiven o _ = ⊤
 abbrev pub has_option : List OptionName → OptionName → Bool
 has_option names name = list_any (λ x. bytes_eq (option_rule x).id (option_rule name).id) names
 
--- a request has arguments: each text of it is a name, its numbers can be asked for, and its command takes all that it has
+-- a request has arguments in their plain form: each text of it is a name, its numbers can be asked for, and its command takes all that it has; no option is
+-- given several times
 pub record HasWords (r : AskedBytes) : Type 0 where
   pub first : IsName r.first
   pub second : MatchOption (row_of r.verb).second (r.second ≡ []) (λ _. IsName r.second)
+  pub third : MatchOption (row_of r.verb).third (r.third ≡ []) (λ _. IsName r.third)
   pub number : MatchOption (row_of r.verb).number (r.number ≡ 0) (λ number. r.number ≤ number.1)
   pub more : MatchOption (row_of r.verb).more (r.more ≡ []) (λ _. AllByRecursion IsName r.more)
+  pub inputs : r.inputs ≡ []
   pub options : (name : OptionName) → CanBeGiven r.options name
   -- the lines of `simulate` have no form as JSON
   pub summarized : r.verb ≡ verb.Simulate → is_json r.options.form ≡ true → r.options.summary ≡ true
@@ -286,11 +303,22 @@ given_of o = record {
   rate = o.rate;
   rows = o.rows;
   slack = o.slack;
+  tolerance = o.tolerance;
+  events = o.events;
   fields = fields_of o.fields;
 }
 
 abbrev pub asked_of : Asked → AskedBytes
-asked_of q = record { verb = q.verb; first = q.first.now; second = q.second.now; number = q.number; more = texts_of q.more.items; options = given_of q.options }
+asked_of q = record {
+  verb = q.verb;
+  first = q.first.now;
+  second = q.second.now;
+  third = q.third.now;
+  number = q.number;
+  more = texts_of q.more.items;
+  inputs = texts_of q.inputs.items;
+  options = given_of q.options;
+}
 
 -- this was asked for and was read, or an allocation failed
 abbrev pub IsRead : AskedBytes → Result Asked Error → Type 0

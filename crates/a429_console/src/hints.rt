@@ -25,8 +25,7 @@ pub struct Objection {
     pub reason: &'static str,
 }
 
-/// A line that is refused, of a script, of a file of words or of a log; of a line file, its part before the refused
-/// byte.
+/// A refused line of a script, of a file of words or of a log; of a line file, its part before the refused byte.
 #[derive(Drop)]
 pub struct SeenLine {
     /// Its number, from 1.
@@ -89,6 +88,8 @@ pub enum LogRefusal {
     Receiver,
     /// The name of its word is not UTF-8.
     Name,
+    /// No group has the name of its word, or the group has no bus of its number.
+    Group,
     /// Its time is too late.
     Late,
 }

@@ -87,6 +87,10 @@ pub enum CommandRefusal {
     /// A receiver was given a word after a million, or more than a million frames were asked for, or a group would send more
     /// than a million in a simulation.
     TooMuch,
+    /// The tolerance is more than half the period of an output.
+    Tolerance,
+    /// No time is within the log of what came in and within that of what was sent.
+    Apart,
     /// An allocation failed.
     Memory,
 }
@@ -122,6 +126,8 @@ impl fmt::Display for CommandRefusal {
             CommandRefusal::Source => f.write_str("refused source"),
             CommandRefusal::Sink => f.write_str("refused sink"),
             CommandRefusal::TooMuch => f.write_str("refused too-much"),
+            CommandRefusal::Tolerance => f.write_str("refused tolerance"),
+            CommandRefusal::Apart => f.write_str("refused apart"),
             CommandRefusal::Memory => f.write_str(REFUSED_MEMORY),
         }
     }

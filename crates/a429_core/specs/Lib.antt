@@ -6,3 +6,4 @@ pub mod Sends
 pub mod Spaced
 pub mod Latency
 pub mod LatencyExample
+pub mod Passed

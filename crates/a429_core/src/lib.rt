@@ -30,6 +30,7 @@
 
 mod events;
 pub mod laws;
+mod passed;
 mod sends;
 mod sources;
 mod state;

@@ -7,9 +7,11 @@ ghost use Rattle.a429_core.specs.Happened.{event_of};
 ghost use Rattle.a429_slots.specs.declared.answers.Refusal.{Refusal as Why};
 ghost use Rattle.a429_slots.specs.FrameStates.{begun, all_fit};
 ghost use Rattle.a429_core.specs.MachineStates.{AnswerEvents, AnswersEvent, GoesOnByEvents, StandsForHistory, HasTableForEach, IsWholeEvent};
+ghost use Rattle.a429_core.specs.Passed.{passed};
 ghost use Rattle.a429_core.specs.MachineSteps.{word_at, arrived, cell_asked, cell_sent, frame_asked, publish_asked, asked_cell, after_asked, frame_at, stepped};
 
 use crate::events::Event;
+use crate::passed::pass_group;
 use crate::sends::{SentCell, send_word, sends_of};
 use crate::sources::{Kept, keep};
 use a429_equipment::{COUNT_BITS, Equipment};
@@ -240,6 +242,17 @@ impl<const C: u32> State<C> {
             return Answer::Refused(Refusal::NoSuch);
         }
         next_frame(&mut self.groups, &self.newest, group)
+    }
+
+    /// Puts a group after this number of slots by its newest table, from slot 0. It changes nothing else, so it stands for
+    /// those slots only as long as no word was accepted and no plan published. Then each of their cells has no word.
+    pub fn pass_slots(&mut self, group: usize, slots: u64)
+        requires few { slots < 2 ^ 63 }
+        ensures { self.new ≡ passed self.old group slots }
+    {
+        if group < self.groups.len() {
+            pass_group(&mut self.groups, &self.newest, group, slots);
+        }
     }
 
     /// A newer plan is proposed, for all groups. If it is of the same station it is the newest from now on. Refusals:

@@ -62,18 +62,34 @@ fn tell_column(sheet: Sheet, row: &CsvLine, column: &str, hint: &mut HintText) {
     tell_field(row, column, sheet.text(row, column), hint);
 }
 
-/// The number in a column of a row; 0 if there is none.
-fn number_in(sheet: Sheet, row: &CsvLine, column: &str) -> u64 {
-    match sheet.text(row, column).parse::<u64>() {
-        Ok(number) => number,
-        Err(_) => 0,
+/// The text that a spreadsheet wrote as `="TEXT"`.
+fn bare(text: &str) -> &str {
+    match text.strip_prefix("=\"") {
+        Some(rest) => rest.strip_suffix("\"").unwrap_or(text),
+        None => text,
+    }
+}
+
+/// The digits of a row's label, as a decimal number.
+fn label_in(sheet: Sheet, row: &CsvLine) -> u64 {
+    bare(sheet.text(row, "label")).parse::<u64>().unwrap_or(0)
+}
+
+/// The SDI of a row. `None` if it is any.
+fn sdi_in(sheet: Sheet, row: &CsvLine) -> Option<u8> {
+    match bare(sheet.text(row, "sdi")) {
+        "0" | "00" => Some(0),
+        "1" | "01" => Some(1),
+        "2" | "10" => Some(2),
+        "3" | "11" => Some(3),
+        _ => None,
     }
 }
 
 /// Says which end of an interval has a fault.
 fn tell_interval(sheet: Sheet, row: &CsvLine, hint: &mut HintText) {
-    let min_us = number_in(sheet, row, "min_us");
-    let max_us = number_in(sheet, row, "max_us");
+    let min_us = sheet.interval(row, "min_us");
+    let max_us = sheet.interval(row, "max_us");
     if min_us < 1 {
         tell_column(sheet, row, "min_us", hint);
     }
@@ -90,15 +106,15 @@ fn tell_interval(sheet: Sheet, row: &CsvLine, hint: &mut HintText) {
 
 /// Whether two rows have the same label. A spreadsheet may have removed its leading zeros.
 fn have_same_label(sheet: Sheet, a: &CsvLine, b: &CsvLine) -> bool {
-    number_in(sheet, a, "label") == number_in(sheet, b, "label")
+    label_in(sheet, a) == label_in(sheet, b)
 }
 
 /// Whether the sources of two rows have the same receiver and label, and overlapping SDIs.
 fn meet(sheet: Sheet, a: &CsvLine, b: &CsvLine) -> bool {
-    let (one, other) = (sheet.text(a, "sdi"), sheet.text(b, "sdi"));
+    let (one, other) = (sdi_in(sheet, a), sdi_in(sheet, b));
     sheet.field(a, "receiver") == sheet.field(b, "receiver")
         && have_same_label(sheet, a, b)
-        && (one == other || one == "any" || other == "any")
+        && (one == other || one.is_none() || other.is_none())
 }
 
 /// Says with which earlier source the source of a row clashes.
@@ -122,7 +138,7 @@ fn tell_twin_output(sheet: Sheet, row: &CsvLine, hint: &mut HintText) {
         if earlier.number != row.number
             && sheet.field(earlier, "group") == sheet.field(row, "group")
             && have_same_label(sheet, earlier, row)
-            && sheet.field(earlier, "sdi") == sheet.field(row, "sdi")
+            && sdi_in(sheet, earlier) == sdi_in(sheet, row)
         {
             begin_row(row, ": this row and line ", hint);
             hint.say_number("", earlier.number);

@@ -5,11 +5,13 @@ use crate::hint::HintText;
 use crate::imported::tell_imported;
 use crate::lists::{LISTED, say_more};
 use crate::nearest::Nearest;
-use crate::sheets::{Sheet, begin_column, begin_row, tell_field};
+use crate::sheets::{
+    Sheet, begin_column, begin_row, is_of_output, tell_field, tell_millis, tell_no_group,
+};
 use a429_console::hints::SeenRows;
 use a429_console::refusals::{CommandRefusal, CsvKind};
 use a429_filter::Filter;
-use a429_import::{CsvLine, IMPORT_COLUMNS, ImportColumn, LineCount, csv_lines};
+use a429_import::{CsvLine, IMPORT_COLUMNS, ImportColumn, LineCount, csv_lines, is_column_named};
 use std::alloc::{AllocError, Global};
 use std::cmp::min;
 
@@ -82,13 +84,7 @@ fn tell_sheet(sheet: Sheet, refusal: &CommandRefusal, seen: &SeenRows, hint: &mu
 
 /// Names each column that the heading lacks or has twice.
 fn tell_heading(sheet: Sheet, hint: &mut HintText) {
-    let first = sheet.heading.field(0);
-    if sheet.heading.len() == 1 && first.contains(&b';') {
-        return hint.say_line("the fields are separated by semicolons; use commas");
-    }
-    if sheet.heading.len() == 1 && first.contains(&b'\t') {
-        return hint.say_line("the fields are separated by tabs; use commas");
-    }
+    hint.turn_to_line(sheet.heading.number as usize);
     for column in IMPORT_COLUMNS.as_slice() {
         tell_column(sheet.heading, *column, hint);
     }
@@ -105,11 +101,11 @@ fn tell_fields(heading: &CsvLine, hint: &mut HintText) {
     hint.end("");
 }
 
-/// How many fields of a heading have this name.
-fn times_in(heading: &CsvLine, name: &str) -> usize {
+/// How many fields of a heading name this column.
+fn times_in(heading: &CsvLine, column: ImportColumn) -> usize {
     let mut times: usize = 0;
     for place in 0..heading.len() {
-        if heading.field(place) == name.as_bytes() {
+        if is_column_named(column, heading.field(place)) {
             times = times.saturating_add(1);
         }
     }
@@ -119,7 +115,7 @@ fn times_in(heading: &CsvLine, name: &str) -> usize {
 /// Names a column if the heading lacks it or has it twice.
 fn tell_column(heading: &CsvLine, column: ImportColumn, hint: &mut HintText) {
     let name = column.name();
-    let times = times_in(heading, name);
+    let times = times_in(heading, column);
     if times > 1 {
         hint.begin(": the column ");
         hint.say(name);
@@ -180,7 +176,7 @@ fn tell_missing(heading: &CsvLine, name: &str, hint: &mut HintText) {
 /// Whether a text is the name of a column that is read.
 fn is_column(text: &str) -> bool {
     for column in IMPORT_COLUMNS.as_slice() {
-        if column.name() == text {
+        if is_column_named(*column, text.as_bytes()) {
             return true;
         }
     }
@@ -218,6 +214,12 @@ fn tell_form(sheet: Sheet, row: &CsvLine, column: &str, hint: &mut HintText) {
         begin_column(row, column, hint);
         return hint.end("the field is not UTF-8: save the file as UTF-8");
     };
+    if is_of_output(column) && sheet.field(row, "group").is_empty() {
+        return tell_no_group(row, column, text, hint);
+    }
+    if sheet.is_in_millis(column) {
+        return tell_millis(row, column, text, hint);
+    }
     if column != "filters" {
         return tell_field(row, column, text, hint);
     }

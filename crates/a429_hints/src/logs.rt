@@ -49,6 +49,7 @@ pub fn tell_log_line(line: &SeenLine, log: &SeenLog, hint: &mut HintText) {
         LogRefusal::Line(LineFault::Heading(fault)) => tell_heading(fault, hint),
         LogRefusal::Line(LineFault::Row(fault)) => tell_row(line, &read, fault, hint),
         LogRefusal::Receiver => tell_names("receiver", name_in(&read), &line.receivers, hint),
+        LogRefusal::Group => tell_group(line, &read, hint),
         LogRefusal::Name => hint.say_line(NOT_UTF8),
         LogRefusal::Late => hint.say_line(
             "the time is 100000000000000 us or more; to count times from the first word, give --from first",
@@ -86,6 +87,31 @@ fn time_in<'a>(read: &ReadLine<'a>) -> &'a str {
 
 fn name_in<'a>(read: &ReadLine<'a>) -> &'a str {
     field(read, read.places.map_or(1, |places| places.name))
+}
+
+/// Says that no group has the name of a word, or that the group has no bus of its number.
+fn tell_group(line: &SeenLine, read: &ReadLine<'_>, hint: &mut HintText) {
+    let name = name_in(read);
+    if has_name(&line.receivers, name) && !has_name(&line.groups, name) {
+        hint.begin(": ");
+        hint.say_quoted("", name);
+        return hint.end(
+            " is a receiver; in a log of what was sent a name is a group, and the log of what came in is given first",
+        );
+    }
+    let (group, bus) = match name.split_once('.') {
+        Some((group, bus)) => (group, Some(bus)),
+        None => (name, None),
+    };
+    match bus {
+        Some(bus) if has_name(&line.groups, group) => {
+            hint.begin(": ");
+            hint.say_quoted("group ", group);
+            hint.say_quoted(" has no bus ", bus);
+            hint.end("; `plan` prints how many it has, and they are numbered from 0");
+        }
+        _ => tell_names("group", group, &line.groups, hint),
+    }
 }
 
 /// The names that a column can have.

@@ -4,8 +4,8 @@ use crate::hint::{HintText, LINES};
 use crate::lists::LISTED;
 use crate::periods::{Interval, tell_unfit, tell_unfit_briefly};
 use a429_console::refusals::names::{group_name, source_name};
-use a429_equipment::{Equipment, GroupRow};
-use a429_grid::grid_period;
+use a429_equipment::{Equipment, GroupRow, OutputRow};
+use a429_grid::{SLOT_TIME, grid_period};
 
 /// Says which groups a table has.
 pub fn tell_groups(groups: &[GroupRow], hint: &mut HintText) {
@@ -67,4 +67,36 @@ fn tell_unfit_of(equipment: &Equipment, group: usize, before: usize, hint: &mut 
         count = count.saturating_add(1);
     }
     count
+}
+
+/// Half the period of an output in microseconds, rounded down. If it has no period, the greatest number.
+fn half_period(row: &OutputRow, rate: u32) -> u64 {
+    match grid_period(row.min_us, row.max_us, rate) {
+        Some(period) => u64::from(period.slots()) * SLOT_TIME / (2 * u64::from(rate).max(1)),
+        None => u64::MAX,
+    }
+}
+
+/// The least half of a period of a group's outputs, or this number if that is less.
+fn least_half(equipment: &Equipment, group: usize, before: u64) -> u64 {
+    let mut least = before;
+    if group >= equipment.groups().len() {
+        return least;
+    }
+    let rate = equipment.group_rate(group);
+    for row in equipment.outputs(group) {
+        least = least.min(half_period(row, rate));
+    }
+    least
+}
+
+/// Says how great the tolerance of recorded times may be.
+pub fn tell_half_period(equipment: &Equipment, hint: &mut HintText) {
+    let mut least = u64::MAX;
+    for group in 0..equipment.groups().len() {
+        least = least_half(equipment, group, least);
+    }
+    hint.begin(": a tolerance is at most half the shortest period; give --tolerance ");
+    hint.say_number("", least);
+    hint.end(" or less");
 }

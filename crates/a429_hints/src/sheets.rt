@@ -1,7 +1,7 @@
 //! Rows of comma-separated values, as a person sees them.
 
 use crate::hint::HintText;
-use a429_import::CsvLine;
+use a429_import::{CsvLine, IMPORT_COLUMNS, ImportColumn, is_column_in_millis, is_column_named};
 use std::alloc::{AllocError, Global};
 
 /// The rows of a file below their heading.
@@ -12,14 +12,41 @@ pub struct Sheet<'a> {
 }
 
 impl<'a> Sheet<'a> {
-    /// The field of a row in a column; an empty one if the heading has no such column.
-    pub fn field(self, row: &'a CsvLine, column: &str) -> &'a [u8] {
+    /// The place of a column in the heading. `None` if the heading has no such column.
+    fn place(self, column: &str) -> Option<usize> {
+        let column = column_of(column)?;
         for place in 0..self.heading.len() {
-            if self.heading.field(place) == column.as_bytes() {
-                return row.field(place);
+            if is_column_named(column, self.heading.field(place)) {
+                return Some(place);
             }
         }
-        &[]
+        None
+    }
+
+    /// The field of a row in a column; an empty one if the heading has no such column.
+    pub fn field(self, row: &'a CsvLine, column: &str) -> &'a [u8] {
+        match self.place(column) {
+            Some(place) => row.field(place),
+            None => &[],
+        }
+    }
+
+    /// Whether a column is in milliseconds.
+    pub fn is_in_millis(self, column: &str) -> bool {
+        match (column_of(column), self.place(column)) {
+            (Some(column), Some(place)) => is_column_in_millis(column, self.heading.field(place)),
+            _ => false,
+        }
+    }
+
+    /// The interval of a row, in microseconds; 0 if it is no number.
+    pub fn interval(self, row: &'a CsvLine, column: &str) -> u64 {
+        let text = self.text(row, column);
+        if self.is_in_millis(column) {
+            millis(text).unwrap_or(text.parse::<u64>().unwrap_or(0).saturating_mul(1000))
+        } else {
+            text.parse::<u64>().unwrap_or(0)
+        }
     }
 
     /// The field as a text; the empty text if it is not UTF-8.
@@ -42,7 +69,7 @@ impl<'a> Sheet<'a> {
     }
 
     /// The first row of the name with this number. The names of a column are numbered from 0, in the order of their first
-    /// rows. `None` if there is no such name, or if an allocation failed.
+    /// rows; rows without a group are none of a group. `None` if there is no such name, or if an allocation failed.
     pub fn first_row(
         self,
         column: &str,
@@ -52,6 +79,9 @@ impl<'a> Sheet<'a> {
         let mut names: Vec<&'a [u8]> = Vec::new(hint.alloc);
         for row in self.rows {
             let name = self.field(row, column);
+            if name.is_empty() && column == "group" {
+                continue;
+            }
             if !names.contains(&name) {
                 if names.len() == number {
                     return Some(row);
@@ -78,6 +108,16 @@ impl<'a> Sheet<'a> {
         }
         None
     }
+}
+
+/// The column of a name.
+fn column_of(name: &str) -> Option<ImportColumn> {
+    for column in IMPORT_COLUMNS.as_slice() {
+        if column.name() == name {
+            return Some(*column);
+        }
+    }
+    None
 }
 
 /// What a column has, in two words.
@@ -107,8 +147,8 @@ pub fn form_in(column: &str) -> &'static str {
     }
 }
 
-/// Whether a column has a whole number.
-fn is_numeric(column: &str) -> bool {
+/// Whether a column is about an output, and not about its source. Such a column has a whole number.
+pub fn is_of_output(column: &str) -> bool {
     matches!(column, "rate" | "min_us" | "max_us" | "hold")
 }
 
@@ -142,7 +182,7 @@ pub fn tell_field(row: &CsvLine, column: &str, text: &str, hint: &mut HintText) 
         return;
     }
     hint.say_quoted("", text);
-    if is_numeric(column) && text.len() > 1 && text.starts_with('0') {
+    if is_of_output(column) && text.len() > 1 && text.starts_with('0') {
         hint.end_text(" begins with a zero; it must be ", form);
         return;
     }
@@ -157,12 +197,37 @@ pub fn tell_field(row: &CsvLine, column: &str, text: &str, hint: &mut HintText) 
     }
 }
 
+/// Says what is in a column of milliseconds, and what must be there.
+pub fn tell_millis(row: &CsvLine, column: &str, text: &str, hint: &mut HintText) {
+    begin_column(row, column, hint);
+    hint.say_quoted("", text);
+    hint.end(" is not a time; it must be milliseconds with at most three decimals");
+}
+
+/// Says what is in a column of an output, although the row has no group.
+pub fn tell_no_group(row: &CsvLine, column: &str, text: &str, hint: &mut HintText) {
+    begin_column(row, column, hint);
+    hint.say_quoted("", text);
+    hint.end(
+        " in a row without a group; give the group a name, or leave rate, min_us, max_us and hold empty",
+    );
+}
+
+/// The name of a column of intervals in milliseconds.
+fn in_millis(column: &str) -> &'static str {
+    match column {
+        "min_us" => "min_ms",
+        _ => "max_ms",
+    }
+}
+
 /// Says what to write instead of a text, if it is known.
 fn say_remedy(column: &str, text: &str, hint: &mut HintText) {
     match column {
         "min_us" | "max_us" => {
             if let Some(us) = millis(text) {
                 hint.say_number("; if it is in ms, write ", us);
+                hint.say_text(", or name the column ", in_millis(column));
             }
         }
         "group" | "source" | "receiver" => match lawful_name(hint.alloc, text) {

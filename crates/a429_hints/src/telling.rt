@@ -9,7 +9,7 @@ use crate::hint::HintText;
 use crate::imports::tell_rows;
 use crate::logs::{tell_log_line, tell_too_long};
 use crate::mistakes::{tell_habits, tell_nearest_word};
-use crate::plans::{tell_all_unfit, tell_fewer_buses, tell_groups};
+use crate::plans::{tell_all_unfit, tell_fewer_buses, tell_groups, tell_half_period};
 use crate::scripts::{tell_script_line, tell_words_line};
 use crate::words::{
     tell_data_text, tell_even_word, tell_filter, tell_label_text, tell_line_byte, tell_word_text,
@@ -117,6 +117,8 @@ fn tell_refusal(asked: &Asked, refusal: &CommandRefusal, seen: &Seen, hint: &mut
         CommandRefusal::LineByte(_) | CommandRefusal::Script(_) | CommandRefusal::LogLine { .. } =>
             { tell_of_line(asked, seen, hint) }
         CommandRefusal::TooMuch => tell_of_length(asked, hint),
+        CommandRefusal::Tolerance => tell_tolerance(asked, seen, hint),
+        CommandRefusal::Apart => tell_apart(asked, hint),
         _ => tell_of_table(asked, refusal, seen, hint),
     }
 }
@@ -146,7 +148,7 @@ fn tell_of_line(asked: &Asked, seen: &Seen, hint: &mut HintText) {
     match (asked.verb, seen.byte) {
         (_, Some(byte)) => tell_line_byte(line, byte, hint),
         (Verb::Live, None) => tell_words_line(line, hint),
-        (Verb::Simulate | Verb::Survey, None) => {
+        (Verb::Simulate | Verb::Survey | Verb::Judge, None) => {
             if let Some(log) = &seen.log {
                 tell_log_line(line, log, hint);
             }
@@ -170,6 +172,23 @@ fn tell_of_length(asked: &Asked, hint: &mut HintText) {
         }
         _ => {}
     }
+}
+
+/// Says how great the tolerance of recorded times may be.
+fn tell_tolerance(asked: &Asked, seen: &Seen, hint: &mut HintText) {
+    let Some(proposal) = &seen.proposal else {
+        return;
+    };
+    hint.turn_to(table_name(asked));
+    tell_half_period(proposal.equipment(), hint);
+}
+
+/// Says that two logs have no time in common.
+fn tell_apart(asked: &Asked, hint: &mut HintText) {
+    hint.turn_to(asked.third);
+    hint.begin(": no time is within this log and within ");
+    hint.say_quoted("", asked.second);
+    hint.end("; both logs need times of one clock");
 }
 
 /// Says what is wrong with the table or its plan, or how many threads it needs.
@@ -251,6 +270,9 @@ fn say_names(form: &CommandForm, hint: &mut HintText) {
     if let Some(second) = form.second {
         hint.say_text(" ", second.id);
     }
+    if let Some(third) = form.third {
+        hint.say_text(" ", third.id);
+    }
     if let Some(number) = form.number {
         hint.say_text(" ", number.id);
     }
@@ -288,10 +310,17 @@ fn text_name<'a>(asked: &Asked<'a>) -> &'a str {
 
 /// The name of the log with this number, counted from 0.
 fn log_name<'a>(asked: &Asked<'a>, number: usize) -> &'a str {
+    let inputs = asked.inputs.len();
     if number == 0 {
         text_name(asked)
-    } else {
+    } else if asked.verb != Verb::Judge {
         nth(&asked.more, number)
+    } else if number <= inputs {
+        nth(&asked.inputs, number)
+    } else if number == inputs + 1 {
+        asked.third
+    } else {
+        nth(&asked.more, number - inputs - 1)
     }
 }
 

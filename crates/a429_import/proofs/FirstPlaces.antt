@@ -1,7 +1,7 @@
 -- The place of the first item of a list that passes a test.
 use Rattle.std.proofs.Common.{◌≡◌, ℕ, zero, suc, ◌+◌, Bool, true, false, List, [], ◌∷◌, length, take, Some, None, ap, refl, arith, ◌∙◌}
 use Rattle.std.specs.Prelude.{position, slice_get}
-use Rattle.std.specs.List.{AllByRecursion, position_or_len}
+use Rattle.std.specs.List.{AllByRecursion, list_any, position_or_len}
 use Rattle.std.proofs.lemmas.Bool.{le-ltb, lt-ltb}
 use Rattle.std.proofs.lemmas.Option.{none-some, same_Some, slice_get_within}
 
@@ -19,3 +19,8 @@ nowhere p (y ∷ ys) none = rw none.0 (ap (λ n. 1 + n) (nowhere p ys none.1) �
 
 pub position_nowhere : {X : Type 0} (p : X → Bool) (xs : List X) → AllByRecursion (λ y. p y ≡ false) xs → position p xs ≡ None
 position_nowhere p xs none = rw (nowhere p xs none, le-ltb (length xs) (length xs) (omega arith)) refl
+
+-- no item passes
+pub none_passes : {X : Type 0} (p : X → Bool) (xs : List X) → AllByRecursion (λ y. p y ≡ false) xs → list_any p xs ≡ false
+none_passes p [] none = refl
+none_passes p (y ∷ ys) none = rw none.0 (none_passes p ys none.1)

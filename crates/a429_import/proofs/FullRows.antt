@@ -1,9 +1,10 @@
 -- Too many groups or outputs stay too many with more rows, and are a fault of the table.
 use Rattle.std.proofs.Common.{◌≡◌, ◌∙◌, ℕ, ◌+◌, ◌<◌, ◌||◌, Bool, true, false, cond, List, [], ◌∷◌, ◌++◌, length, length-append, Option, None, Some, ap, arith, inl, inr, ◌⊎◌, refl, subst, sym, true≢false}
-use Rattle.std.specs.Prelude.{if◌then◌else◌, is_some, nat_lt, option_map}
+use Rattle.std.specs.Prelude.{filter, if◌then◌else◌, is_some, nat_lt, option_map}
 use Rattle.std.specs.List.{count_by, position_from}
 use Rattle.std.specs.Option.{option_or}
 use Rattle.std.proofs.lemmas.Bool.{lt-ltb, ltb-true}
+use Rattle.std.proofs.lemmas.List.Elements.{filter-append}
 use Rattle.std.proofs.lemmas.List.Sums.{sum_by_push}
 use Rattle.a429_table.specs.declared.fault.FaultKind.{FaultKind}
 use Rattle.a429_table.specs.declared.fault.FaultKind.TheVariants as kind
@@ -13,8 +14,8 @@ use Rattle.a429_import.specs.declared.firsts.Part.TheVariants.{Groups, Receivers
 use Rattle.a429_import.specs.declared.rows.ImportRow.{ImportRow}
 use Rattle.a429_import.specs.ImportLimits.{has_too_many_outputs, limit_fault}
 use Rattle.a429_import.specs.ImportReading.{IsKept}
-use Rattle.a429_import.specs.ImportTables.{firsts, same_name, unless_known}
-use Rattle.a429_import.specs.Known.{are_full}
+use Rattle.a429_import.specs.ImportTables.{firsts, groups_of, has_group, same_name, unless_known}
+use Rattle.a429_import.specs.Known.{are_full, are_groups_full}
 use Rattle.a429_import.proofs.Knowing.{firsts_push}
 
 -- ---- lists
@@ -47,12 +48,12 @@ more_outputs rows row group h =
     let more : count_by (same_name Groups group) (rows ++ row ∷ []) ≡ count_by (same_name Groups group) rows + cond (same_name Groups group row) 1 0 = sum_by_push (λ r. cond (same_name Groups group r) 1 0) rows row in
     lt-ltb 128 (count_by (same_name Groups group) (rows ++ row ∷ [])) (omega (arith, many, more))
 
-pub full_stays : (rows : List ImportRow) (row : ImportRow) → are_full rows ≡ true → are_full (rows ++ row ∷ []) ≡ true
-full_stays rows row h =
-    let fs : List ImportRow = firsts Groups rows in
-    let new : List ImportRow = unless_known Groups rows row in
+groups_full_stay : (rows : List ImportRow) (row : ImportRow) → are_groups_full rows ≡ true → are_groups_full (rows ++ row ∷ []) ≡ true
+groups_full_stay rows row h =
+    let fs : List ImportRow = groups_of rows in
+    let new : List ImportRow = filter has_group (unless_known Groups rows row) in
     let all : List ImportRow = rows ++ row ∷ [] in
-    let grown : firsts Groups all ≡ fs ++ new = firsts_push Groups rows row in
+    let grown : groups_of all ≡ fs ++ new = ap (filter has_group) (firsts_push Groups rows row) ∙ filter-append has_group (firsts Groups rows) (unless_known Groups rows row) in
     let P : List ImportRow → Type 0 = λ gs. (nat_lt 8 (length gs) || is_some (position_from (has_too_many_outputs all) 0 gs)) ≡ true in
     subst P (sym grown) (one_true _ _ (elim (which_true (nat_lt 8 (length fs)) (is_some (position_from (has_too_many_outputs rows) 0 fs)) h) [
       | inl groups ↦
@@ -61,6 +62,20 @@ full_stays rows row h =
           inl (lt-ltb 8 (length (fs ++ new)) (omega (arith, many, long)))
       | inr outputs ↦ inr (some_more (has_too_many_outputs rows) (has_too_many_outputs all) 0 fs new (λ group. more_outputs rows row group) outputs)
     ]))
+
+sources_stay : (rows : List ImportRow) (row : ImportRow) → nat_lt 256 (length (firsts Sources rows)) ≡ true → nat_lt 256 (length (firsts Sources (rows ++ row ∷ []))) ≡ true
+sources_stay rows row h =
+    let fs : List ImportRow = firsts Sources rows in
+    let new : List ImportRow = unless_known Sources rows row in
+    let long : length (firsts Sources (rows ++ row ∷ [])) ≡ length fs + length new = ap length (firsts_push Sources rows row) ∙ length-append fs new in
+    let many : 256 < length fs = ltb-true 256 (length fs) h in
+    lt-ltb 256 (length (firsts Sources (rows ++ row ∷ []))) (omega (arith, many, long))
+
+pub full_stays : (rows : List ImportRow) (row : ImportRow) → are_full rows ≡ true → are_full (rows ++ row ∷ []) ≡ true
+full_stays rows row h = one_true _ _ (elim (which_true (nat_lt 256 (length (firsts Sources rows))) (are_groups_full rows) h) [
+  | inl sources ↦ inl (sources_stay rows row sources)
+  | inr groups ↦ inr (groups_full_stay rows row groups)
+])
 
 -- ---- the fault
 
@@ -73,14 +88,20 @@ some_fault None None (Some n) false u few each h = refl
 some_fault None None None false u true each h = absurd (true≢false (sym (each refl)))
 some_fault None None None false u false each h = cc
 
-groups_many : (a b c : Bool) → c ≡ true → ((a || b) || c) ≡ true
-groups_many true b c h = refl
-groups_many false true c h = refl
-groups_many false false c h = h
+parts_many : (a b c : Bool) → (b || c) ≡ true → ((a || b) || c) ≡ true
+parts_many true b c h = refl
+parts_many false b c h = h
+
+or_assoc : (a b c : Bool) → (a || (b || c)) ≡ true → ((a || b) || c) ≡ true
+or_assoc true b c h = refl
+or_assoc false b c h = h
 
 full_is_some : (rows : List ImportRow) → are_full rows ≡ true → is_some (limit_fault rows) ≡ true
 unfolding limit_fault
-full_is_some rows h = some_fault _ _ _ _ true (nat_lt 8 (length (firsts Groups rows))) (groups_many (nat_lt 16 (length (firsts Receivers rows))) (nat_lt 256 (length (firsts Sources rows))) _) h
+full_is_some rows h =
+    let sources : Bool = nat_lt 256 (length (firsts Sources rows)) in
+    let groups : Bool = nat_lt 8 (length (groups_of rows)) in
+    some_fault _ _ _ _ true (sources || groups) (parts_many (nat_lt 16 (length (firsts Receivers rows))) sources groups) (or_assoc sources groups _ h)
 
 -- the rows that are kept are all rows, if there is no fault
 pub all_kept : (full : Bool) (kept rows : List ImportRow) → IsKept full kept rows → limit_fault rows ≡ None → kept ≡ rows

@@ -17,7 +17,7 @@ use Rattle.a429_import.specs.declared.lines.CsvLine.{CsvLine}
 use Rattle.a429_import.specs.declared.rows.ImportRow.{ImportRow}
 use Rattle.a429_import.specs.FirstRows.{first_from}
 use Rattle.a429_import.specs.ImportClashes.{Agree, clash_at, earlier_clash, first_part_clash, numbered, part_clash}
-use Rattle.a429_import.specs.ImportRows.{agreed, clash, first_clash, next_row, row_of}
+use Rattle.a429_import.specs.ImportRows.{agreed, clash, first_clash, next_row, row_of, says_nothing, with_row}
 use Rattle.a429_import.specs.ImportTables.{name_in}
 use Rattle.a429_import.proofs.ImportRanges.{bound, same_ok}
 
@@ -252,11 +252,18 @@ all_push : {X : Type 0} (P : X → Type 0) (xs : List X) (y : X) → AllByRecurs
 all_push P [] y all here = (here, tt)
 all_push P (x ∷ xs) y all here = (all.0, all_push P xs y all.1 here)
 
-pub agree_push : (rows : List ImportRow) (row : ImportRow) → Agree rows → first_clash rows row ≡ None → Agree (rows ++ row ∷ [])
+agree_push : (rows : List ImportRow) (row : ImportRow) → Agree rows → first_clash rows row ≡ None → Agree (rows ++ row ∷ [])
 agree_push [] row agree none = (tt, tt)
 agree_push (r ∷ rows) row agree none =
     let p = none_of_two (clash r row) (first_clash rows row) none in
     (all_push (λ later. clash r later ≡ None) rows row agree.0 p.0, agree_push rows row agree.1 p.1)
+
+pub agree_with : (rows : List ImportRow) (row : ImportRow) → Agree rows → first_clash rows row ≡ None → Agree (with_row rows row)
+agree_with rows row agree none = by (says_nothing rows row)
+  where
+    by : (b : Bool) → Agree (cond b rows (rows ++ row ∷ []))
+    by true = agree
+    by false = agree_push rows row agree none
 
 taken : (line : ℕ) (row : ImportRow) (o : Option ImportColumn) (next : ImportRow) → agreed line row o ≡ Ok next → (row ≡ next) × (o ≡ None)
 taken line row None next h = (same_ok row next h, refl)

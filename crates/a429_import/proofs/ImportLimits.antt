@@ -26,7 +26,7 @@ use Rattle.a429_table.proofs.Trees.{elements-items_of}
 use Rattle.a429_import.specs.declared.firsts.Part.TheVariants.{Receivers, Sources, Groups}
 use Rattle.a429_import.specs.declared.rows.ImportRow.{ImportRow}
 use Rattle.a429_import.specs.ImportLimits.{has_too_many_filters, has_too_many_outputs, has_too_many_parts, has_wrong_rate, limit_fault}
-use Rattle.a429_import.specs.ImportTables.{firsts, group_tree, number, output_tree, receiver_tree, root_members, rows_of_group, same_name, sdi_data, source_tree, with_filters, with_hold, words}
+use Rattle.a429_import.specs.ImportTables.{firsts, group_tree, groups_of, number, output_tree, receiver_tree, root_members, rows_of_group, same_name, sdi_data, source_tree, with_filters, with_hold, words}
 use Rattle.a429_import.proofs.ImportRecords.{IsRoot, is_root}
 
 -- ---- the first stop of a walk
@@ -106,7 +106,7 @@ first_place rows root receiver source group =
     option_or (cond root (Some at.Root) None) (
     option_or (option_map (λ k. at.Receiver k) (position_from receiver 0 (firsts Receivers rows))) (
     option_or (option_map (λ k. at.Source k) (position_from source 0 (firsts Sources rows)))
-    (option_map (λ k. at.Group k) (position_from group 0 (firsts Groups rows)))))
+    (option_map (λ k. at.Group k) (position_from group 0 (groups_of rows)))))
 
 root_or : (a b : Bool) (d : Data) (o : Option Stop) (later : Option TablePlace) → a ≡ b → place_of o ≡ later
     → place_of (cond a (Some (at.Root, d)) o) ≡ option_or (cond b (Some at.Root) None) later
@@ -128,11 +128,11 @@ found_in_walk rows p root receiver source group tests =
     ap (λ ds. place_of (find p (numbered array.Receivers ds))) is.receivers ∙ found_row array.Receivers p receiver_tree receiver tests.at_receiver 0 (firsts Receivers rows) in
     let of_sources : place_of (find p ss) ≡ option_map (λ k. at.Source k) (position_from source 0 (firsts Sources rows)) =
     ap (λ ds. place_of (find p (numbered array.Sources ds))) is.sources ∙ found_row array.Sources p source_tree source tests.at_source 0 (firsts Sources rows) in
-    let of_groups : place_of (find p gs) ≡ option_map (λ k. at.Group k) (position_from group 0 (firsts Groups rows)) =
-    ap (λ ds. place_of (find p (flat_map group_stops (enumerate_from 0 ds)))) is.groups ∙ found_group rows p group tests.at_group tests.at_output 0 (firsts Groups rows) in
+    let of_groups : place_of (find p gs) ≡ option_map (λ k. at.Group k) (position_from group 0 (groups_of rows)) =
+    ap (λ ds. place_of (find p (flat_map group_stops (enumerate_from 0 ds)))) is.groups ∙ found_group rows p group tests.at_group tests.at_output 0 (groups_of rows) in
     let R : Option TablePlace = option_map (λ k. at.Receiver k) (position_from receiver 0 (firsts Receivers rows)) in
     let S : Option TablePlace = option_map (λ k. at.Source k) (position_from source 0 (firsts Sources rows)) in
-    let G : Option TablePlace = option_map (λ k. at.Group k) (position_from group 0 (firsts Groups rows)) in
+    let G : Option TablePlace = option_map (λ k. at.Group k) (position_from group 0 (groups_of rows)) in
     let two : place_of (find p (rs ++ ss)) ≡ option_or R S = ap place_of (find-append p rs ss) ∙ place_or (find p rs) (find p ss) ∙ ap₂ option_or of_receivers of_sources in
     let three : place_of (find p ((rs ++ ss) ++ gs)) ≡ option_or R (option_or S G) =
     ap place_of (find-append p (rs ++ ss) gs) ∙ place_or (find p (rs ++ ss)) (find p gs) ∙ ap₂ option_or two of_groups ∙ or_assoc R S G in
@@ -140,7 +140,7 @@ found_in_walk rows p root receiver source group tests =
 
 -- a kind that is nowhere
 found_nowhere : (rows : List ImportRow) (p : Stop → Bool) → Tests rows p false never never never → place_of (find p (walk (table (root_members rows)))) ≡ None
-found_nowhere rows p tests = found_in_walk rows p false never never never tests ∙ rw (never_found 0 (firsts Receivers rows), never_found 0 (firsts Sources rows), never_found 0 (firsts Groups rows)) refl
+found_nowhere rows p tests = found_in_walk rows p false never never never tests ∙ rw (never_found 0 (firsts Receivers rows), never_found 0 (firsts Sources rows), never_found 0 (groups_of rows)) refl
 
 -- ---- the shape of the tables
 
@@ -252,7 +252,7 @@ filter_count (w ∷ ws) name = ap length (elements-items_of (map (λ t. string t
 
 -- too many receivers, sources or groups
 abbrev too_many : List ImportRow → Bool
-too_many rows = has_too_many_parts (length (firsts Receivers rows)) (length (firsts Sources rows)) (length (firsts Groups rows))
+too_many rows = has_too_many_parts (length (firsts Receivers rows)) (length (firsts Sources rows)) (length (groups_of rows))
 
 counts : (rows : List ImportRow) → Tests rows (stands (root_of rows) kind.TooMany) (too_many rows) has_too_many_filters never (has_too_many_outputs rows)
 unfolding stands too_many_at receiver_tree
@@ -260,7 +260,7 @@ counts rows =
     let is : IsRoot (root_of rows) rows = is_root rows in
     let receivers = ap length is.receivers ∙ length-map (firsts Receivers rows) receiver_tree in
     let sources = ap length is.sources ∙ length-map (firsts Sources rows) source_tree in
-    let groups = ap length is.groups ∙ length-map (firsts Groups rows) (group_tree rows) in
+    let groups = ap length is.groups ∙ length-map (groups_of rows) (group_tree rows) in
     record {
       at_root = ap₂ (λ a b. a || b) (ap₂ (λ a b. nat_lt 16 a || nat_lt 256 b) receivers sources) (ap (nat_lt 8) groups);
       at_receiver = λ k row. ap (nat_lt 32) (filter_count (words row.texts.filters) row.texts.receiver);
@@ -304,8 +304,8 @@ limit_fault_is_first rows f h =
     let later : List FaultKind = kind.Name ∷ kind.DuplicateName ∷ kind.Label ∷ kind.Sdi ∷ kind.Interval ∷ kind.UnknownName ∷ kind.DuplicateSource ∷ kind.DuplicateOutput ∷ kind.EmptyGroup ∷ kind.Hold ∷ [] in
     let rest : Option (FaultKind × TablePlace) = first (flat_map (faults_of root) later) in
     let receiver : Option ℕ = position_from has_too_many_filters 0 (firsts Receivers rows) in
-    let group : Option ℕ = position_from (has_too_many_outputs rows) 0 (firsts Groups rows) in
-    let rate : Option ℕ = position_from has_wrong_rate 0 (firsts Groups rows) in
+    let group : Option ℕ = position_from (has_too_many_outputs rows) 0 (groups_of rows) in
+    let rate : Option ℕ = position_from has_wrong_rate 0 (groups_of rows) in
     let rates_first : first_place rows false never never has_wrong_rate ≡ option_map (λ n. at.Group n) rate = rw (never_found 0 (firsts Receivers rows), never_found 0 (firsts Sources rows)) refl in
     let counts_first : first_place rows (too_many rows) has_too_many_filters never (has_too_many_outputs rows)
     ≡ option_or (cond (too_many rows) (Some at.Root) None) (option_or (option_map (λ n. at.Receiver n) receiver) (option_map (λ n. at.Group n) group)) =

@@ -1,6 +1,6 @@
 -- The numbers of rows that are imported are in their ranges.
-use Rattle.std.proofs.Common.{◌≡◌, ℕ, ◌^◌, ◌<◌, ◌≤◌, ◌-◌, ◌++◌, ◌∷◌, [], Bool, true, false, List, length, Option, None, Some, Result, Ok, Err, ap, refl, subst, arith}
-use Rattle.std.specs.Prelude.{IfSome, codes, if◌then◌else◌, nat_le, nat_lt, ◌==◌, ◌||◌, ◌&&◌}
+use Rattle.std.proofs.Common.{◌≡◌, ℕ, ◌^◌, ◌<◌, ◌≤◌, ◌-◌, ◌++◌, ◌∷◌, [], Bool, true, false, List, length, Option, None, Some, Result, Ok, Err, ap, refl, subst, arith, eqb-true, inl, inr, ◌+◌, ◌*◌, drop, take}
+use Rattle.std.specs.Prelude.{IfSome, codes, if◌then◌else◌, nat_le, nat_lt, position, ◌==◌, ◌||◌, ◌&&◌}
 use Rattle.std.specs.Option.{ok_or, option_and_then, option_map}
 use Rattle.std.specs.List.{AllByRecursion}
 use Rattle.std.specs.Str.{bytes_eq}
@@ -9,14 +9,16 @@ use Rattle.std.proofs.lemmas.Option.{cond_some}
 use Rattle.csv.specs.Records.{fields_of}
 use Rattle.a429_word.specs.Decimal.{decimal_number}
 use Rattle.a429_word.proofs.LabelTexts.{written}
+use Rattle.a429_word.proofs.Lists.{or_parts}
 use Rattle.a429_import.specs.declared.fault.ImportColumn.{ImportColumn}
 use Rattle.a429_import.specs.declared.fault.ImportColumn.TheVariants.{Rate, Label, Sdi, MinUs, MaxUs, Hold}
 use Rattle.a429_import.specs.declared.lines.CsvLine.{CsvLine}
 use Rattle.a429_import.specs.declared.rows.ImportRow.{ImportRow}
 use Rattle.a429_import.specs.declared.rows.RowNumbers.{RowNumbers}
 use Rattle.a429_import.specs.declared.rows.RowTexts.{RowTexts}
-use Rattle.a429_import.specs.ImportFields.{in_32_bits, number_in, padded, label_in, is_sdi_digit, sdi_digit, sdi_in, hold_in}
-use Rattle.a429_import.specs.ImportRows.{◌>>=◌, CsvFault, column_field, numbers_of, texts_of, joined, row_of, first_clash, agreed, next_row, rows_after, unless_wrong, rows_stated, wrong_column}
+use Rattle.a429_import.specs.ImportFields.{if_group, in_32_bits, interval_in, micros_in, is_any, is_bit, is_high, is_low, is_mark, label_in, millis_in, number_in, padded, parted_millis, rate_in, sdi_digits, sdi_in, hold_in, together}
+use Rattle.a429_import.specs.ImportWords.{unwrapped}
+use Rattle.a429_import.specs.ImportRows.{◌>>=◌, CsvFault, column_field, is_column_in_millis, names_group, numbers_of, texts_of, joined, row_of, first_clash, agreed, next_row, rows_after, unless_wrong, rows_stated, says_nothing, with_row, wrong_column}
 
 -- those of a row
 pub record AreInRange (n : RowNumbers) : Type 0 where
@@ -39,9 +41,9 @@ number_in_range field n h = in_bits (decimal_number field) n h
 
 label_in_range : (field : List ℕ) (n : ℕ) → label_in field ≡ Some n → n < 256
 unfolding label_in
-label_in_range field n h = (written (padded field) n h).0
+label_in_range field n h = (written (padded (unwrapped field)) n h).0
 
-digit_in_range : (digit : ℕ) (sdi : Option ℕ) → is_sdi_digit digit ≡ Some sdi → IfSome sdi (λ k. k < 4)
+digit_in_range : (digit : ℕ) (sdi : Option ℕ) → (if nat_le 48 digit && nat_le digit 51 then Some (Some (digit - 48)) else None) ≡ Some sdi → IfSome sdi (λ k. k < 4)
 digit_in_range digit sdi h =
     let (within, same) = cond_some (nat_le 48 digit && nat_le digit 51) (Some (digit - 48)) sdi h in
     let few : digit ≤ 51 = leb-true digit 51 (and_parts (nat_le 48 digit) (nat_le digit 51) within).1 in
@@ -49,19 +51,63 @@ digit_in_range digit sdi h =
     let below : digit - 48 < 4 = omega arith in
     subst P same below
 
-one_digit : (field : List ℕ) (sdi : Option ℕ) → sdi_digit field ≡ Some sdi → IfSome sdi (λ k. k < 4)
-one_digit [] sdi h = cc
-one_digit (digit ∷ []) sdi h = digit_in_range digit sdi h
-one_digit (a ∷ b ∷ more) sdi h = cc
+bit_few : (digit : ℕ) → is_bit digit ≡ true → digit ≤ 49
+bit_few digit is = elim (or_parts (digit == 48) (digit == 49) is) [
+  | inl zero ↦ omega (arith, eqb-true digit 48 zero)
+  | inr one ↦ omega (arith, eqb-true digit 49 one)
+]
 
-any_or : (any : Bool) (field : List ℕ) (sdi : Option ℕ) → (if any then Some None else sdi_digit field) ≡ Some sdi → IfSome sdi (λ k. k < 4)
+bits_in_range : (high low : ℕ) (sdi : Option ℕ) → (if is_bit high && is_bit low then Some (Some (2 * (high - 48) + (low - 48))) else None) ≡ Some sdi → IfSome sdi (λ k. k < 4)
+bits_in_range high low sdi h =
+    let (both, same) = cond_some (is_bit high && is_bit low) (Some (2 * (high - 48) + (low - 48))) sdi h in
+    let bits = and_parts (is_bit high) (is_bit low) both in
+    let P : Option ℕ → Type 0 = λ o. IfSome o (λ k. k < 4) in
+    let below : 2 * (high - 48) + (low - 48) < 4 = omega (arith, bit_few high bits.0, bit_few low bits.1) in
+    subst P same below
+
+digits_in_range : (field : List ℕ) (sdi : Option ℕ) → sdi_digits field ≡ Some sdi → IfSome sdi (λ k. k < 4)
+digits_in_range [] sdi h = cc
+digits_in_range (digit ∷ []) sdi h = digit_in_range digit sdi h
+digits_in_range (high ∷ low ∷ []) sdi h = bits_in_range high low sdi h
+digits_in_range (a ∷ b ∷ d ∷ more) sdi h = cc
+
+any_or : (any : Bool) (field : List ℕ) (sdi : Option ℕ) → (if any then Some None else sdi_digits field) ≡ Some sdi → IfSome sdi (λ k. k < 4)
 any_or true field None h = tt
 any_or true field (Some n) h = cc
-any_or false field sdi h = one_digit field sdi h
+any_or false field sdi h = digits_in_range field sdi h
 
 sdi_in_range : (field : List ℕ) (sdi : Option ℕ) → sdi_in field ≡ Some sdi → IfSome sdi (λ k. k < 4)
 unfolding sdi_in
-sdi_in_range field sdi h = any_or (bytes_eq field (codes "any")) field sdi h
+sdi_in_range field sdi h = any_or (is_any (unwrapped field)) (unwrapped field) sdi h
+
+words_or : (high low : Bool) (field : List ℕ) (n : ℕ) → (if high then Some 100000 else if low then Some 12500 else number_in field) ≡ Some n → n < 2 ^ 32
+words_or true low field n h = let same : 100000 ≡ n = cc in omega (arith, same)
+words_or false true field n h = let same : 12500 ≡ n = cc in omega (arith, same)
+words_or false false field n h = number_in_range field n h
+
+rate_in_range : (field : List ℕ) (n : ℕ) → rate_in field ≡ Some n → n < 2 ^ 32
+unfolding rate_in
+rate_in_range field n h = words_or (is_high field) (is_low field) field n h
+
+together_in_range : (millis micros : Option ℕ) (n : ℕ) → together millis micros ≡ Some n → n < 2 ^ 32
+together_in_range None micros n h = cc
+together_in_range (Some a) None n h = cc
+together_in_range (Some a) (Some b) n h =
+    let (less, same) = cond_some (nat_lt a 4294967 && nat_lt b 1000) (a * 1000 + b) n h in
+    let parts = and_parts (nat_lt a 4294967) (nat_lt b 1000) less in
+    omega (arith, same, ltb-true a 4294967 parts.0, ltb-true b 1000 parts.1)
+
+parted_in_range : (field : List ℕ) (place : Option ℕ) (n : ℕ) → parted_millis field place ≡ Some n → n < 2 ^ 32
+parted_in_range field None n h = together_in_range (decimal_number field) (Some 0) n h
+parted_in_range field (Some place) n h = together_in_range (decimal_number (take place field)) (micros_in (drop (place + 1) field)) n h
+
+millis_in_range : (separator : ℕ) (field : List ℕ) (n : ℕ) → millis_in separator field ≡ Some n → n < 2 ^ 32
+unfolding millis_in
+millis_in_range separator field n h = parted_in_range field (position (is_mark separator) field) n h
+
+interval_in_range : (in_millis : Bool) (separator : ℕ) (field : List ℕ) (n : ℕ) → interval_in in_millis separator field ≡ Some n → n < 2 ^ 32
+interval_in_range true separator field n h = millis_in_range separator field n h
+interval_in_range false separator field n h = number_in_range field n h
 
 stated_hold : (o : Option ℕ) (hold : Option ℕ) → ((n : ℕ) → o ≡ Some n → n < 2 ^ 32) → option_map (λ n. Some n) o ≡ Some hold → IfSome hold (λ k. k < 2 ^ 32)
 stated_hold None hold small h = cc
@@ -76,6 +122,27 @@ none_or false field hold h = stated_hold (number_in field) hold (number_in_range
 hold_in_range : (field : List ℕ) (hold : Option ℕ) → hold_in field ≡ Some hold → IfSome hold (λ k. k < 2 ^ 32)
 unfolding hold_in
 hold_in_range field hold h = none_or ((length field == 0) || bytes_eq field (codes "none")) field hold h
+
+zero_or : (empty : Bool) (n : ℕ) → (if empty then Some 0 else None) ≡ Some n → n < 2 ^ 32
+zero_or true n h = let same : 0 ≡ n = cc in omega (arith, same)
+zero_or false n h = cc
+
+none_if : (empty : Bool) (hold : Option ℕ) → ◌≡◌ {A = Option (Option ℕ)} (if empty then Some None else None) (Some hold) → IfSome hold (λ k. k < 2 ^ 32)
+none_if true None h = tt
+none_if true (Some n) h = cc
+none_if false hold h = cc
+
+rate_if : (named : Bool) (field : List ℕ) (n : ℕ) → if_group named rate_in 0 field ≡ Some n → n < 2 ^ 32
+rate_if true field n h = rate_in_range field n h
+rate_if false field n h = zero_or (length field == 0) n h
+
+interval_if : (named in_millis : Bool) (separator : ℕ) (field : List ℕ) (n : ℕ) → if_group named (interval_in in_millis separator) 0 field ≡ Some n → n < 2 ^ 32
+interval_if true in_millis separator field n h = interval_in_range in_millis separator field n h
+interval_if false in_millis separator field n h = zero_or (length field == 0) n h
+
+hold_if : (named : Bool) (field : List ℕ) (hold : Option ℕ) → if_group named hold_in None field ≡ Some hold → IfSome hold (λ k. k < 2 ^ 32)
+hold_if true field hold h = hold_in_range field hold h
+hold_if false field hold h = none_if (length field == 0) hold h
 
 -- ---- a row
 
@@ -96,9 +163,9 @@ found (Some x) c a h = let same : x ≡ a = cc in ap (λ y. Some y) same
 pub same_ok : {A E : Type 0} (a b : A) → ◌≡◌ {A = Result A E} (Ok a) (Ok b) → a ≡ b
 same_ok a b h = cc
 
-numbers_in_range : (heading fields : List (List ℕ)) (n : RowNumbers) → numbers_of heading fields ≡ Ok n → AreInRange n
+numbers_in_range : (separator : ℕ) (heading fields : List (List ℕ)) (n : RowNumbers) → numbers_of separator heading fields ≡ Ok n → AreInRange n
 unfolding numbers_of
-numbers_in_range heading fields n h =
+numbers_in_range separator heading fields n h =
     let at = column_field heading fields in
     let rate = bound _ _ n h in
     let label = bound _ _ n rate.gives in
@@ -108,12 +175,12 @@ numbers_in_range heading fields n h =
     let hold = bound _ _ n most.gives in
     let same = same_ok _ n hold.gives in
     subst AreInRange same (record {
-      rate = number_in_range (at Rate) rate.value (found _ Rate rate.value rate.was);
+      rate = rate_if (names_group heading fields) (at Rate) rate.value (found _ Rate rate.value rate.was);
       label = label_in_range (at Label) label.value (found _ Label label.value label.was);
       sdi = sdi_in_range (at Sdi) sdi.value (found _ Sdi sdi.value sdi.was);
-      least = number_in_range (at MinUs) least.value (found _ MinUs least.value least.was);
-      most = number_in_range (at MaxUs) most.value (found _ MaxUs most.value most.was);
-      hold = hold_in_range (at Hold) hold.value (found _ Hold hold.value hold.was);
+      least = interval_if (names_group heading fields) (is_column_in_millis heading MinUs) separator (at MinUs) least.value (found _ MinUs least.value least.was);
+      most = interval_if (names_group heading fields) (is_column_in_millis heading MaxUs) separator (at MaxUs) most.value (found _ MaxUs most.value most.was);
+      hold = hold_if (names_group heading fields) (at Hold) hold.value (found _ Hold hold.value hold.was);
     })
 
 joined_in_range : (line : ℕ) (numbers : Result RowNumbers ImportColumn) (texts : Result RowTexts ImportColumn) (row : ImportRow)
@@ -130,7 +197,7 @@ row_in_range : (heading : List (List ℕ)) (line : CsvLine) (row : ImportRow) �
 unfolding row_of
 row_in_range heading line row h =
     let fields = fields_of line.fields in
-    joined_in_range line.number (numbers_of heading fields) (texts_of heading fields) row (numbers_in_range heading fields) (long_enough (length fields == length heading) _ _ row h)
+    joined_in_range line.number (numbers_of line.separator heading fields) (texts_of heading fields) row (numbers_in_range line.separator heading fields) (long_enough (length fields == length heading) _ _ row h)
 
 -- ---- all rows
 
@@ -151,18 +218,25 @@ one_more : (rows : List ImportRow) (row : ImportRow) → HaveRanges rows → Are
 one_more [] row all here = (here, tt)
 one_more (r ∷ rows) row all here = (all.0, one_more rows row all.1 here)
 
+with_one : (rows : List ImportRow) (row : ImportRow) → HaveRanges rows → AreInRange row.numbers → HaveRanges (with_row rows row)
+with_one rows row all here = by (says_nothing rows row)
+  where
+    by : (b : Bool) → HaveRanges (if b then rows else rows ++ row ∷ [])
+    by true = all
+    by false = one_more rows row all here
+
 after_in_range : (heading : List (List ℕ)) (lines : List CsvLine) (earlier rows : List ImportRow) → HaveRanges earlier → rows_after heading earlier lines ≡ Ok rows → HaveRanges rows
 after_in_range heading [] earlier rows all h = subst HaveRanges (same_ok earlier rows h) all
 after_in_range heading (line ∷ lines) earlier rows all h =
-    let next = bound (next_row heading earlier line) (λ row. rows_after heading (earlier ++ row ∷ []) lines) rows h in
-    after_in_range heading lines (earlier ++ next.value ∷ []) rows (one_more earlier next.value all (next_in_range heading earlier line next.value next.was)) next.gives
+    let next = bound (next_row heading earlier line) (λ row. rows_after heading (with_row earlier row) lines) rows h in
+    after_in_range heading lines (with_row earlier next.value) rows (with_one earlier next.value all (next_in_range heading earlier line next.value next.was)) next.gives
 
-below_in_range : (heading : List (List ℕ)) (lines : List CsvLine) (o : Option ImportColumn) (rows : List ImportRow) → unless_wrong heading lines o ≡ Ok rows → HaveRanges rows
-below_in_range heading lines None rows h = after_in_range heading lines [] rows tt h
+below_in_range : (heading : CsvLine) (lines : List CsvLine) (o : Option ImportColumn) (rows : List ImportRow) → unless_wrong heading lines o ≡ Ok rows → HaveRanges rows
+below_in_range heading lines None rows h = after_in_range (fields_of heading.fields) lines [] rows tt h
 below_in_range heading lines (Some c) rows h = cc
 
 -- the rows that lines state have numbers in range
 pub stated_in_range : (lines : List CsvLine) (rows : List ImportRow) → rows_stated lines ≡ Ok rows → HaveRanges rows
 unfolding rows_stated
 stated_in_range [] rows h = cc
-stated_in_range (heading ∷ lines) rows h = below_in_range (fields_of heading.fields) lines (wrong_column (fields_of heading.fields)) rows h
+stated_in_range (heading ∷ lines) rows h = below_in_range heading lines (wrong_column (fields_of heading.fields)) rows h

@@ -1,8 +1,9 @@
 -- What is known of lines, after one more line.
-use Rattle.std.proofs.Common.{◌≡◌, ◌∙◌, ℕ, List, [], ◌∷◌, ◌++◌, Option, None, Some, option_map, Result, Ok, Err, true, ap, refl, subst, sym}
-use Rattle.std.specs.Prelude.{is_some}
+use Rattle.std.proofs.Common.{◌≡◌, ◌∙◌, ℕ, List, [], ◌∷◌, ◌++◌, Option, None, Some, option_map, Result, Ok, Err, Bool, true, false, ap, append-nil, refl, subst, sym}
+use Rattle.std.specs.Prelude.{filter, is_some}
 use Rattle.std.specs.Result.{result_err, result_ok}
 use Rattle.csv.specs.Records.{fields_of}
+use Rattle.a429_import.specs.declared.columns.Heading.{Heading}
 use Rattle.a429_import.specs.declared.fault.CsvFaultKind.TheVariants.{Column}
 use Rattle.a429_import.specs.declared.fault.ImportColumn.{ImportColumn}
 use Rattle.a429_import.specs.declared.fault.ImportColumn.TheVariants.{Group}
@@ -13,8 +14,8 @@ use Rattle.a429_import.specs.declared.reading.LinesRead.{LinesRead}
 use Rattle.a429_import.specs.declared.rows.ImportRow.{ImportRow}
 use Rattle.a429_import.specs.ImportClashes.{Agree}
 use Rattle.a429_import.specs.ImportReading.{AreRead, HasRows, HaveFault, HaveRows, IsTaken, SayRows, with_line}
-use Rattle.a429_import.specs.ImportRows.{◌>>=◌, CsvFault, next_row, rows_after, rows_stated, unless_wrong, wrong_column}
-use Rattle.a429_import.specs.Imports.{IsImportOf, States}
+use Rattle.a429_import.specs.ImportRows.{◌>>=◌, CsvFault, next_row, rows_after, rows_stated, unless_wrong, with_row, wrong_column}
+use Rattle.a429_import.specs.Imports.{IsImportOf, States, has_text}
 
 -- a result that succeeds
 pub ok_is : {A E : Type 0} (r : Result A E) (a : A) → Some a ≡ result_ok r → r ≡ Ok a
@@ -26,7 +27,7 @@ ok_is (Err e) a h = cc
 pub line_refused : {X : Type 0} (view : X → List ImportRow) (heading : List (List ℕ)) (earlier : List ImportRow) (line : CsvLine) (e : ImportFault)
     → States {X = ImportRow} (λ row. row) (Err e) (next_row heading earlier line) → States view (Err e) (with_line heading earlier line)
 line_refused view heading earlier line NoMemory h = tt
-line_refused view heading earlier line (Csv number kind column) h = ap (λ (r : Result ImportRow CsvFault). r >>= λ row. Ok (earlier ++ row ∷ [])) h
+line_refused view heading earlier line (Csv number kind column) h = ap (λ (r : Result ImportRow CsvFault). r >>= λ row. Ok (with_row earlier row)) h
 line_refused view heading earlier line (Table f) h = absurd h
 
 after_both : {A B C E : Type 0} (r : Result A E) (f : A → Result C E) (g : A → Result B E) (h : B → Result C E) → ((a : A) → f a ≡ (g a >>= h)) → (r >>= f) ≡ ((r >>= g) >>= h)
@@ -37,41 +38,49 @@ pub rows_after-push : (heading : List (List ℕ)) (earlier : List ImportRow) (li
     → rows_after heading earlier (lines ++ line ∷ []) ≡ (rows_after heading earlier lines >>= λ rows. with_line heading rows line)
 rows_after-push heading earlier [] line = refl
 rows_after-push heading earlier (l ∷ lines) line =
-    after_both (next_row heading earlier l) (λ row. rows_after heading (earlier ++ row ∷ []) (lines ++ line ∷ [])) (λ row. rows_after heading (earlier ++ row ∷ []) lines) (λ rows. with_line heading rows line)
-    (λ row. rows_after-push heading (earlier ++ row ∷ []) lines line)
+    after_both (next_row heading earlier l) (λ row. rows_after heading (with_row earlier row) (lines ++ line ∷ [])) (λ row. rows_after heading (with_row earlier row) lines) (λ rows. with_line heading rows line)
+    (λ row. rows_after-push heading (with_row earlier row) lines line)
 
 -- ---- a fault stays
 
-refused_stays : (heading : List (List ℕ)) (below : List CsvLine) (line : CsvLine) (wrong : Option ImportColumn) (f : CsvFault)
+refused_stays : (heading : CsvLine) (below : List CsvLine) (line : CsvLine) (wrong : Option ImportColumn) (f : CsvFault)
     → unless_wrong heading below wrong ≡ Err f → unless_wrong heading (below ++ line ∷ []) wrong ≡ Err f
-refused_stays heading below line None f h = rows_after-push heading [] below line ∙ ap (λ (r : Result (List ImportRow) CsvFault). r >>= λ rows. with_line heading rows line) h
+refused_stays heading below line None f h =
+    rows_after-push (fields_of heading.fields) [] below line ∙ ap (λ (r : Result (List ImportRow) CsvFault). r >>= λ rows. with_line (fields_of heading.fields) rows line) h
 refused_stays heading below line (Some column) f h = h
 
 pub fault_stays : (e : ImportFault) (lines : List CsvLine) (line : CsvLine) → HaveFault e lines → HaveFault e (lines ++ line ∷ [])
 unfolding rows_stated
 fault_stays e [] line h = absurd h
 fault_stays NoMemory (heading ∷ below) line h = tt
-fault_stays (Csv number kind column) (heading ∷ below) line h = refused_stays (fields_of heading.fields) below line (wrong_column (fields_of heading.fields)) (number, kind, column) h
+fault_stays (Csv number kind column) (heading ∷ below) line h = refused_stays heading below line (wrong_column (fields_of heading.fields)) (number, kind, column) h
 fault_stays (Table f) (heading ∷ below) line h = absurd h
 
 -- ---- the heading
 
-abbrev fault_of : Option ImportColumn → Option ImportFault
-fault_of o = option_map (λ column. Csv 1 Column (Some column)) o
+abbrev fault_of : ℕ → Option ImportColumn → Option ImportFault
+fault_of number o = option_map (λ column. Csv number Column (Some column)) o
 
-heading_by : (new : LinesRead) (line : CsvLine) (wrong : Option ImportColumn) → wrong_column (fields_of line.fields) ≡ wrong → new.heading ≡ Some line → HasRows new.rows [] → AreRead (fault_of wrong) new (line ∷ [])
+heading_by : (new : LinesRead) (heading : Heading) (wrong : Option ImportColumn) → wrong_column (fields_of heading.line.fields) ≡ wrong → new.heading ≡ Some heading → HasRows new.rows []
+    → AreRead (fault_of heading.line.number wrong) new (heading.line ∷ [])
 unfolding rows_stated
-heading_by new line None is headed empty =
-    let P : Option CsvLine → Type 0 = λ o. HaveRows o new (line ∷ []) in
+heading_by new heading None is headed empty =
+    let P : Option Heading → Type 0 = λ o. HaveRows o new (heading.line ∷ []) in
     subst P (sym headed) ([], refl, record { named = is; rows = []; stated = refl; agree = tt; has = empty })
-heading_by new line (Some column) is headed empty = ap (unless_wrong (fields_of line.fields) []) is
+heading_by new heading (Some column) is headed empty = ap (unless_wrong heading.line []) is
 
-pub heading_read : (old new : LinesRead) (line : CsvLine) (lines : List CsvLine) (fault : Option ImportFault) → HaveRows None old lines → new.heading ≡ Some line → new.rows ≡ old.rows
-    → fault ≡ fault_of (wrong_column (fields_of line.fields)) → AreRead fault new (lines ++ line ∷ [])
-heading_read old new line lines fault known headed rows is =
+heading_only : (old new : LinesRead) (heading : Heading) (lines : List CsvLine) (fault : Option ImportFault) → HaveRows None old lines → new.heading ≡ Some heading → new.rows ≡ old.rows
+    → fault ≡ fault_of heading.line.number (wrong_column (fields_of heading.line.fields)) → AreRead fault new (lines ++ heading.line ∷ [])
+heading_only old new heading lines fault known headed rows is =
     let empty : HasRows new.rows [] = subst (λ r. HasRows r []) (sym rows) known.1 in
-    let P : Option ImportFault → Type 0 = λ f. AreRead f new (line ∷ []) in
-    subst (λ ls. AreRead fault new (ls ++ line ∷ [])) (sym known.0) (subst P (sym is) (heading_by new line (wrong_column (fields_of line.fields)) refl headed empty))
+    let P : Option ImportFault → Type 0 = λ f. AreRead f new (heading.line ∷ []) in
+    subst (λ ls. AreRead fault new (ls ++ heading.line ∷ [])) (sym known.0) (subst P (sym is) (heading_by new heading (wrong_column (fields_of heading.line.fields)) refl headed empty))
+
+pub heading_read : (old new : LinesRead) (heading : Heading) (line : CsvLine) (lines : List CsvLine) (fault : Option ImportFault) → HaveRows None old lines → new.heading ≡ Some heading → heading.line ≡ line
+    → new.rows ≡ old.rows → fault ≡ fault_of line.number (wrong_column (fields_of line.fields)) → AreRead fault new (lines ++ line ∷ [])
+heading_read old new heading line lines fault known headed of rows is =
+    subst (λ (l : CsvLine). AreRead fault new (lines ++ l ∷ [])) of
+    (heading_only old new heading lines fault known headed rows (is ∙ ap (λ (l : CsvLine). fault_of l.number (wrong_column (fields_of l.fields))) (sym of)))
 
 -- ---- a row
 
@@ -79,7 +88,7 @@ module _ (heading : CsvLine) (below : List CsvLine) (old : LinesRead) (line : Cs
   stated : rows_stated (heading ∷ below ++ line ∷ []) ≡ with_line (fields_of heading.fields) known.rows line
   unfolding rows_stated
   stated =
-      ap (unless_wrong (fields_of heading.fields) (below ++ line ∷ [])) known.named ∙ rows_after-push (fields_of heading.fields) [] below line
+      ap (unless_wrong heading (below ++ line ∷ [])) known.named ∙ rows_after-push (fields_of heading.fields) [] below line
       ∙ ap (λ (r : Result (List ImportRow) CsvFault). r >>= λ rows. with_line (fields_of heading.fields) rows line) known.stated
 
   -- a row without a fault
@@ -98,13 +107,13 @@ module _ (heading : CsvLine) (below : List CsvLine) (old : LinesRead) (line : Cs
   row_refused (Table f) h = absurd h
 
 -- one more line, which may have a fault
-pub line_read : (heading : CsvLine) (old new : LinesRead) (line : CsvLine) (lines : List CsvLine) (result : Result (Unit {0}) ImportFault) (known : HaveRows (Some heading) old lines) → new.heading ≡ Some heading
-    → IsTaken result new.rows (with_line (fields_of heading.fields) known.2.rows line) → AreRead (result_err result) new (lines ++ line ∷ [])
+pub line_read : (heading : Heading) (old new : LinesRead) (line : CsvLine) (lines : List CsvLine) (result : Result (Unit {0}) ImportFault) (known : HaveRows (Some heading) old lines) → new.heading ≡ Some heading
+    → IsTaken result new.rows (with_line (fields_of heading.line.fields) known.2.rows line) → AreRead (result_err result) new (lines ++ line ∷ [])
 line_read heading old new line lines (Ok u) known headed (rows, is, agree, has) =
-    let P : Option CsvLine → Type 0 = λ o. HaveRows o new (heading ∷ known.0 ++ line ∷ []) in
-    subst (λ ls. AreRead None new (ls ++ line ∷ [])) (sym known.1) (subst P (sym headed) (known.0 ++ line ∷ [], refl, row_said heading known.0 old line known.2 new rows is agree has))
+    let P : Option Heading → Type 0 = λ o. HaveRows o new (heading.line ∷ known.0 ++ line ∷ []) in
+    subst (λ ls. AreRead None new (ls ++ line ∷ [])) (sym known.1) (subst P (sym headed) (known.0 ++ line ∷ [], refl, row_said heading.line known.0 old line known.2 new rows is agree has))
 line_read heading old new line lines (Err e) known headed is =
-    subst (λ ls. HaveFault e (ls ++ line ∷ [])) (sym known.1) (row_refused heading known.0 old line known.2 e is)
+    subst (λ ls. HaveFault e (ls ++ line ∷ [])) (sym known.1) (row_refused heading.line known.0 old line known.2 e is)
 
 -- lines after one with a fault
 pub line_skipped : (fault : Option ImportFault) (old new : LinesRead) (lines : List CsvLine) (line : CsvLine) → is_some fault ≡ true → AreRead fault old lines → AreRead fault new (lines ++ line ∷ [])
@@ -120,12 +129,23 @@ no_lines read lines e known is =
     let empty : IsImportOf none (Err (Csv 1 Column (Some Group))) = refl in
     subst (λ ls. IsImportOf ls (Err e)) (sym known.0) (subst (λ (x : ImportFault). IsImportOf none (Err x)) (sym is) empty)
 
-pub rows_read : (heading : CsvLine) (read : LinesRead) (lines : List CsvLine) (known : HaveRows (Some heading) read lines) → rows_stated lines ≡ Ok known.2.rows
+pub rows_read : (heading : Heading) (read : LinesRead) (lines : List CsvLine) (known : HaveRows (Some heading) read lines) → rows_stated lines ≡ Ok known.2.rows
 unfolding rows_stated
-rows_read heading read lines known = ap rows_stated known.1 ∙ ap (unless_wrong (fields_of heading.fields) known.0) known.2.named ∙ known.2.stated
+rows_read heading read lines known = ap rows_stated known.1 ∙ ap (unless_wrong heading.line known.0) known.2.named ∙ known.2.stated
 
 -- the fault makes no difference
-pub other_fault : (heading : Option CsvLine) (read : LinesRead) (fault : Option ImportFault) (lines : List CsvLine) → HaveRows heading read lines → HaveRows heading (record read { fault = fault }) lines
+pub other_fault : (heading : Option Heading) (read : LinesRead) (fault : Option ImportFault) (lines : List CsvLine) → HaveRows heading read lines → HaveRows heading (record read { fault = fault }) lines
 other_fault None read fault lines known = known
 other_fault (Some heading) read fault lines known =
     (known.0, known.1, record { named = known.2.named; rows = known.2.rows; stated = known.2.stated; agree = known.2.agree; has = known.2.has })
+
+-- ---- rows of empty fields
+
+abbrev is_filled : CsvLine → Bool
+is_filled l = has_text (fields_of l.fields)
+
+pub one_filled : (line : CsvLine) → has_text (fields_of line.fields) ≡ true → filter is_filled (line ∷ []) ≡ line ∷ []
+one_filled line is = rw is refl
+
+pub not_filled : (lines : List CsvLine) (line : CsvLine) → has_text (fields_of line.fields) ≡ false → lines ++ filter is_filled (line ∷ []) ≡ lines
+not_filled lines line is = rw is (append-nil lines)

@@ -22,7 +22,7 @@ use Rattle.a429_table.proofs.Trees.{elements-items_of}
 use Rattle.a429_import.specs.declared.rows.ImportRow.{ImportRow}
 use Rattle.a429_import.specs.declared.firsts.Part.{Part}
 use Rattle.a429_import.specs.declared.firsts.Part.TheVariants.{Receivers, Sources, Groups}
-use Rattle.a429_import.specs.ImportTables.{with_filters, with_hold, sdi_data, number, words, name_in, same_name, is_known, firsts, firsts_after, rows_of_group, receiver_tree, source_tree, output_tree, group_tree, part_trees, root_members, filters_stated, receiver_stated, number_of, source_stated, group_stated, output_stated, outputs_stated, record_stated}
+use Rattle.a429_import.specs.ImportTables.{with_filters, with_hold, sdi_data, number, words, name_in, same_name, is_known, firsts, firsts_after, groups_of, has_group, rows_of_group, receiver_tree, source_tree, output_tree, group_tree, part_trees, root_members, filters_stated, receiver_stated, number_of, source_stated, group_stated, output_stated, outputs_stated, record_stated}
 use Rattle.a429_import.proofs.ImportRanges.{AreInRange, HaveRanges}
 
 -- ---- lists
@@ -47,7 +47,7 @@ kept : {X : Type 0} (P : X → Type 0) (b : Bool) (x : X) (xs : List X) → P x 
 kept P true x xs here all = (here, all)
 kept P false x xs here all = all
 
-all_filtered : {X : Type 0} (P : X → Type 0) (test : X → Bool) (xs : List X) → AllByRecursion P xs → AllByRecursion P (filter test xs)
+pub all_filtered : {X : Type 0} (P : X → Type 0) (test : X → Bool) (xs : List X) → AllByRecursion P xs → AllByRecursion P (filter test xs)
 all_filtered P test [] all = tt
 all_filtered P test (x ∷ xs) all = kept P (test x) x (filter test xs) all.0 (all_filtered P test xs all.1)
 
@@ -136,9 +136,9 @@ module _ (root : Data) (rows : List ImportRow) (is : IsRoot root rows) where
   unfolding group_row group_tree text_at integer_at
   group_is row range = let group : ℕ → GroupRow = λ r. record { name = row.texts.group; rate = r } in ap group (natural-pos (2 ^ 32) row.numbers.rate range.rate)
 
-  rows_are_groups : HaveRanges rows → map (group_row None) (rows_at (codes "group") root) ≡ map group_stated (firsts Groups rows)
+  rows_are_groups : HaveRanges rows → map (group_row None) (rows_at (codes "group") root) ≡ map group_stated (groups_of rows)
   rows_are_groups all =
-      rw is.groups (map_same (group_row None) (group_tree rows) group_stated (firsts Groups rows) (from_all _ _ group_is (firsts Groups rows) (all_firsts _ Groups rows [] all)))
+      rw is.groups (map_same (group_row None) (group_tree rows) group_stated (groups_of rows) (from_all _ _ group_is (groups_of rows) (all_filtered _ has_group (firsts Groups rows) (all_firsts _ Groups rows [] all))))
 
   rows_are_receivers : map receiver_row (rows_at (codes "receiver") root) ≡ map receiver_stated (firsts Receivers rows)
   rows_are_receivers = rw is.receivers (map_same receiver_row receiver_tree receiver_stated (firsts Receivers rows) (of_all _ receiver_is (firsts Receivers rows)))
@@ -181,8 +181,8 @@ module _ (root : Data) (rows : List ImportRow) (is : IsRoot root rows) where
   outputs_are all group =
       rw (outputs_at group) (map_same (output_row root) output_tree (output_stated rows) (rows_of_group rows group) (from_all _ _ output_is (rows_of_group rows group) (all_filtered _ (same_name Groups group) rows all)))
 
-  rows_are_outputs : HaveRanges rows → map (output_rows root) (rows_at (codes "group") root) ≡ map (outputs_stated rows) (firsts Groups rows)
-  rows_are_outputs all = rw is.groups (map_same (output_rows root) (group_tree rows) (outputs_stated rows) (firsts Groups rows) (of_all _ (outputs_are all) (firsts Groups rows)))
+  rows_are_outputs : HaveRanges rows → map (output_rows root) (rows_at (codes "group") root) ≡ map (outputs_stated rows) (groups_of rows)
+  rows_are_outputs all = rw is.groups (map_same (output_rows root) (group_tree rows) (outputs_stated rows) (groups_of rows) (of_all _ (outputs_are all) (groups_of rows)))
 
   stated_from : HaveRanges rows → stated root ≡ record_stated rows
   unfolding stated record_stated

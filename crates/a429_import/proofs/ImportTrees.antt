@@ -4,7 +4,9 @@ use Rattle.std.specs.Prelude.{filter, if◌then◌else◌, slice_get}
 use Rattle.std.specs.Ordering.{is_lt, match_ordering}
 use Rattle.std.specs.BTreeMap.{insert_entry}
 use Rattle.std.specs.String.{string_cmp}
-use Rattle.std.proofs.lemmas.List.{map-append}
+use Rattle.std.proofs.Math.ListN.{drop_of_length-le}
+use Rattle.std.proofs.lemmas.List.{append-nil, map-append}
+use Rattle.std.proofs.lemmas.List.Elements.{filter-append}
 use Rattle.toml.specs.Data.{Data, Members, no_members, member, string, depth, items_depth, members_depth, is_before}
 use Rattle.toml.specs.View.{items_of, members_view, view}
 use Rattle.toml.specs.declared.value.Value.{Value}
@@ -12,7 +14,7 @@ use Rattle.a429_word.proofs.Lists.{clash, drop_at, take_next}
 use Rattle.a429_import.specs.declared.rows.ImportRow.{ImportRow}
 use Rattle.a429_import.specs.declared.firsts.Part.{Part}
 use Rattle.a429_import.specs.declared.firsts.Part.TheVariants.{Receivers, Sources, Groups}
-use Rattle.a429_import.specs.ImportTables.{firsts_after, is_word, listed, part_tree, unless_known, with_filters, with_hold, sdi_data, number, words, firsts, rows_of_group, receiver_tree, source_tree, output_tree, group_tree, root_members}
+use Rattle.a429_import.specs.ImportTables.{firsts_after, groups_of, is_stated, is_word, listed, part_tree, part_trees, unless_known, with_filters, with_hold, sdi_data, number, words, firsts, rows_of_group, receiver_tree, source_tree, output_tree, group_tree, root_members}
 
 abbrev Entry : Type 0
 Entry = String Global × Value
@@ -79,7 +81,7 @@ group_depth rows row = let outputs = listed_depth output_tree 2 output_depth (ro
 pub root_depth : (rows : List ImportRow) → members_depth (root_members rows) ≤ 80
 unfolding root_members
 root_depth rows =
-    let groups = listed_depth (group_tree rows) 4 (group_depth rows) (firsts Groups rows) in
+    let groups = listed_depth (group_tree rows) 4 (group_depth rows) (groups_of rows) in
     let receivers = listed_depth receiver_tree 2 receiver_depth (firsts Receivers rows) in
     let sources = listed_depth source_tree 2 source_depth (firsts Sources rows) in
     omega arith
@@ -132,14 +134,33 @@ firsts_more part rows k row old new whole there so now =
     let others : List ImportRow = firsts_after part (take (k + 1) rows) (drop (k + 1) rows) in
     ap (λ (rs : List ImportRow). rs ++ others) now ∙ append_assoc old first others ∙ ap (λ (rs : List ImportRow). old ++ rs) (sym (firsts_next part rows k row there)) ∙ so
 
--- the same for their tables
+filter_all : {X : Type 0} (xs : List X) → filter (λ x. true) xs ≡ xs
+filter_all [] = refl
+filter_all {X} (x ∷ xs) = ap (λ (ys : List X). x ∷ ys) (filter_all xs)
+
+-- the tables of all are those of the first rows that state them
+pub trees_are : (part : Part) (rows : List ImportRow) → part_trees part rows ≡ map (part_tree part rows) (filter (is_stated part) (firsts part rows))
+trees_are Receivers rows = ap (map receiver_tree) (sym (filter_all (firsts Receivers rows)))
+trees_are Sources rows = ap (map source_tree) (sym (filter_all (firsts Sources rows)))
+trees_are Groups rows = refl
+
+-- the tables of those rows among these
+abbrev pub trees_among : Part → List ImportRow → List ImportRow → List Data
+trees_among part rows these = map (part_tree part rows) (filter (is_stated part) these)
+
+-- one more row, which may be the first of its part
 pub trees_more : (part : Part) (rows : List ImportRow) (k : ℕ) (row : ImportRow) (old new whole : List Data) → slice_get rows k ≡ Some row
-    → old ++ map (part_tree part rows) (firsts_after part (take k rows) (drop k rows)) ≡ whole → new ≡ old ++ map (part_tree part rows) (unless_known part (take k rows) row)
-    → new ++ map (part_tree part rows) (firsts_after part (take (k + 1) rows) (drop (k + 1) rows)) ≡ whole
+    → old ++ trees_among part rows (firsts_after part (take k rows) (drop k rows)) ≡ whole → new ≡ old ++ trees_among part rows (unless_known part (take k rows) row)
+    → new ++ trees_among part rows (firsts_after part (take (k + 1) rows) (drop (k + 1) rows)) ≡ whole
 trees_more part rows k row old new whole there so now =
     let tree : ImportRow → Data = part_tree part rows in
     let first : List ImportRow = unless_known part (take k rows) row in
     let others : List ImportRow = firsts_after part (take (k + 1) rows) (drop (k + 1) rows) in
-    let left : map tree (firsts_after part (take k rows) (drop k rows)) ≡ map tree first ++ map tree others =
-    ap (map tree) (firsts_next part rows k row there) ∙ map-append tree first others in
-    ap (λ (ds : List Data). ds ++ map tree others) now ∙ append_assoc old (map tree first) (map tree others) ∙ ap (λ (ds : List Data). old ++ ds) (sym left) ∙ so
+    let left : trees_among part rows (firsts_after part (take k rows) (drop k rows)) ≡ trees_among part rows first ++ trees_among part rows others =
+    ap (trees_among part rows) (firsts_next part rows k row there) ∙ ap (map tree) (filter-append (is_stated part) first others) ∙ map-append tree (filter (is_stated part) first) (filter (is_stated part) others) in
+    ap (λ (ds : List Data). ds ++ trees_among part rows others) now ∙ append_assoc old (trees_among part rows first) (trees_among part rows others) ∙ ap (λ (ds : List Data). old ++ ds) (sym left) ∙ so
+
+-- no row is left
+pub trees_end : (part : Part) (rows : List ImportRow) (k : ℕ) (old whole : List Data) → length rows ≤ k → old ++ trees_among part rows (firsts_after part (take k rows) (drop k rows)) ≡ whole → old ≡ whole
+trees_end part rows k old whole end is =
+    sym (append-nil old) ∙ sym (ap (λ (left : List ImportRow). old ++ trees_among part rows (firsts_after part (take k rows) left)) (drop_of_length-le rows end)) ∙ is

@@ -15,7 +15,7 @@ use Rattle.a429_import.specs.declared.named_rows.NamedRows.{NamedRows}
 use Rattle.a429_import.specs.declared.rows.ImportRow.{ImportRow}
 use Rattle.a429_import.specs.FirstRows.{first_from}
 use Rattle.a429_import.specs.ImportTables.{firsts, firsts_after, is_known, name_in, unless_known}
-use Rattle.a429_import.specs.Known.{KnowsFirsts}
+use Rattle.a429_import.specs.Known.{KnowsFirsts, found_at}
 use Rattle.a429_import.specs.Names.{IsIndexed, names_of, numbers_of}
 use Rattle.a429_import.proofs.FirstRows.{position_from-push}
 use Rattle.a429_import.proofs.NextRows.{bytes_eq-flip}
@@ -152,6 +152,17 @@ known_at part named rows name place known h =
 
 pub unknown : (part : Part) (named : NamedRows) (rows : List ImportRow) (name : List ℕ) → KnowsFirsts part named rows → position_from (bytes_eq name) 0 (names_of named.names) ≡ None → first_from part name 0 rows ≡ None
 unknown part named rows name known h = sym (known.first name) ∙ ap (option_map (λ p. get_or (numbers_of named.firsts) p 0)) h
+
+found_either : {X Y : Type 0} (f : ℕ → X) (g : ℕ → Y) (o : Option ℕ) → is_some (option_map f o) ≡ is_some (option_map g o)
+found_either f g None = refl
+found_either f g (Some n) = refl
+
+-- a name that is found is that of an earlier row
+pub found_is_known : (part : Part) (named : NamedRows) (rows : List ImportRow) (row : ImportRow) → KnowsFirsts part named rows
+    → is_some (option_map (found_at named) (position_from (bytes_eq (name_in part row)) 0 (names_of named.names))) ≡ is_known part rows row
+found_is_known part named rows row known =
+    found_either (found_at named) (λ p. get_or (numbers_of named.firsts) p 0) (position_from (bytes_eq (name_in part row)) 0 (names_of named.names))
+    ∙ ap is_some (known.first (name_in part row)) ∙ sym (known_if part rows row)
 
 -- ---- one more row
 

@@ -19,7 +19,7 @@ use Rattle.a429_import.specs.declared.named_rows.NamedRows.{NamedRows}
 use Rattle.a429_import.specs.declared.rows.ImportRow.{ImportRow}
 use Rattle.a429_import.specs.FirstRows.{first_from}
 use Rattle.a429_import.specs.ImportLimits.{has_too_many_filters}
-use Rattle.a429_import.specs.ImportTables.{firsts, name_in, same_name}
+use Rattle.a429_import.specs.ImportTables.{firsts, has_group, name_in, same_name}
 use Rattle.a429_import.specs.Known.{KnowsFirsts, KnowsGroups, KnowsReceivers, KnowsSources, one_more, one_output, outputs_of}
 use Rattle.a429_import.specs.Names.{AreTexts, IsIndexed, names_of, numbers_of, texts_of}
 use Rattle.a429_import.proofs.FirstRows.{position_from-push}
@@ -151,8 +151,8 @@ named_at named rows j group knows there =
     ap (λ (ns : List (List ℕ)). slice_get ns j) knows.names ∙ slice_get-map (name_in Groups) (firsts Groups rows) j ∙ ap (λ (o : Option ImportRow). option_map (name_in Groups) o) there
 
 pub groups_counted : (old new : KnownGroups) (rows : List ImportRow) (row : ImportRow) (place : ℕ) → KnowsGroups old rows → position_from (bytes_eq row.texts.group) 0 (names_of old.named.names) ≡ Some place
-    → new.named ≡ old.named → new.rates ≡ old.rates → new.outputs.items ≡ one_more old.outputs.items place → KnowsGroups new (rows ++ row ∷ [])
-groups_counted old new rows row place knows found same_named same_rates counted =
+    → new.named ≡ old.named → new.rates ≡ old.rates → new.flags ≡ old.flags → new.outputs.items ≡ one_more old.outputs.items place → KnowsGroups new (rows ++ row ∷ [])
+groups_counted old new rows row place knows found same_named same_rates same_flags counted =
     let k : IsKnownAt Groups old.named rows row.texts.group place = known_at Groups old.named rows row.texts.group place knows.names found in
     let all : List ImportRow = rows ++ row ∷ [] in
     let fs : List ImportRow = firsts Groups rows in
@@ -168,6 +168,7 @@ groups_counted old new rows row place knows found same_named same_rates counted 
       names = subst (λ n. KnowsFirsts Groups n all) (sym same_named) (known_kept Groups old.named rows row _ knows.names k.number);
       rates = ap (λ v. v.items) same_rates ∙ facts_old (λ r. r.numbers.rate) Groups rows row old.rates.items _ k.number knows.rates;
       outputs = counted ∙ is ∙ ap (map (outputs_of all)) (sym (firsts_old Groups rows row _ k.number));
+      flags = ap (λ v. v.items) same_flags ∙ facts_old has_group Groups rows row old.flags.items _ k.number knows.flags;
     }
 
 none_of : (b : Bool) (n : ℕ) (o : Option ℕ) → cond b (Some n) o ≡ None → (b ≡ false) × (o ≡ None)
@@ -182,8 +183,8 @@ none_counted p n (r ∷ rows) e =
 
 pub groups_added : (old new : KnownGroups) (rows : List ImportRow) (row : ImportRow) → KnowsGroups old rows → IsIndexed new.named.names → names_of new.named.names ≡ names_of old.named.names ++ row.texts.group ∷ []
     → numbers_of new.named.firsts ≡ numbers_of old.named.firsts ++ length rows ∷ [] → position_from (bytes_eq row.texts.group) 0 (names_of old.named.names) ≡ None
-    → new.rates.items ≡ old.rates.items ++ row.numbers.rate ∷ [] → new.outputs.items ≡ old.outputs.items ++ 1 ∷ [] → KnowsGroups new (rows ++ row ∷ [])
-groups_added old new rows row knows indexed named numbered nowhere rates outputs =
+    → new.rates.items ≡ old.rates.items ++ row.numbers.rate ∷ [] → new.outputs.items ≡ old.outputs.items ++ 1 ∷ [] → new.flags.items ≡ old.flags.items ++ has_group row ∷ [] → KnowsGroups new (rows ++ row ∷ [])
+groups_added old new rows row knows indexed named numbered nowhere rates outputs flags =
     let none : first_from Groups row.texts.group 0 rows ≡ None = unknown Groups old.named rows row.texts.group knows.names nowhere in
     let all : List ImportRow = rows ++ row ∷ [] in
     let fs : List ImportRow = firsts Groups rows in
@@ -202,4 +203,5 @@ groups_added old new rows row knows indexed named numbered nowhere rates outputs
       names = known_added Groups old.named new.named rows row knows.names indexed named numbered none nowhere;
       rates = rates ∙ facts_new (λ r. r.numbers.rate) Groups rows row old.rates.items none knows.rates;
       outputs = outputs ∙ is ∙ ap (map (outputs_of all)) (sym (firsts_new Groups rows row none));
+      flags = flags ∙ facts_new has_group Groups rows row old.flags.items none knows.flags;
     }

@@ -9,9 +9,12 @@ pub mod ImportClashes
 pub mod NextRows
 pub mod ImportLimits
 pub mod ImportReading
-mod FirstPlaces
+pub mod FirstPlaces
 pub mod NameChains
 pub mod Knowing
 pub mod KnownClashes
 pub mod KnownRows
-pub mod FullRows
+pub mod Flags
+mod FullRows
+pub mod ImportForms
+mod PartsOfText

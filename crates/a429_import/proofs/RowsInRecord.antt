@@ -1,5 +1,5 @@
 -- The record has what an imported row says.
-use Rattle.std.proofs.Common.{◌≡◌, ◌∙◌, ℕ, zero, suc, ◌+◌, cond, Bool, true, false, List, [], ◌∷◌, ◌++◌, map, Option, None, Some, Ok, inl, inr, ◌⊎◌, ap, ap₂, refl, sym, subst, arith, unwrap_or}
+use Rattle.std.proofs.Common.{◌≡◌, ◌∙◌, ℕ, zero, suc, ◌+◌, cond, Bool, true, false, List, [], ◌∷◌, ◌++◌, length, map, Option, None, Some, Ok, inl, inr, ◌⊎◌, ap, ap₂, refl, sym, subst, arith, unwrap_or}
 use Rattle.std.specs.Prelude.{◌||◌, ◌&&◌, ◌==◌, not, if◌then◌else◌, filter, slice_get}
 use Rattle.std.specs.List.{AllByRecursion, list_any, position_from}
 use Rattle.std.specs.Option.{option_or}
@@ -19,9 +19,9 @@ use Rattle.a429_import.specs.declared.firsts.Part.{Part}
 use Rattle.a429_import.specs.declared.firsts.Part.TheVariants.{Receivers, Sources, Groups}
 use Rattle.a429_import.specs.declared.lines.CsvLine.{CsvLine}
 use Rattle.a429_import.specs.declared.rows.ImportRow.{ImportRow}
-use Rattle.a429_import.specs.ImportRows.{agreed, clash, first_clash, next_row, other_clash, row_of, rows_after, rows_stated, source_clash, unless_wrong, wrong_column}
-use Rattle.a429_import.specs.ImportTables.{filters_stated, firsts, firsts_after, group_stated, is_known, name_in, number_of, output_stated, outputs_stated, receiver_stated, record_stated, rows_of_group, same_name, source_stated, words}
-use Rattle.a429_import.specs.ImportedRows.{IsInRecord, IsOutputOfRow, RowsAreInRecord}
+use Rattle.a429_import.specs.ImportRows.{agreed, clash, first_clash, next_row, other_clash, row_of, rows_after, rows_stated, says_nothing, source_clash, unless_wrong, with_row, wrong_column}
+use Rattle.a429_import.specs.ImportTables.{filters_stated, firsts, firsts_after, group_stated, groups_of, has_group, is_known, name_in, number_of, output_stated, outputs_stated, receiver_stated, record_stated, rows_of_group, same_name, source_stated, words}
+use Rattle.a429_import.specs.ImportedRows.{HasOutputOfRow, HasSourceOfRow, IsInRecord, IsOutputOfRow, RowsAreInRecord}
 use Rattle.a429_import.proofs.ImportRanges.{bound, same_ok}
 use Rattle.a429_import.proofs.ImportRecords.{all_firsts}
 
@@ -162,6 +162,13 @@ one_more rows row agree each i j a b at_i at_j = elim (pushed_at rows row i a at
   ]
 ]
 
+with_one : (rows : List ImportRow) (row : ImportRow) → AllAgree rows → AllByRecursion (λ e. Agree e row) rows → AllAgree (with_row rows row)
+with_one rows row agree each = by (says_nothing rows row)
+  where
+    by : (b : Bool) → AllAgree (if b then rows else rows ++ row ∷ [])
+    by true = agree
+    by false = one_more rows row agree each
+
 -- ---- the rows that lines state agree
 
 agreed_none : (line : ℕ) (row : ImportRow) (o : Option ImportColumn) (r : ImportRow) → agreed line row o ≡ Ok r → (o ≡ None) × (row ≡ r)
@@ -177,20 +184,20 @@ next_agrees heading earlier line row h =
 after_agree : (heading : List (List ℕ)) (lines : List CsvLine) (earlier rows : List ImportRow) → AllAgree earlier → rows_after heading earlier lines ≡ Ok rows → AllAgree rows
 after_agree heading [] earlier rows agree h = subst AllAgree (same_ok earlier rows h) agree
 after_agree heading (line ∷ lines) earlier rows agree h =
-    let next = bound (next_row heading earlier line) (λ row. rows_after heading (earlier ++ row ∷ []) lines) rows h in
-    after_agree heading lines (earlier ++ next.value ∷ []) rows (one_more earlier next.value agree (next_agrees heading earlier line next.value next.was)) next.gives
+    let next = bound (next_row heading earlier line) (λ row. rows_after heading (with_row earlier row) lines) rows h in
+    after_agree heading lines (with_row earlier next.value) rows (with_one earlier next.value agree (next_agrees heading earlier line next.value next.was)) next.gives
 
 none_agree : AllAgree []
 none_agree i j a b at_i at_j = cc
 
-below_agree : (heading : List (List ℕ)) (lines : List CsvLine) (o : Option ImportColumn) (rows : List ImportRow) → unless_wrong heading lines o ≡ Ok rows → AllAgree rows
-below_agree heading lines None rows h = after_agree heading lines [] rows none_agree h
+below_agree : (heading : CsvLine) (lines : List CsvLine) (o : Option ImportColumn) (rows : List ImportRow) → unless_wrong heading lines o ≡ Ok rows → AllAgree rows
+below_agree heading lines None rows h = after_agree (fields_of heading.fields) lines [] rows none_agree h
 below_agree heading lines (Some c) rows h = cc
 
 stated_agree : (lines : List CsvLine) (rows : List ImportRow) → rows_stated lines ≡ Ok rows → AllAgree rows
 unfolding rows_stated
 stated_agree [] rows h = cc
-stated_agree (heading ∷ lines) rows h = below_agree (fields_of heading.fields) lines (wrong_column (fields_of heading.fields)) rows h
+stated_agree (heading ∷ lines) rows h = below_agree heading lines (wrong_column (fields_of heading.fields)) rows h
 
 -- ---- the first row of a name
 
@@ -279,44 +286,45 @@ module _ (rows : List ImportRow) (agree : AllAgree rows) (i : ℕ) (row : Import
       get_mapped receiver_stated (firsts Receivers rows) (number_of Receivers rows row.texts.receiver) f.first f.there
       ∙ ap (λ r. Some r) (same_receiver f.first row f.named (agrees Receivers f))
 
-  source_of : IsOutputOfRow (record_stated rows) row (output_stated rows row)
+  has_source : HasSourceOfRow (record_stated rows) row (number_of Sources rows row.texts.source)
   unfolding record_stated
-  source_of =
+  has_source =
       let f = first_of Sources rows i row at in
       let agree_here = agrees Sources f in
-      let back = subst (λ (name : List ℕ). slice_get (map receiver_stated (firsts Receivers rows)) (number_of Receivers rows name) ≡ Some (receiver_stated row)) (sym (agree_here.receiver f.named)) receiver_at in
-      record {
-        least = refl;
-        most = refl;
-        hold = refl;
-        source = (
-          source_stated rows f.first,
-          get_mapped (source_stated rows) (firsts Sources rows) (number_of Sources rows row.texts.source) f.first f.there,
-          record {
-            name = f.named;
-            label = agree_here.label f.named;
-            sdi = agree_here.sdi f.named;
-            receiver = back;
-          },
-        );
-      }
+      let back = subst (λ (name : List ℕ). slice_get (map receiver_stated (firsts Receivers rows)) (number_of Receivers rows name) ≡ Some (receiver_stated row)) (sym (agree_here.receiver f.named)) receiver_at in (
+        source_stated rows f.first,
+        get_mapped (source_stated rows) (firsts Sources rows) (number_of Sources rows row.texts.source) f.first f.there,
+        record {
+          name = f.named;
+          label = agree_here.label f.named;
+          sdi = agree_here.sdi f.named;
+          receiver = back;
+        },
+      )
 
-  in_record : IsInRecord (record_stated rows) row
+  is_output : IsOutputOfRow (record_stated rows) row (output_stated rows row)
+  is_output = record { least = refl; most = refl; hold = refl; source = has_source }
+
+  has_output : has_group row ≡ true → HasOutputOfRow (record_stated rows) row
   unfolding record_stated
-  in_record =
+  has_output grouped =
       let f = first_of Groups rows i row at in
-      let number = number_of Groups rows row.texts.group in
+      let own : has_group f.first ≡ true = ap (λ (name : List ℕ). not (length name == 0)) f.named ∙ grouped in
+      let group = filtered_at has_group (firsts Groups rows) (number_of Groups rows row.texts.group) f.first f.there own in
       let mine = filtered_at (same_name Groups f.first) rows i row at (same_again f.first.texts.group row.texts.group f.named) in
       record {
-        number = number;
-        group = get_mapped group_stated (firsts Groups rows) number f.first f.there ∙ ap (λ g. Some g) (same_group f.first row f.named (agrees Groups f));
+        number = group.0;
+        group = get_mapped group_stated (groups_of rows) group.0 f.first group.1 ∙ ap (λ g. Some g) (same_group f.first row f.named (agrees Groups f));
         outputs = outputs_stated rows f.first;
-        outputs_are = get_mapped (outputs_stated rows) (firsts Groups rows) number f.first f.there;
+        outputs_are = get_mapped (outputs_stated rows) (groups_of rows) group.0 f.first group.1;
         place = mine.0;
         output = output_stated rows row;
         there = get_mapped (output_stated rows) (rows_of_group rows f.first) mine.0 row mine.1;
-        is = source_of;
+        is = is_output;
       }
+
+  in_record : IsInRecord (record_stated rows) row
+  in_record = record { source = (number_of Sources rows row.texts.source, has_source); output = has_output }
 
 -- each row of lines that state a table is in its record
 pub rows_in_record : RowsAreInRecord

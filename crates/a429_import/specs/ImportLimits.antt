@@ -1,5 +1,5 @@
 -- The first fault of a table that rows describe, if it is a bit rate or a count above a limit (profile: equipment table).
-use Rattle.std.specs.Prelude.{ℕ, pos, ◌||◌, Bool, not, List, Option, None, Some, option_map, if◌then◌else◌, length, nat_lt}
+use Rattle.std.specs.Prelude.{ℕ, pos, ◌||◌, Bool, true, false, not, List, [], ◌∷◌, Option, None, Some, option_map, if◌then◌else◌, length, nat_lt}
 use Rattle.std.specs.List.{count_by, position_from}
 use Rattle.std.specs.Option.{option_or}
 use Rattle.a429_table.specs.declared.fault.FaultKind.{FaultKind}
@@ -9,7 +9,7 @@ use Rattle.a429_table.specs.declared.fault.TablePlace.TheVariants.{Root, Receive
 use Rattle.a429_table.specs.Faults.{is_rate}
 use Rattle.a429_import.specs.declared.firsts.Part.TheVariants.{Receivers, Sources, Groups}
 use Rattle.a429_import.specs.declared.rows.ImportRow.{ImportRow}
-use Rattle.a429_import.specs.ImportTables.{firsts, same_name, words}
+use Rattle.a429_import.specs.ImportTables.{firsts, groups_of, same_name, words}
 
 -- the bit rate is neither 100000 nor 12000 to 14500
 abbrev pub is_wrong_rate : ℕ → Bool
@@ -41,4 +41,10 @@ fault_among rows receivers sources groups =
 
 -- the same for the receivers, sources and groups of all rows
 unfoldable pub limit_fault : List ImportRow → Option (FaultKind × TablePlace)
-limit_fault rows = fault_among rows (firsts Receivers rows) (length (firsts Sources rows)) (firsts Groups rows)
+limit_fault rows = fault_among rows (firsts Receivers rows) (length (firsts Sources rows)) (groups_of rows)
+
+-- the elements whose flags are set
+abbrev pub flagged : {X : Type 0} → List Bool → List X → List X
+flagged (true ∷ flags) (x ∷ xs) = x ∷ flagged flags xs
+flagged (false ∷ flags) (x ∷ xs) = flagged flags xs
+flagged _ _ = []

@@ -1,6 +1,7 @@
 -- What is known of lines that were read: what the rows among them say, or their first fault (profile: import).
-use Rattle.std.specs.Prelude.{◌≡◌, ℕ, Bool, true, false, List, [], ◌∷◌, ◌++◌, Option, None, Some, option_map, Result, Ok, Err}
+use Rattle.std.specs.Prelude.{◌≡◌, ℕ, Bool, true, false, List, [], ◌∷◌, Option, None, Some, option_map, Result, Ok, Err}
 use Rattle.csv.specs.Records.{fields_of}
+use Rattle.a429_import.specs.declared.columns.Heading.{Heading}
 use Rattle.a429_import.specs.declared.fault.CsvFaultKind.TheVariants.{Column}
 use Rattle.a429_import.specs.declared.fault.ImportColumn.{ImportColumn}
 use Rattle.a429_import.specs.declared.fault.ImportFault.{ImportFault}
@@ -10,24 +11,24 @@ use Rattle.a429_import.specs.declared.reading.LinesRead.{LinesRead}
 use Rattle.a429_import.specs.declared.reading.RowsRead.{RowsRead}
 use Rattle.a429_import.specs.declared.rows.ImportRow.{ImportRow}
 use Rattle.a429_import.specs.ImportClashes.{Agree}
-use Rattle.a429_import.specs.ImportRows.{◌>>=◌, CsvFault, next_row, rows_after, rows_stated, wrong_column}
+use Rattle.a429_import.specs.ImportRows.{◌>>=◌, CsvFault, next_row, rows_after, rows_stated, with_row, wrong_column}
 use Rattle.a429_import.specs.Imports.{States}
 use Rattle.a429_import.specs.Known.{Knows, are_full}
 
--- a heading that lacks a column or has it twice is a fault of line 1
-abbrev pub heading_fault : List (List ℕ) → Option ImportFault
-heading_fault heading = option_map {T = ImportColumn} {U = ImportFault} (λ column. Csv 1 Column (Some column)) (wrong_column heading)
+-- the fault of a heading that lacks a column or has it twice
+abbrev pub heading_fault : CsvLine → Option ImportFault
+heading_fault heading = option_map {T = ImportColumn} {U = ImportFault} (λ column. Csv heading.number Column (Some column)) (wrong_column (fields_of heading.fields))
 
--- earlier rows and that of one more line, or the fault of this line
+-- earlier rows and what that of one more line says, or the fault of this line
 abbrev pub with_line : List (List ℕ) → List ImportRow → CsvLine → Result (List ImportRow) CsvFault
-with_line heading earlier line = next_row heading earlier line >>= λ row. Ok (earlier ++ row ∷ [])
+with_line heading earlier line = next_row heading earlier line >>= λ row. Ok (with_row earlier row)
 
 -- these lines, of which there is at least one, have this fault
 abbrev pub HaveFault : ImportFault → List CsvLine → Type 0
 HaveFault fault [] = ⊥
 HaveFault fault (heading ∷ below) = States {X = List ImportRow} (λ rows. rows) (Err fault) (rows_stated (heading ∷ below))
 
--- the rows that are kept are all rows, unless there are too many groups, or too many outputs of a group
+-- the rows that are kept are all rows, unless there are too many sources or groups, or too many outputs of a group
 abbrev pub IsKept : Bool → List ImportRow → List ImportRow → Type 0
 IsKept false kept rows = kept ≡ rows
 IsKept true kept rows = are_full rows ≡ true
@@ -51,9 +52,9 @@ pub record SayRows (heading : CsvLine) (below : List CsvLine) (read : LinesRead)
   pub has : HasRows read.rows rows
 
 -- nothing was read yet, or a heading and the lines below it
-abbrev pub HaveRows : Option CsvLine → LinesRead → List CsvLine → Type 0
+abbrev pub HaveRows : Option Heading → LinesRead → List CsvLine → Type 0
 HaveRows None read lines = (lines ≡ []) × HasRows read.rows []
-HaveRows (Some heading) read lines = (below : List CsvLine) × (lines ≡ heading ∷ below) × SayRows heading below read
+HaveRows (Some heading) read lines = (below : List CsvLine) × (lines ≡ heading.line ∷ below) × SayRows heading.line below read
 
 abbrev pub AreRead : Option ImportFault → LinesRead → List CsvLine → Type 0
 AreRead None read lines = HaveRows read.heading read lines

@@ -13,7 +13,10 @@ use Rattle.a429_import.specs.declared.lines.CsvLine.{CsvLine}
 use Rattle.a429_import.specs.declared.rows.ImportRow.{ImportRow}
 use Rattle.a429_import.specs.declared.rows.RowNumbers.{RowNumbers}
 use Rattle.a429_import.specs.declared.rows.RowTexts.{RowTexts}
-use Rattle.a429_import.specs.ImportFields.{field_in, number_in, label_in, sdi_in, hold_in, text_in, filters_in}
+use Rattle.a429_import.specs.ImportFields.{field_in, if_group, rate_in, interval_in, label_in, sdi_in, hold_in, text_in, filters_in}
+use Rattle.a429_import.specs.declared.firsts.Part.TheVariants.{Sources}
+use Rattle.a429_import.specs.ImportTables.{has_group, is_known}
+use Rattle.a429_import.specs.ImportWords.{is_text}
 
 -- ---- columns
 
@@ -40,8 +43,21 @@ is_needed _ = true
 abbrev pub import_columns : List ImportColumn
 import_columns = Group ∷ Rate ∷ Source ∷ Receiver ∷ Label ∷ Sdi ∷ MinUs ∷ MaxUs ∷ Hold ∷ Filters ∷ []
 
-abbrev pub is_named : ImportColumn → List ℕ → Bool
-is_named column field = bytes_eq field (column_name column)
+-- the two names of an interval in milliseconds
+abbrev pub is_in_millis : ImportColumn → List ℕ → Bool
+is_in_millis MinUs field = is_text (codes "min_ms") field || is_text (codes "min ms") field
+is_in_millis MaxUs field = is_text (codes "max_ms") field || is_text (codes "max ms") field
+is_in_millis _ field = false
+
+-- a name with a space for its underline
+abbrev pub is_spaced : ImportColumn → List ℕ → Bool
+is_spaced MinUs field = is_text (codes "min us") field
+is_spaced MaxUs field = is_text (codes "max us") field
+is_spaced _ field = false
+
+-- a field of the heading is a name of a column, in any case
+unfoldable pub is_named : ImportColumn → List ℕ → Bool
+is_named column field = is_text (column_name column) field || (is_spaced column field || is_in_millis column field)
 
 -- the number of fields of the heading that are the name of a column
 abbrev pub times : List (List ℕ) → ImportColumn → ℕ
@@ -59,6 +75,10 @@ wrong_column heading = find (is_wrong heading) import_columns
 unfoldable pub column_field : List (List ℕ) → List (List ℕ) → ImportColumn → List ℕ
 column_field heading fields column = option_map_or (λ place. field_in place fields) (position (is_named column) heading) []
 
+-- the column of an interval is in milliseconds
+unfoldable pub is_column_in_millis : List (List ℕ) → ImportColumn → Bool
+is_column_in_millis heading column = option_map_or (λ place. is_in_millis column (field_in place heading)) (position (is_named column) heading) false
+
 -- ---- a row by itself
 
 infixl 10 ◌>>=◌
@@ -70,15 +90,27 @@ abbrev pub ◌>>=◌ : {A B E : Type 0} → Result A E → (A → Result B E) �
 abbrev pub stated_at : {A : Type 0} → (List ℕ → Option A) → List (List ℕ) → List (List ℕ) → ImportColumn → Result A ImportColumn
 stated_at read heading fields column = ok_or (read (column_field heading fields column)) column
 
--- the numbers of a row, or the first column with a wrong form
-unfoldable pub numbers_of : List (List ℕ) → List (List ℕ) → Result RowNumbers ImportColumn
-numbers_of heading fields = do
-  rate ← stated_at number_in heading fields Rate
+-- a row names a group
+abbrev pub names_group : List (List ℕ) → List (List ℕ) → Bool
+names_group heading fields = not (length (column_field heading fields Group) == 0)
+
+-- the same for a field of an output, which is empty if the row names no group
+abbrev pub output_at : {A : Type 0} → (List ℕ → Option A) → A → List (List ℕ) → List (List ℕ) → ImportColumn → Result A ImportColumn
+output_at read nothing heading fields column = stated_at (if_group (names_group heading fields) read nothing) heading fields column
+
+-- an interval, in the unit of its column
+abbrev pub interval_at : ℕ → List (List ℕ) → List (List ℕ) → ImportColumn → Result ℕ ImportColumn
+interval_at separator heading fields column = output_at (interval_in (is_column_in_millis heading column) separator) 0 heading fields column
+
+-- the numbers of a row, or the first column with a wrong form; those of an output are 0 if the row names no group
+unfoldable pub numbers_of : ℕ → List (List ℕ) → List (List ℕ) → Result RowNumbers ImportColumn
+numbers_of separator heading fields = do
+  rate ← output_at rate_in 0 heading fields Rate
   label ← stated_at label_in heading fields Label
   sdi ← stated_at sdi_in heading fields Sdi
-  least ← stated_at number_in heading fields MinUs
-  most ← stated_at number_in heading fields MaxUs
-  hold ← stated_at hold_in heading fields Hold
+  least ← interval_at separator heading fields MinUs
+  most ← interval_at separator heading fields MaxUs
+  hold ← output_at hold_in None heading fields Hold
   Ok (record { rate = rate; label = label; sdi = sdi; min_us = least; max_us = most; hold = hold })
 
 -- the texts of a row, or the first column with a wrong form
@@ -103,7 +135,7 @@ joined line (Ok numbers) (Ok texts) = Ok (record { texts = texts; numbers = numb
 unfoldable pub row_of : List (List ℕ) → CsvLine → Result ImportRow CsvFault
 row_of heading line =
     if length (fields_of line.fields) == length heading
-    then joined line.number (numbers_of heading (fields_of line.fields)) (texts_of heading (fields_of line.fields))
+    then joined line.number (numbers_of line.separator heading (fields_of line.fields)) (texts_of heading (fields_of line.fields))
     else Err (line.number, Form, None)
 
 -- ---- a row after others
@@ -141,22 +173,30 @@ agreed line row (Some column) = Err (line, Differs, Some column)
 abbrev pub next_row : List (List ℕ) → List ImportRow → CsvLine → Result ImportRow CsvFault
 next_row heading earlier line = row_of heading line >>= λ row. agreed line.number row (first_clash earlier row)
 
--- the rows of these lines, after others
+-- a row without a group says nothing new about a source that an earlier row states
+abbrev pub says_nothing : List ImportRow → ImportRow → Bool
+says_nothing earlier row = not (has_group row) && is_known Sources earlier row
+
+-- earlier rows and one more, if it says something
+abbrev pub with_row : List ImportRow → ImportRow → List ImportRow
+with_row earlier row = if says_nothing earlier row then earlier else earlier ++ row ∷ []
+
+-- what the rows of these lines say, after others
 abbrev pub rows_after : List (List ℕ) → List ImportRow → List CsvLine → Result (List ImportRow) CsvFault
 rows_after heading earlier [] = Ok earlier
-rows_after heading earlier (line ∷ lines) = next_row heading earlier line >>= λ row. rows_after heading (earlier ++ row ∷ []) lines
+rows_after heading earlier (line ∷ lines) = next_row heading earlier line >>= λ row. rows_after heading (with_row earlier row) lines
 
 -- ---- all rows
 
-abbrev pub unless_wrong : List (List ℕ) → List CsvLine → Option ImportColumn → Result (List ImportRow) CsvFault
-unless_wrong heading lines None = rows_after heading [] lines
-unless_wrong heading lines (Some column) = Err (1, Column, Some column)
+abbrev pub unless_wrong : CsvLine → List CsvLine → Option ImportColumn → Result (List ImportRow) CsvFault
+unless_wrong heading lines None = rows_after (fields_of heading.fields) [] lines
+unless_wrong heading lines (Some column) = Err (heading.number, Column, Some column)
 
 -- the rows below a heading, unless a column is wrong in it
-abbrev pub below_heading : List (List ℕ) → List CsvLine → Result (List ImportRow) CsvFault
-below_heading heading lines = unless_wrong heading lines (wrong_column heading)
+abbrev pub below_heading : CsvLine → List CsvLine → Result (List ImportRow) CsvFault
+below_heading heading lines = unless_wrong heading lines (wrong_column (fields_of heading.fields))
 
 -- the first line is the heading
 unfoldable pub rows_stated : List CsvLine → Result (List ImportRow) CsvFault
 rows_stated [] = Err (1, Column, Some Group)
-rows_stated (heading ∷ lines) = below_heading (fields_of heading.fields) lines
+rows_stated (heading ∷ lines) = below_heading heading lines

@@ -1,5 +1,5 @@
 -- The equipment table that rows describe: its tree, which is printed, and its record (profile: import).
-use Rattle.std.specs.Prelude.{ℕ, pos, ◌==◌, Bool, not, List, [], ◌∷◌, ◌++◌, Option, None, Some, codes, if◌then◌else◌, length, map, filter, unwrap_or}
+use Rattle.std.specs.Prelude.{ℕ, pos, ◌==◌, Bool, true, not, List, [], ◌∷◌, ◌++◌, Option, None, Some, codes, if◌then◌else◌, length, map, filter, unwrap_or}
 use Rattle.std.specs.List.{list_any, position_from, slice_split}
 use Rattle.std.specs.Str.{bytes_eq}
 use Rattle.toml.specs.Data.{Data, Members, string, integer, array, table, no_members, member}
@@ -36,6 +36,10 @@ name_in Groups row = row.texts.group
 abbrev pub same_name : Part → ImportRow → ImportRow → Bool
 same_name part a b = bytes_eq (name_in part a) (name_in part b)
 
+-- a row without a group has no output
+abbrev pub has_group : ImportRow → Bool
+has_group row = not (length row.texts.group == 0)
+
 -- an earlier row has the same receiver, source or group
 abbrev pub is_known : Part → List ImportRow → ImportRow → Bool
 is_known part earlier row = list_any (λ other. same_name part other row) earlier
@@ -51,6 +55,15 @@ firsts_after part earlier (row ∷ rows) = unless_known part earlier row ++ firs
 -- the first row of each receiver, source or group, in order
 abbrev pub firsts : Part → List ImportRow → List ImportRow
 firsts part rows = firsts_after part [] rows
+
+-- the first row of each group; rows without a group have none
+abbrev pub groups_of : List ImportRow → List ImportRow
+groups_of rows = filter has_group (firsts Groups rows)
+
+-- a row states its receiver and its source, and a group if it names one
+abbrev pub is_stated : Part → ImportRow → Bool
+is_stated Groups row = has_group row
+is_stated part row = true
 
 -- the rows of the group of a row
 abbrev pub rows_of_group : List ImportRow → ImportRow → List ImportRow
@@ -108,6 +121,7 @@ part_tree Groups rows row = group_tree rows row
 
 -- the tables of all, in the order of their first rows
 abbrev pub part_trees : Part → List ImportRow → List Data
+part_trees Groups rows = map (group_tree rows) (groups_of rows)
 part_trees part rows = map (part_tree part rows) (firsts part rows)
 
 -- the keys of a table are in the order of their bytes
@@ -160,6 +174,6 @@ record_stated rows = record {
   rate = None;
   receivers = map receiver_stated (firsts Receivers rows);
   sources = map (source_stated rows) (firsts Sources rows);
-  groups = map group_stated (firsts Groups rows);
-  outputs = map (outputs_stated rows) (firsts Groups rows);
+  groups = map group_stated (groups_of rows);
+  outputs = map (outputs_stated rows) (groups_of rows);
 }

@@ -1,8 +1,10 @@
 -- What is imported from a text of comma-separated values: a table, or why there is none (profile: import).
-use Rattle.std.specs.Prelude.{◌≡◌, ℕ, List, map, Some, Result, Ok, Err, Vec}
+use Rattle.std.specs.Prelude.{◌≡◌, ◌==◌, ℕ, Bool, not, List, filter, length, map, Some, Result, Ok, Err, Vec}
+use Rattle.std.specs.List.{AllByRecursion, list_any}
 use Rattle.std.specs.declared.alloc.Global.{Global}
 use Rattle.csv.specs.Reading.{AreRecords, default_config, strip_bom}
 use Rattle.csv.specs.Records.{fields_of}
+use Rattle.csv.specs.declared.parser.Config.{Config}
 use Rattle.csv.specs.declared.parser.State.TheVariants as st
 use Rattle.toml.specs.Data.{table}
 use Rattle.a429_table.specs.declared.fault.TableFault.TheVariants as fault
@@ -12,6 +14,7 @@ use Rattle.a429_import.specs.declared.fault.ImportFault.{ImportFault}
 use Rattle.a429_import.specs.declared.fault.ImportFault.TheVariants.{NoMemory, Csv, Table}
 use Rattle.a429_import.specs.declared.lines.CsvLine.{CsvLine}
 use Rattle.a429_import.specs.declared.rows.ImportRow.{ImportRow}
+use Rattle.a429_import.specs.ImportForms.{from_heading, separator_in}
 use Rattle.a429_import.specs.ImportRows.{CsvFault, rows_stated}
 use Rattle.a429_import.specs.ImportTables.{root_members, record_stated}
 
@@ -22,9 +25,25 @@ States view (Err NoMemory) stated = Unit {0}
 States view (Err (Csv line kind column)) stated = stated ≡ Err (line, kind, column)
 States view (Err (Table fault)) stated = ⊥
 
--- the rows of a text as the library `csv` reads them, each with a line
-abbrev pub AreLines : List ℕ → List CsvLine → Type 0
-AreLines text lines = AreRecords default_config st.StartRecord (strip_bom text) (map (λ l. fields_of l.fields) lines)
+-- how the library `csv` reads a text whose fields this separates
+abbrev pub separated : ℕ → Config
+separated separator = record default_config { delimiter = separator }
+
+-- a field is not empty
+abbrev pub is_filled : List ℕ → Bool
+is_filled field = not (length field == 0)
+
+-- a row has such a field
+abbrev pub has_text : List (List ℕ) → Bool
+has_text fields = list_any is_filled fields
+
+-- the rows of a text from its heading on, as the library `csv` reads them, each with its line and its separator; without the rows whose fields
+-- are all empty
+pub record AreLines (text : List ℕ) (lines : List CsvLine) : Type 0 where
+  pub all : List CsvLine
+  pub records : AreRecords (separated (separator_in text)) st.StartRecord (strip_bom (from_heading text)) (map (λ l. fields_of l.fields) all)
+  pub separators : AllByRecursion (λ l. l.separator ≡ separator_in text) all
+  pub filled : lines ≡ filter (λ l. has_text (fields_of l.fields)) all
 
 -- the import of lines: the text is read as the record of the rows; a table is refused for its first fault
 abbrev pub IsImportOf : List CsvLine → Result (Vec ℕ Global) ImportFault → Type 0

@@ -17,7 +17,7 @@ use Rattle.a429_import.specs.declared.named_rows.NamedRows.{NamedRows}
 use Rattle.a429_import.specs.declared.rows.ImportRow.{ImportRow}
 use Rattle.a429_import.specs.FirstRows.{first_from}
 use Rattle.a429_import.specs.ImportLimits.{has_too_many_filters, has_too_many_outputs}
-use Rattle.a429_import.specs.ImportTables.{firsts, name_in, same_name}
+use Rattle.a429_import.specs.ImportTables.{firsts, groups_of, has_group, name_in, same_name}
 use Rattle.a429_import.specs.Names.{AreTexts, IsIndexed, names_of, numbers_of, texts_of}
 
 -- the name at a place
@@ -54,11 +54,12 @@ pub record KnowsSources (known : KnownSources) (rows : List ImportRow) : Type 0 
 abbrev pub outputs_of : List ImportRow → ImportRow → ℕ
 outputs_of rows group = min 129 (count_by (same_name Groups group) rows)
 
--- the same with the bit rate and the number of outputs of each group
+-- the same with the bit rate and the number of outputs of each group, and whether its name is not empty
 pub record KnowsGroups (known : KnownGroups) (rows : List ImportRow) : Type 0 where
   pub names : KnowsFirsts Groups known.named rows
   pub rates : known.rates.items ≡ map (λ row. row.numbers.rate) (firsts Groups rows)
   pub outputs : known.outputs.items ≡ map (outputs_of rows) (firsts Groups rows)
+  pub flags : known.flags.items ≡ map has_group (firsts Groups rows)
 
 pub record Knows (known : Known) (rows : List ImportRow) : Type 0 where
   pub count : vec_len known.rows ≡ length rows
@@ -67,8 +68,12 @@ pub record Knows (known : Known) (rows : List ImportRow) : Type 0 where
   pub groups : KnowsGroups known.groups rows
 
 -- too many groups, or too many outputs of a group
+abbrev pub are_groups_full : List ImportRow → Bool
+are_groups_full rows = nat_lt 8 (length (groups_of rows)) || is_some (position_from (has_too_many_outputs rows) 0 (groups_of rows))
+
+-- the same, or too many sources
 abbrev pub are_full : List ImportRow → Bool
-are_full rows = nat_lt 8 (length (firsts Groups rows)) || is_some (position_from (has_too_many_outputs rows) 0 (firsts Groups rows))
+are_full rows = nat_lt 256 (length (firsts Sources rows)) || are_groups_full rows
 
 -- ---- a row and what is known
 

@@ -1,5 +1,9 @@
+pub mod ImportWords
 pub mod ImportFields
 pub mod ImportRows
+pub mod ImportForms
+pub mod ImportColumns
+pub mod ImportExamples
 pub mod ImportTables
 pub mod ImportBuilding
 pub mod ImportFaults

@@ -2,11 +2,15 @@
 ghost use Rattle.std.specs.Prelude.{◌≡◌, ◌<◌, IfSome, length, position};
 ghost use Rattle.std.specs.List.{find};
 ghost use Rattle.csv.specs.Records.{fields_of};
+ghost use Rattle.a429_import.specs.declared.fault.ImportColumn.{ImportColumn};
+ghost use Rattle.a429_import.specs.declared.fault.ImportColumn.TheVariants.{MaxUs, MinUs};
 ghost use Rattle.a429_import.specs.ImportFields.{field_in};
-ghost use Rattle.a429_import.specs.ImportRows.{column_field, is_named, is_wrong, times, wrong_column};
+ghost use Rattle.a429_import.specs.ImportColumns.{place_in};
+ghost use Rattle.a429_import.specs.ImportRows.{column_field, is_column_in_millis, is_in_millis, is_named, is_spaced, is_wrong, times, wrong_column};
 
 use crate::fault::ImportColumn;
 use crate::lines::CsvLine;
+use crate::plain::is_text;
 
 /// All columns, in the order in which they are looked for.
 pub const COLUMNS: [ImportColumn; 10] = [
@@ -22,11 +26,35 @@ pub const COLUMNS: [ImportColumn; 10] = [
     ImportColumn::Filters,
 ];
 
-/// Whether a field of the heading is the name of a column.
-fn is_named(heading: &CsvLine, place: usize, column: ImportColumn) -> bool
-    ensures { result ≡ is_named column (field_in place (fields_of heading.now.fields)) }
+/// Whether a name is one for an interval in milliseconds.
+pub fn is_in_millis(column: ImportColumn, name: &[u8]) -> bool
+    ensures { result ≡ is_in_millis column name.now }
 {
-    heading.field(place) == column.name().as_bytes()
+    match column {
+        ImportColumn::MinUs => is_text("min_ms", name) || is_text("min ms", name),
+        ImportColumn::MaxUs => is_text("max_ms", name) || is_text("max ms", name),
+        _ => false,
+    }
+}
+
+/// Whether a name has a space for its underline.
+fn is_spaced(column: ImportColumn, name: &[u8]) -> bool
+    ensures { result ≡ is_spaced column name.now }
+{
+    match column {
+        ImportColumn::MinUs => is_text("min us", name),
+        ImportColumn::MaxUs => is_text("max us", name),
+        _ => false,
+    }
+}
+
+/// Whether a name is one of a column: in any case, with spaces for underlines, and for an interval in milliseconds or in
+/// microseconds.
+#[tactic(auto, unfolding(crate::specs::ImportRows::is_named))]
+pub fn is_named(column: ImportColumn, name: &[u8]) -> bool
+    ensures { result ≡ is_named column name.now }
+{
+    is_text(column.name(), name) || is_spaced(column, name) || is_in_millis(column, name)
 }
 
 /// The number of fields of the heading that are the name of a column.
@@ -35,7 +63,7 @@ fn times(heading: &CsvLine, column: ImportColumn) -> usize
 {
     let mut count = 0;
     for place in 0..heading.len() {
-        count += usize::from(is_named(heading, place, column));
+        count += usize::from(is_named(column, heading.field(place)));
     }
     count
 }
@@ -74,20 +102,113 @@ fn place_of(heading: &CsvLine, column: ImportColumn) -> Option<usize>
     ensures { result ≡ position (is_named column) (fields_of heading.now.fields) }
 {
     for place in 0..heading.len() {
-        if is_named(heading, place, column) {
+        if is_named(column, heading.field(place)) {
             return Some(place);
         }
     }
     None
 }
 
-/// The field of a row in a column; an empty one if the heading has no such column.
-#[tactic(auto, unfolding(crate::specs::ImportRows::column_field))]
-pub fn field_of<'a>(heading: &CsvLine, line: &'a CsvLine, column: ImportColumn) -> &'a [u8]
-    ensures { result.now ≡ column_field (fields_of heading.now.fields) (fields_of line.now.fields) column }
+/// Whether the column of an interval is in milliseconds.
+#[tactic(auto, unfolding(crate::specs::ImportRows::is_column_in_millis))]
+fn has_millis(heading: &CsvLine, column: ImportColumn) -> bool
+    ensures { result ≡ is_column_in_millis (fields_of heading.now.fields) column }
 {
     match place_of(heading, column) {
-        Some(place) => line.field(place),
-        None => &[],
+        Some(place) => is_in_millis(column, heading.field(place)),
+        None => false,
+    }
+}
+
+/// The places of columns, counted from 0.
+#[derive(Clone, Copy)]
+pub struct Places {
+    group: Option<usize>,
+    rate: Option<usize>,
+    source: Option<usize>,
+    receiver: Option<usize>,
+    label: Option<usize>,
+    sdi: Option<usize>,
+    min_us: Option<usize>,
+    max_us: Option<usize>,
+    hold: Option<usize>,
+    filters: Option<usize>,
+}
+
+impl Places {
+    /// The place of a column.
+    fn of(&self, column: ImportColumn) -> Option<usize>
+        ensures { result ≡ place_in self.now column }
+    {
+        match column {
+            ImportColumn::Group => self.group,
+            ImportColumn::Rate => self.rate,
+            ImportColumn::Source => self.source,
+            ImportColumn::Receiver => self.receiver,
+            ImportColumn::Label => self.label,
+            ImportColumn::Sdi => self.sdi,
+            ImportColumn::MinUs => self.min_us,
+            ImportColumn::MaxUs => self.max_us,
+            ImportColumn::Hold => self.hold,
+            ImportColumn::Filters => self.filters,
+        }
+    }
+}
+
+/// The places of all columns of a heading.
+fn places_of(heading: &CsvLine) -> Places
+    ensures { (column : ImportColumn) → place_in result column ≡ position (is_named column) (fields_of heading.now.fields) }
+{
+    Places {
+        group: place_of(heading, ImportColumn::Group),
+        rate: place_of(heading, ImportColumn::Rate),
+        source: place_of(heading, ImportColumn::Source),
+        receiver: place_of(heading, ImportColumn::Receiver),
+        label: place_of(heading, ImportColumn::Label),
+        sdi: place_of(heading, ImportColumn::Sdi),
+        min_us: place_of(heading, ImportColumn::MinUs),
+        max_us: place_of(heading, ImportColumn::MaxUs),
+        hold: place_of(heading, ImportColumn::Hold),
+        filters: place_of(heading, ImportColumn::Filters),
+    }
+}
+
+/// A heading with the places of its columns.
+#[derive(Drop)]
+pub struct Heading {
+    pub line: CsvLine,
+    places: Places,
+    pub is_min_in_millis: bool,
+    pub is_max_in_millis: bool,
+    ghost of_places: { (column : ImportColumn) → place_in places column ≡ position (is_named column) (fields_of line.fields) },
+    ghost of_min: { is_min_in_millis ≡ is_column_in_millis (fields_of line.fields) MinUs },
+    ghost of_max: { is_max_in_millis ≡ is_column_in_millis (fields_of line.fields) MaxUs },
+}
+
+impl Heading {
+    /// The heading in a line.
+    pub fn of(line: CsvLine) -> Heading
+        ensures { result.line ≡ line }
+    {
+        let places = places_of(&line);
+        let is_min_in_millis = has_millis(&line, ImportColumn::MinUs);
+        let is_max_in_millis = has_millis(&line, ImportColumn::MaxUs);
+        Heading {
+            line,
+            places,
+            is_min_in_millis,
+            is_max_in_millis,
+        }
+    }
+
+    /// The field of a row in a column; an empty one if the heading has no such column.
+    #[tactic(auto, unfolding(crate::specs::ImportRows::column_field))]
+    pub fn field_of<'a>(&self, line: &'a CsvLine, column: ImportColumn) -> &'a [u8]
+        ensures { result.now ≡ column_field (fields_of self.now.line.fields) (fields_of line.now.fields) column }
+    {
+        match self.places.of(column) {
+            Some(place) => line.field(place),
+            None => &[],
+        }
     }
 }

@@ -12,7 +12,8 @@ use thiserror::Error;
 /// The columns that are read (profile: import).
 #[derive(Clone, Copy, Debug, PartialEq, Eq)]
 pub enum ImportColumn {
-    /// The name of the group that sends the output.
+    /// The name of the group that sends the output. A row without one states its source and receiver alone; its fields of
+    /// the bit rate, the intervals and the hold are empty.
     Group,
     /// The bit rate of the group, in bit/s.
     Rate,

@@ -1,8 +1,12 @@
 //! The values of fields.
-ghost use Rattle.std.specs.Prelude.{◌≡◌, is_some, option_map};
+ghost use Rattle.std.specs.Prelude.{◌≡◌, ◌<◌, ◌==◌, None, is_some, option_map, position, slice_get};
+ghost use Rattle.std.specs.Char.{is_ascii_digit};
+ghost use Rattle.std.specs.List.{list_all};
 ghost use Rattle.a429_filter.specs.FilterTexts.{filter_read};
-ghost use Rattle.a429_import.specs.ImportFields.{are_filters, filters_in, hold_in, label_in, number_in, sdi_digit, sdi_in, text_in};
+ghost use Rattle.a429_import.specs.ImportFields.{are_filters, are_micros, digit_of, filters_in, hold_in, if_group, interval_in, is_any, is_high, is_low, is_mark, label_in, micros_in, millis_in, number_in, padded, rate_in, sdi_digits, sdi_in, sdi_or_any, text_in, together, utf8_in};
+ghost use Rattle.a429_word.specs.Texts.{label_value};
 
+use crate::plain::{is_text, unwrapped};
 use a429_filter::Filter;
 use a429_word::{Label, Sdi, decimal_number};
 
@@ -19,43 +23,196 @@ pub fn number_in(field: &[u8]) -> Option<u32>
     }
 }
 
+/// Whether a field is the word for 100000 bit/s.
+fn is_high(field: &[u8]) -> bool
+    ensures { result ≡ is_high field.now }
+{
+    is_text("hs", field) || is_text("high", field)
+}
+
+/// Whether a field is the word for 12500 bit/s.
+fn is_low(field: &[u8]) -> bool
+    ensures { result ≡ is_low field.now }
+{
+    is_text("ls", field) || is_text("low", field)
+}
+
+/// The bit rate in a field, in bit/s: a number, or a word for one of the two usual bit rates. `None` for any other field.
+#[tactic(auto, unfolding(crate::specs::ImportFields::rate_in))]
+fn rate_in(field: &[u8]) -> Option<u32>
+    ensures { result ≡ rate_in field.now }
+{
+    if is_high(field) {
+        Some(100000)
+    } else if is_low(field) {
+        Some(12500)
+    } else {
+        number_in(field)
+    }
+}
+
+/// Whether a byte separates milliseconds from the digits below them.
+fn is_mark(separator: u8, byte: u8) -> bool
+    ensures { result ≡ is_mark separator byte }
+{
+    byte == b'.' || byte == b',' && separator != b','
+}
+
+/// The place of the first such byte.
+fn first_mark(separator: u8, field: &[u8]) -> Option<usize>
+    ensures { result ≡ position (is_mark separator) field.now }
+{
+    field.iter().position(|byte| is_mark(separator, *byte))
+}
+
+/// A digit after the mark; 0 if there is none.
+fn digit_at(digits: &[u8], place: usize) -> u32
+    ensures digit { result ≡ digit_of (slice_get digits.now place) }
+    ensures small { result < 208 }
+{
+    match digits.get(place) {
+        Some(digit) if digit.is_ascii_digit() => u32::from(*digit - b'0'),
+        _ => 0,
+    }
+}
+
+fn are_digits(digits: &[u8]) -> bool
+    ensures { result ≡ list_all is_ascii_digit digits.now }
+{
+    digits.iter().all(|digit| digit.is_ascii_digit())
+}
+
+fn are_zeros(digits: &[u8]) -> bool
+    ensures { result ≡ list_all (λ b. b == 48) digits.now }
+{
+    digits.iter().all(|digit| *digit == b'0')
+}
+
+/// Whether digits after the mark state whole microseconds.
+fn are_micros(digits: &[u8]) -> bool
+    ensures { result ≡ are_micros digits.now }
+{
+    !digits.is_empty() && are_digits(digits) && (digits.len() <= 3 || are_zeros(&digits[3..]))
+}
+
+/// The microseconds that the digits after the mark state. `None` if they state none, or a part of one.
+fn micros_in(digits: &[u8]) -> Option<u32>
+    ensures micros { result ≡ micros_in digits.now }
+{
+    if are_micros(digits) {
+        Some(digit_at(digits, 0) * 100 + digit_at(digits, 1) * 10 + digit_at(digits, 2))
+    } else {
+        None
+    }
+}
+
+/// Milliseconds and microseconds together, in microseconds. `None` if they have more than 32 bits.
+fn together(millis: Option<u64>, micros: Option<u32>) -> Option<u32>
+    ensures { result ≡ together millis micros }
+{
+    let millis = millis?;
+    let micros = micros?;
+    if millis < 4294967 && micros < 1000 {
+        Some(millis as u32 * 1000 + micros)
+    } else {
+        None
+    }
+}
+
+/// The microseconds in a number of milliseconds, which may have a point and digits after it, or a comma if commas do not
+/// separate fields. `None` for any other field, and if it states a part of a microsecond.
+#[tactic(auto, unfolding(crate::specs::ImportFields::millis_in))]
+fn millis_in(separator: u8, field: &[u8]) -> Option<u32>
+    ensures { result ≡ millis_in separator field.now }
+{
+    match first_mark(separator, field) {
+        None => together(decimal_number(field), Some(0)),
+        Some(mark) => {
+            together(
+                decimal_number(&field[..mark]),
+                micros_in(&field[mark + 1..]),
+            )
+        }
+    }
+}
+
+/// The interval in a field, in microseconds. The column may be in milliseconds. `None` for a field of another form.
+fn interval_in(in_millis: bool, separator: u8, field: &[u8]) -> Option<u32>
+    ensures { result ≡ interval_in in_millis separator field.now }
+{
+    if in_millis {
+        millis_in(separator, field)
+    } else {
+        number_in(field)
+    }
+}
+
+/// The label in one to three octal digits.
+fn label_of(digits: &[u8]) -> Option<Label>
+    ensures { result ≡ label_value (padded digits.now) }
+{
+    match digits {
+        [low] => Label::of_digits(&[b'0', b'0', *low]),
+        [middle, low] => Label::of_digits(&[b'0', *middle, *low]),
+        _ => Label::of_digits(digits),
+    }
+}
+
 /// The label in a field: three octal digits, 000 to 377. Leading zeros may be missing. `None` for any other field.
 #[tactic(auto, unfolding(crate::specs::ImportFields::label_in))]
 pub fn label_in(field: &[u8]) -> Option<Label>
     ensures { result ≡ label_in field.now }
 {
-    match field {
-        [low] => Label::of_digits(&[b'0', b'0', *low]),
-        [middle, low] => Label::of_digits(&[b'0', *middle, *low]),
-        _ => Label::of_digits(field),
-    }
+    label_of(unwrapped(field))
 }
 
-/// The SDI in a digit.
-fn sdi_digit(field: &[u8]) -> Option<Option<Sdi>>
-    ensures { result ≡ sdi_digit field.now }
+/// The SDI in a digit, or in two binary digits.
+fn sdi_digits(field: &[u8]) -> Option<Option<Sdi>>
+    ensures { result ≡ sdi_digits field.now }
 {
     match field {
         [digit @ b'0'..=b'3'] => Some(Some(Sdi::new(*digit - b'0'))),
+        [high @ b'0'..=b'1', low @ b'0'..=b'1'] => {
+            Some(Some(Sdi::new(2 * (*high - b'0') + (*low - b'0'))))
+        }
         _ => None,
     }
 }
 
-/// The SDI in a field: 0 to 3; `Some(None)` for `any`.
+/// Whether a field states any SDI.
+fn is_any(field: &[u8]) -> bool
+    ensures { result ≡ is_any field.now }
+{
+    field.is_empty()
+        || is_text("any", field)
+        || is_text("all", field)
+        || is_text("x", field)
+        || is_text("-", field)
+}
+
+/// The SDI in a text.
+fn sdi_or_any(field: &[u8]) -> Option<Option<Sdi>>
+    ensures { result ≡ sdi_or_any field.now }
+{
+    if is_any(field) {
+        Some(None)
+    } else {
+        sdi_digits(field)
+    }
+}
+
+/// The SDI in a field: 0 to 3, or two binary digits. `Some(None)` if it is any: `any`, `all`, `x`, `-` or nothing. `None`
+/// for any other field.
 #[tactic(auto, unfolding(crate::specs::ImportFields::sdi_in))]
 pub fn sdi_in(field: &[u8]) -> Option<Option<Sdi>>
     ensures { result ≡ sdi_in field.now }
 {
-    if field == "any".as_bytes() {
-        Some(None)
-    } else {
-        sdi_digit(field)
-    }
+    sdi_or_any(unwrapped(field))
 }
 
 /// The hold in a field: a number; `Some(None)` if it is empty or `none`.
 #[tactic(auto, unfolding(crate::specs::ImportFields::hold_in))]
-pub fn hold_in(field: &[u8]) -> Option<Option<u32>>
+fn hold_in(field: &[u8]) -> Option<Option<u32>>
     ensures { result ≡ hold_in field.now }
 {
     if field.is_empty() || field == "none".as_bytes() {
@@ -65,13 +222,25 @@ pub fn hold_in(field: &[u8]) -> Option<Option<u32>>
 }
 
 /// The text in a field: any UTF-8 text. `None` for any other field.
-#[tactic(auto, unfolding(crate::specs::ImportFields::text_in))]
-pub fn text_in(field: &[u8]) -> Option<&str>
-    ensures { option_map (λ text. text.now) result ≡ text_in field.now }
+#[tactic(auto, unfolding(crate::specs::ImportFields::utf8_in))]
+fn utf8_in(field: &[u8]) -> Option<&str>
+    ensures { option_map (λ text. text.now) result ≡ utf8_in field.now }
 {
     match str::from_utf8(field) {
         Ok(text) => Some(text),
         Err(_) => None,
+    }
+}
+
+/// The text in a field: any UTF-8 text of at most 4096 bytes. `None` for any other field.
+#[tactic(auto, unfolding(crate::specs::ImportFields::text_in))]
+pub fn text_in(field: &[u8]) -> Option<&str>
+    ensures { option_map (λ text. text.now) result ≡ text_in field.now }
+{
+    if field.len() <= 4096 {
+        utf8_in(field)
+    } else {
+        None
     }
 }
 
@@ -100,4 +269,43 @@ pub fn filters_in(field: &[u8]) -> Option<&str>
 {
     let text = text_in(field)?;
     if are_filters(text) { Some(text) } else { None }
+}
+
+/// The bit rate of a row. If the row names no group, the field is empty, and the answer is 0.
+pub fn rate_of(names_group: bool, field: &[u8]) -> Option<u32>
+    ensures { result ≡ if_group names_group rate_in 0 field.now }
+{
+    if names_group {
+        rate_in(field)
+    } else if field.is_empty() {
+        Some(0)
+    } else {
+        None
+    }
+}
+
+/// An interval of a row, in microseconds. If the row names no group, the field is empty, and the answer is 0.
+pub fn interval_of(names_group: bool, in_millis: bool, separator: u8, field: &[u8]) -> Option<u32>
+    ensures { result ≡ if_group names_group (interval_in in_millis separator) 0 field.now }
+{
+    if names_group {
+        interval_in(in_millis, separator, field)
+    } else if field.is_empty() {
+        Some(0)
+    } else {
+        None
+    }
+}
+
+/// The hold of a row. If the row names no group, the field is empty.
+pub fn hold_of(names_group: bool, field: &[u8]) -> Option<Option<u32>>
+    ensures { result ≡ if_group names_group hold_in None field.now }
+{
+    if names_group {
+        hold_in(field)
+    } else if field.is_empty() {
+        Some(None)
+    } else {
+        None
+    }
 }

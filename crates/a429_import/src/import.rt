@@ -34,8 +34,8 @@ fn table_below_heading(alloc: Global, read: &LinesRead) -> Result<Vec<u8>, Impor
     ensures { (lines : List CsvLine) → HaveRows read.now.heading read.now lines → IsImportOf lines result }
 {
     match &read.heading {
-        None => Err(wrong_heading(ImportColumn::Group)),
-        Some(_) => table_of_rows(alloc, &read.rows),
+        None => Err(wrong_heading(1, ImportColumn::Group)),
+        Some(_heading) => table_of_rows(alloc, &read.rows),
     }
 }
 
@@ -50,7 +50,7 @@ fn table_of_lines(alloc: Global, read: &mut LinesRead) -> Result<Vec<u8>, Import
 }
 
 /// The equipment table, as TOML of version 2, that rows of comma-separated values describe (profile: import): a row of
-/// column names, and a row for each output. Columns may come in any order; columns that `ImportColumn` does not have are
+/// column names, and a row for each output, or for a source that no group sends. Columns may come in any order; columns that `ImportColumn` does not have are
 /// skipped. Receivers, sources and groups are in the order of their first rows, outputs in the order of the rows of their
 /// group. `read_equipment` reads the answer. Error: the first fault of the rows, otherwise the first of the table.
 pub fn import_table(alloc: Global, bytes: &[u8]) -> Result<Vec<u8>, ImportFault>

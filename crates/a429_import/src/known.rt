@@ -3,7 +3,8 @@
 ghost use Rattle.std.specs.Prelude.{◌≡◌, ◌++◌, ◌∷◌, [], IfOk, List, OnOk};
 ghost use Rattle.a429_import.specs.declared.rows.ImportRow.{ImportRow};
 ghost use Rattle.a429_import.specs.ImportTexts.{row_view};
-ghost use Rattle.a429_import.specs.Known.{Knows};
+ghost use Rattle.a429_import.specs.ImportRows.{says_nothing};
+ghost use Rattle.a429_import.specs.Known.{Knows, are_full};
 
 pub mod groups;
 pub mod receivers;
@@ -13,6 +14,7 @@ use crate::known::groups::KnownGroups;
 use crate::known::receivers::KnownReceivers;
 use crate::known::sources::KnownSources;
 use crate::rows::RowFields;
+use a429_equipment::SOURCES;
 use std::alloc::{AllocError, Global};
 
 /// What is known of rows.
@@ -39,6 +41,21 @@ impl Known {
             sources,
             groups,
         })
+    }
+
+    /// Whether a row says nothing new: it has no group, and its source is known.
+    pub fn has_all_of(&self, row: &RowFields<'_>) -> bool
+        requires { (rows : List ImportRow) × Knows self.now rows }
+        ensures { (rows : List ImportRow) → Knows self.now rows → result ≡ says_nothing rows (row_view row.now) }
+    {
+        row.texts.group.is_empty() && self.sources.has(row)
+    }
+
+    /// Whether there are too many sources or groups, or a group has too many outputs.
+    pub fn are_full(&self) -> bool
+        ensures { (rows : List ImportRow) → Knows self.now rows → result ≡ are_full rows }
+    {
+        SOURCES < self.sources.named.len() || self.groups.are_full()
     }
 
     /// Takes one more row. Error: an allocation failed.

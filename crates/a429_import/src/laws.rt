@@ -1,8 +1,18 @@
 //! What is true of the definitions that the contracts cite.
+ghost use Rattle.a429_import.specs.ImportExamples.{ReadsAlone, ReadsFields, ReadsHeadings, ReadsMillis};
 ghost use Rattle.a429_import.specs.ImportedRows.{RowsAreInRecord};
 
-/// The record of the table has what each imported row says: a group with its name and bit rate that has an output with its
-/// interval and hold. The output's source has the row's name, label and SDI; its receiver has the row's name and filters.
+/// The record of the table has what each imported row says: a source with its name, label and SDI, whose receiver has the
+/// row's name and filters. For a row that names a group it has a group with that name and the row's bit rate. That group
+/// has an output of the source, with the row's interval and hold.
 pub fn imported_rows_are_in_record()
     ensures { RowsAreInRecord }
+{}
+
+/// What some fields state, some headings, and rows with and without a group: the definitions, by examples.
+pub fn forms_are_read_as_written()
+    ensures fields { ReadsFields }
+    ensures millis { ReadsMillis }
+    ensures headings { ReadsHeadings }
+    ensures alone { ReadsAlone }
 {}

@@ -1,7 +1,7 @@
 //! An equipment table from rows of comma-separated values, as a spreadsheet writes them.
 //!
-//! `import_table` takes a heading with the names of columns, and below it a row for each output. It gives an equipment table
-//! as TOML. `csv_lines` gives the rows with their lines, and `IMPORT_COLUMNS` the columns that are read.
+//! `import_table` takes a heading with the names of columns, and below it a row for each output, or for a source that no
+//! group sends. It gives an equipment table as TOML. `csv_lines` gives the rows with their lines, and `IMPORT_COLUMNS` the columns that are read.
 //!
 //! Errors: an allocation failed, or the rows or their table have a fault. `ImportFault` has the first fault of the rows,
 //! with its line and its column; otherwise the first fault of the table.
@@ -22,6 +22,7 @@ mod columns;
 mod fault;
 mod fields;
 mod firsts;
+mod forms;
 mod import;
 mod known;
 pub mod laws;
@@ -29,6 +30,7 @@ mod limits;
 mod lines;
 mod named_rows;
 mod names;
+mod plain;
 mod reading;
 mod row_index;
 mod rows;
@@ -37,7 +39,9 @@ mod tables;
 mod texts;
 mod words;
 
-pub use columns::COLUMNS as IMPORT_COLUMNS;
+pub use columns::{
+    COLUMNS as IMPORT_COLUMNS, is_in_millis as is_column_in_millis, is_named as is_column_named,
+};
 pub use fault::{CsvFaultKind, ImportColumn, ImportFault};
 pub use import::import_table;
 pub use lines::{CsvLine, LineCount, csv_lines};

@@ -1,10 +1,10 @@
 //! The first fault of a table that rows describe, if it is a bit rate or a count above a limit. It is found before a table
 //! is built, so one that is built is no larger than a lawful one.
-ghost use Rattle.std.specs.Prelude.{◌≡◌, List, length, nat_lt, pos};
-ghost use Rattle.std.specs.List.{position_from};
+ghost use Rattle.std.specs.Prelude.{◌≡◌, ◌&&◌, List, length, nat_lt, pos};
+ghost use Rattle.std.specs.List.{count_by, position_from};
 ghost use Rattle.a429_table.specs.Faults.{is_within};
 ghost use Rattle.a429_import.specs.declared.rows.ImportRow.{ImportRow};
-ghost use Rattle.a429_import.specs.ImportLimits.{has_too_many_parts, is_wrong_rate, limit_fault};
+ghost use Rattle.a429_import.specs.ImportLimits.{flagged, has_too_many_parts, is_wrong_rate, limit_fault};
 ghost use Rattle.a429_import.specs.ImportTables.{words};
 ghost use Rattle.a429_import.specs.Known.{Knows, itself};
 
@@ -33,26 +33,53 @@ pub fn has_too_many_filters(text: &str) -> bool
     FILTERS < text.split(' ').filter(|part| !part.is_empty()).count()
 }
 
-/// The place of the first wrong bit rate.
-pub fn first_wrong_rate(rates: &[u32]) -> Option<usize>
-    ensures { result ≡ position_from is_wrong_rate 0 rates.now }
+/// The number of flags that are set.
+pub fn count_flags(flags: &[bool]) -> usize
+    ensures { result ≡ count_by itself flags.now }
 {
-    for place in 0..rates.len() {
-        if is_wrong_rate(rates[place]) {
-            return Some(place);
+    let mut count = 0;
+    for place in 0..flags.len() {
+        count += usize::from(flags[place]);
+    }
+    count
+}
+
+fn is_wrong_at(flag: bool, rate: u32) -> bool
+    ensures { result ≡ (flag && is_wrong_rate rate) }
+{
+    flag && is_wrong_rate(rate)
+}
+
+/// The place of the first wrong bit rate among those whose flags are set.
+pub fn first_wrong_rate(flags: &[bool], rates: &[u32]) -> Option<usize>
+    ensures { result ≡ position_from is_wrong_rate 0 (flagged flags.now rates.now) }
+{
+    let mut number = 0;
+    for place in 0..flags.len().min(rates.len()) {
+        if is_wrong_at(flags[place], rates[place]) {
+            return Some(number);
         }
+        number += usize::from(flags[place]);
     }
     None
 }
 
-/// The place of the first number of outputs that is above the limit.
-pub fn first_above(outputs: &[u8]) -> Option<usize>
-    ensures { result ≡ position_from (nat_lt 128) 0 outputs.now }
+fn is_above_at(flag: bool, outputs: u8) -> bool
+    ensures { result ≡ (flag && nat_lt 128 outputs) }
 {
-    for place in 0..outputs.len() {
-        if OUTPUTS < usize::from(outputs[place]) {
-            return Some(place);
+    flag && OUTPUTS < usize::from(outputs)
+}
+
+/// The place of the first number of outputs that is above the limit, among those whose flags are set.
+pub fn first_above(flags: &[bool], outputs: &[u8]) -> Option<usize>
+    ensures { result ≡ position_from (nat_lt 128) 0 (flagged flags.now outputs.now) }
+{
+    let mut number = 0;
+    for place in 0..flags.len().min(outputs.len()) {
+        if is_above_at(flags[place], outputs[place]) {
+            return Some(number);
         }
+        number += usize::from(flags[place]);
     }
     None
 }
@@ -87,7 +114,7 @@ pub fn limit_fault(known: &Known) -> Option<(FaultKind, TablePlace)>
     if has_too_many_parts(
         known.receivers.named.len(),
         known.sources.named.len(),
-        known.groups.named.len(),
+        known.groups.len(),
     ) {
         return Some((FaultKind::TooMany, TablePlace::Root));
     }

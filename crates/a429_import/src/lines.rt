@@ -1,10 +1,11 @@
 //! The rows of a text of comma-separated values.
-ghost use Rattle.std.specs.Prelude.{◌≡◌, IfOk, length, option_map};
+ghost use Rattle.std.specs.Prelude.{◌≡◌, ◌++◌, ◌∷◌, [], filter, IfOk, OnOk, length, option_map};
 ghost use Rattle.std.specs.Result.{result_ok};
 ghost use Rattle.csv.specs.Records.{fields_of};
 ghost use Rattle.a429_import.specs.ImportFields.{field_in};
-ghost use Rattle.a429_import.specs.Imports.{AreLines};
+ghost use Rattle.a429_import.specs.Imports.{AreLines, has_text, is_filled};
 
+use crate::forms::{Form, form_of};
 use csv::{ByteRecord, Error, ReaderBuilder};
 use std::alloc::{AllocError, Global};
 
@@ -12,7 +13,16 @@ use std::alloc::{AllocError, Global};
 #[derive(Drop)]
 pub struct CsvLine {
     pub number: u64,
+    /// What separates its fields.
+    pub separator: u8,
     pub fields: ByteRecord,
+}
+
+/// Whether a field is not empty.
+fn is_filled(field: &[u8]) -> bool
+    ensures { result ≡ is_filled field.now }
+{
+    !field.is_empty()
 }
 
 impl CsvLine {
@@ -21,6 +31,18 @@ impl CsvLine {
         ensures { result ≡ length (fields_of self.now.fields) }
     {
         self.fields.len()
+    }
+
+    /// Whether a field is not empty.
+    pub fn has_text(&self) -> bool
+        ensures { result ≡ has_text (fields_of self.now.fields) }
+    {
+        for place in 0..self.len() {
+            if is_filled(self.field(place)) {
+                return true;
+            }
+        }
+        false
     }
 
     /// The field in a column, counted from 0; empty if there is no such field.
@@ -90,37 +112,63 @@ impl LineCount {
     }
 }
 
+/// Counts the line ends of a text before its heading.
+pub fn count_before(text: &[u8], from_heading: &[u8]) -> LineCount {
+    let mut count = LineCount::new();
+    let before = text.len().saturating_sub(from_heading.len());
+    for byte in text.get(..before).unwrap_or(&[]) {
+        count.pass(*byte);
+    }
+    count.at = 0;
+    count
+}
+
 /// A line, from what the library `csv` reads. The library refuses no row, so its only error is that an allocation failed.
 pub fn line_of(
-    text: &[u8],
+    form: Form<'_>,
     count: &mut LineCount,
     row: Result<ByteRecord, Error>,
 ) -> Result<CsvLine, AllocError>
-    ensures { option_map (λ line. line.fields) (result_ok result) ≡ result_ok row }
+    ensures fields { option_map (λ line. line.fields) (result_ok result) ≡ result_ok row }
+    ensures separator { IfOk result (λ line. line.separator ≡ form.entry.separator) }
 {
     match row {
         Ok(fields) => Ok(CsvLine {
-            number: count.line_of_row(text, &fields),
+            number: count.line_of_row(form.text, &fields),
+            separator: form.separator,
             fields,
         }),
         Err(_) => Err(AllocError),
     }
 }
 
-/// The rows of a text, as the library `csv` reads them. A byte order mark and empty lines are skipped, a carriage return
-/// may come before a line feed, and fields may have quotes. Error: an allocation failed.
+/// A line after others, unless its fields are all empty. Error: an allocation failed.
+fn push_line(lines: &mut Vec<CsvLine>, line: CsvLine) -> Result<(), AllocError>
+    ensures { OnOk result (lines.new.items ≡ lines.old.items ++ filter (λ l. has_text (fields_of l.fields)) (line ∷ [])) }
+{
+    if line.has_text() {
+        lines.push(line)?;
+    }
+    Ok(())
+}
+
+/// The rows of a text from its heading on, as the library `csv` reads them. A byte order mark, lines above the heading,
+/// empty lines and rows of empty fields are skipped. A carriage return may come before a line feed, and fields may have
+/// quotes. Error: an allocation failed.
 pub fn csv_lines(alloc: Global, text: &[u8]) -> Result<Vec<CsvLine>, AllocError>
     ensures { IfOk result (λ lines. AreLines text.now lines.items) }
 {
+    let form = form_of(text);
     let reader = ReaderBuilder::new()
         .has_headers(false)
         .flexible(true)
-        .from_reader(alloc, text);
-    let mut count = LineCount::new();
+        .delimiter(form.separator)
+        .from_reader(alloc, form.text);
+    let mut count = count_before(text, form.text);
     let mut lines = Vec::new(alloc);
     for row in reader.into_byte_records() {
-        let line = line_of(text, &mut count, row)?;
-        lines.push(line)?;
+        let line = line_of(form, &mut count, row)?;
+        push_line(&mut lines, line)?;
     }
     Ok(lines)
 }

@@ -1,22 +1,22 @@
 //! What rows say, one line after the other. No line is kept.
-ghost use Rattle.std.specs.Prelude.{◌≡◌, ◌++◌, [], ◌∷◌, IfOk, List, OnOk, Some};
+ghost use Rattle.std.specs.Prelude.{◌≡◌, ◌++◌, [], ◌∷◌, filter, IfOk, List, OnOk, Some};
 ghost use Rattle.std.specs.Result.{result_map_both};
 ghost use Rattle.csv.specs.Records.{fields_of};
 ghost use Rattle.a429_import.specs.declared.lines.CsvLine.{CsvLine};
 ghost use Rattle.a429_import.specs.declared.rows.ImportRow.{ImportRow};
 ghost use Rattle.a429_import.specs.ImportClashes.{Agree};
 ghost use Rattle.a429_import.specs.ImportReading.{AreRead, HasRows, HaveRows, IsKept, IsTaken, StandsFor, heading_fault, with_line};
-ghost use Rattle.a429_import.specs.ImportRows.{next_row};
+ghost use Rattle.a429_import.specs.ImportRows.{next_row, with_row};
 ghost use Rattle.a429_import.specs.ImportTexts.{row_view};
-ghost use Rattle.a429_import.specs.Imports.{AreLines};
-ghost use Rattle.a429_import.specs.Known.{Knows, KnowsGroups};
+ghost use Rattle.a429_import.specs.Imports.{AreLines, has_text};
+ghost use Rattle.a429_import.specs.Known.{Knows};
 
 use crate::clashes::first_clash;
-use crate::columns::wrong_column;
+use crate::columns::{Heading, wrong_column};
 use crate::fault::{CsvFaultKind, ImportColumn, ImportFault};
+use crate::forms::form_of;
 use crate::known::Known;
-use crate::known::groups::KnownGroups;
-use crate::lines::{CsvLine, LineCount, line_of};
+use crate::lines::{CsvLine, count_before, line_of};
 use crate::rows::{ImportRow, RowFields, copy_of, row_of};
 use csv::ReaderBuilder;
 use std::alloc::{AllocError, Global};
@@ -25,7 +25,7 @@ use std::alloc::{AllocError, Global};
 #[derive(Drop)]
 pub struct RowsRead {
     pub known: Known,
-    /// The rows, up to the first with which there are too many groups, or too many outputs of a group.
+    /// The rows, up to the first with which there are too many sources or groups, or too many outputs of a group.
     pub kept: Vec<ImportRow>,
     /// Whether there is such a row.
     pub is_full: bool,
@@ -34,7 +34,7 @@ pub struct RowsRead {
 /// What is known of lines that were read.
 #[derive(Drop)]
 pub struct LinesRead {
-    pub heading: Option<CsvLine>,
+    pub heading: Option<Heading>,
     /// What the lines below the heading say.
     pub rows: RowsRead,
     /// The first fault, after which lines are not looked at.
@@ -62,12 +62,12 @@ impl LinesRead {
 /// What a row says, if it has its form and agrees with all earlier ones. Error: what is wrong with it, and the column.
 fn next_row<'a>(
     known: &Known,
-    heading: &CsvLine,
+    heading: &Heading,
     line: &'a CsvLine,
 ) -> Result<RowFields<'a>, (CsvFaultKind, Option<ImportColumn>)>
     requires { (rows : List ImportRow) × Knows known.now rows }
     ensures { (rows : List ImportRow) → Agree rows → Knows known.now rows
-        → result_map_both row_view (λ f. (line.now.number, f.0, f.1)) result ≡ next_row (fields_of heading.now.fields) rows line.now }
+        → result_map_both row_view (λ f. (line.now.number, f.0, f.1)) result ≡ next_row (fields_of heading.now.line.fields) rows line.now }
 {
     match row_of(heading, line) {
         Ok(row) => match first_clash(known, &row) {
@@ -83,40 +83,52 @@ fn keep(
     alloc: Global,
     kept: &mut Vec<ImportRow>,
     is_full: bool,
-    groups: &KnownGroups,
+    known: &Known,
     row: &RowFields<'_>,
 ) -> Result<bool, AllocError>
-    ensures { IfOk result (λ full. (rows : List ImportRow) → KnowsGroups groups.now (rows ++ row_view row.now ∷ [])
+    ensures { IfOk result (λ full. (rows : List ImportRow) → Knows known.now (rows ++ row_view row.now ∷ [])
         → IsKept is_full kept.old.items rows → IsKept full kept.new.items (rows ++ row_view row.now ∷ [])) }
 {
-    if is_full || groups.are_full() {
+    if is_full || known.are_full() {
         return Ok(true);
     }
     kept.push(copy_of(alloc, row)?)?;
     Ok(false)
 }
 
-/// Takes a row.
-fn take_row(alloc: Global, read: &mut RowsRead, row: &RowFields<'_>) -> Result<(), AllocError>
+/// Takes a row that says something new.
+fn take_new(alloc: Global, read: &mut RowsRead, row: &RowFields<'_>) -> Result<(), AllocError>
     requires { (rows : List ImportRow) × Knows read.old.known rows }
     ensures { OnOk result ((rows : List ImportRow) → HasRows read.old rows → HasRows read.new (rows ++ row_view row.now ∷ [])) }
 {
     read.known.note(row)?;
-    let is_full = keep(alloc, &mut read.kept, read.is_full, &read.known.groups, row)?;
+    let is_full = keep(alloc, &mut read.kept, read.is_full, &read.known, row)?;
     read.is_full = is_full;
     Ok(())
+}
+
+/// Takes a row, unless it says nothing new.
+fn take_row(alloc: Global, read: &mut RowsRead, row: &RowFields<'_>) -> Result<(), AllocError>
+    requires { (rows : List ImportRow) × Knows read.old.known rows }
+    ensures { OnOk result ((rows : List ImportRow) → HasRows read.old rows → HasRows read.new (with_row rows (row_view row.now))) }
+{
+    if read.known.has_all_of(row) {
+        Ok(())
+    } else {
+        take_new(alloc, read, row)
+    }
 }
 
 /// Takes a line below the heading.
 fn take_below(
     alloc: Global,
     read: &mut RowsRead,
-    heading: &CsvLine,
+    heading: &Heading,
     line: &CsvLine,
 ) -> Result<(), ImportFault>
     requires { (rows : List ImportRow) × Knows read.old.known rows }
     ensures { (rows : List ImportRow) → Agree rows → HasRows read.old rows
-        → IsTaken result read.new (with_line (fields_of heading.now.fields) rows line.now) }
+        → IsTaken result read.new (with_line (fields_of heading.now.line.fields) rows line.now) }
 {
     match next_row(&read.known, heading, line) {
         Ok(row) => {
@@ -132,22 +144,22 @@ fn take_below(
 }
 
 /// The fault of a heading that lacks a column, or has it twice.
-pub fn wrong_heading(column: ImportColumn) -> ImportFault
-    ensures { result ≡ ImportFault.Csv 1 CsvFaultKind.Column (Some column) }
+pub fn wrong_heading(line: u64, column: ImportColumn) -> ImportFault
+    ensures { result ≡ ImportFault.Csv line CsvFaultKind.Column (Some column) }
 {
     ImportFault::Csv {
-        line: 1,
+        line,
         kind: CsvFaultKind::Column,
         column: Some(column),
     }
 }
 
 /// The fault of a heading, if it lacks a column or has it twice.
-fn heading_fault(heading: &CsvLine) -> Option<ImportFault>
-    ensures { result ≡ heading_fault (fields_of heading.now.fields) }
+fn heading_fault(line: &CsvLine) -> Option<ImportFault>
+    ensures { result ≡ heading_fault line.now }
 {
-    match wrong_column(heading) {
-        Some(column) => Some(wrong_heading(column)),
+    match wrong_column(line) {
+        Some(column) => Some(wrong_heading(line.number, column)),
         None => None,
     }
 }
@@ -160,7 +172,7 @@ fn next_line(alloc: Global, read: &mut LinesRead, line: CsvLine) -> Option<Impor
     match &read.heading {
         None => {
             let fault = heading_fault(&line);
-            read.heading = Some(line);
+            read.heading = Some(Heading::of(line));
             fault
         }
         Some(heading) => take_below(alloc, &mut read.rows, heading, &line).err(),
@@ -178,19 +190,32 @@ fn take_line(alloc: Global, read: &mut LinesRead, line: CsvLine)
     }
 }
 
-/// Takes all lines of a text. The first line is the heading. Error: an allocation failed.
+/// The same, unless the fields of the line are all empty.
+fn take_filled(alloc: Global, read: &mut LinesRead, line: CsvLine)
+    requires { (lines : List CsvLine) × StandsFor read.old lines }
+    ensures { (lines : List CsvLine) → StandsFor read.old lines
+        → StandsFor read.new (lines ++ filter (λ l. has_text (fields_of l.fields)) (line ∷ [])) }
+{
+    if line.has_text() {
+        take_line(alloc, read, line);
+    }
+}
+
+/// Takes all lines of a text from its heading on. Error: an allocation failed.
 pub fn read_lines(alloc: Global, text: &[u8], read: &mut LinesRead) -> Result<(), AllocError>
     requires { StandsFor read.old [] }
     ensures { OnOk result ((lines : List CsvLine) × AreLines text.now lines × StandsFor read.new lines) }
 {
+    let form = form_of(text);
     let reader = ReaderBuilder::new()
         .has_headers(false)
         .flexible(true)
-        .from_reader(alloc, text);
-    let mut count = LineCount::new();
+        .delimiter(form.separator)
+        .from_reader(alloc, form.text);
+    let mut count = count_before(text, form.text);
     for row in reader.into_byte_records() {
-        let line = line_of(text, &mut count, row)?;
-        take_line(alloc, read, line);
+        let line = line_of(form, &mut count, row)?;
+        take_filled(alloc, read, line);
     }
     Ok(())
 }

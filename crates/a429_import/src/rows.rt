@@ -1,20 +1,20 @@
 //! What a row says by itself.
-ghost use Rattle.std.specs.Prelude.{◌≡◌, IfOk};
+ghost use Rattle.std.specs.Prelude.{◌≡◌, IfOk, None};
 ghost use Rattle.std.specs.Result.{result_map_both};
 ghost use Rattle.csv.specs.Records.{fields_of};
-ghost use Rattle.a429_import.specs.ImportFields.{filters_in, hold_in, label_in, number_in, sdi_in, text_in};
-ghost use Rattle.a429_import.specs.ImportRows.{numbers_of, row_of, stated_at, texts_of};
+ghost use Rattle.a429_import.specs.ImportFields.{filters_in, hold_in, label_in, rate_in, sdi_in, text_in};
+ghost use Rattle.a429_import.specs.ImportRows.{interval_at, names_group, numbers_of, output_at, row_of, stated_at, texts_of};
 ghost use Rattle.a429_import.specs.ImportTexts.{row_view, text_view, texts_view};
 
-use crate::columns::field_of;
+use crate::columns::Heading;
 use crate::fault::{CsvFaultKind, ImportColumn};
-use crate::fields::{filters_in, hold_in, label_in, number_in, sdi_in, text_in};
+use crate::fields::{filters_in, hold_of, interval_of, label_in, rate_of, sdi_in, text_in};
 use crate::lines::CsvLine;
 use a429_equipment::Name;
 use a429_word::{Label, Sdi};
 use std::alloc::{AllocError, Global};
 
-/// The texts of a row. Their form is not checked here.
+/// The texts of a row. Their form is not checked here. The name of the group is empty if the row has none.
 #[derive(Drop)]
 pub struct RowTexts {
     pub group: Name,
@@ -33,7 +33,7 @@ pub struct TextFields<'a> {
     pub filters: &'a str,
 }
 
-/// The numbers of a row.
+/// The numbers of a row. Those of an output are 0 or `None` if the row has no group.
 #[derive(Clone, Copy)]
 pub struct RowNumbers {
     /// In bit/s.
@@ -49,7 +49,8 @@ pub struct RowNumbers {
     pub hold: Option<u32>,
 }
 
-/// What a row says: an output of a group, with its source, the source's receiver, and the receiver's filters.
+/// What a row says: an output of a group, with its source, the source's receiver, and the receiver's filters. Without a group,
+/// the source and its receiver alone.
 #[derive(Drop)]
 pub struct ImportRow {
     pub texts: RowTexts,
@@ -63,56 +64,85 @@ pub struct RowFields<'a> {
     pub numbers: RowNumbers,
 }
 
-fn number_at(heading: &CsvLine, line: &CsvLine, column: ImportColumn) -> Result<u32, ImportColumn>
-    ensures { result ≡ stated_at number_in (fields_of heading.now.fields) (fields_of line.now.fields) column }
+/// Whether a row names a group.
+fn names_group(heading: &Heading, line: &CsvLine) -> bool
+    ensures { result ≡ names_group (fields_of heading.now.line.fields) (fields_of line.now.fields) }
 {
-    number_in(field_of(heading, line, column)).ok_or(column)
+    !heading.field_of(line, ImportColumn::Group).is_empty()
 }
 
-fn label_at(heading: &CsvLine, line: &CsvLine) -> Result<Label, ImportColumn>
-    ensures { result ≡ stated_at label_in (fields_of heading.now.fields) (fields_of line.now.fields) ImportColumn.Label }
+fn rate_at(heading: &Heading, line: &CsvLine) -> Result<u32, ImportColumn>
+    ensures { result ≡ output_at rate_in 0 (fields_of heading.now.line.fields) (fields_of line.now.fields) ImportColumn.Rate }
 {
-    label_in(field_of(heading, line, ImportColumn::Label)).ok_or(ImportColumn::Label)
+    let field = heading.field_of(line, ImportColumn::Rate);
+    rate_of(names_group(heading, line), field).ok_or(ImportColumn::Rate)
 }
 
-fn sdi_at(heading: &CsvLine, line: &CsvLine) -> Result<Option<Sdi>, ImportColumn>
-    ensures { result ≡ stated_at sdi_in (fields_of heading.now.fields) (fields_of line.now.fields) ImportColumn.Sdi }
+fn least_at(heading: &Heading, line: &CsvLine) -> Result<u32, ImportColumn>
+    ensures { result ≡ interval_at line.now.separator (fields_of heading.now.line.fields) (fields_of line.now.fields) ImportColumn.MinUs }
 {
-    sdi_in(field_of(heading, line, ImportColumn::Sdi)).ok_or(ImportColumn::Sdi)
+    let field = heading.field_of(line, ImportColumn::MinUs);
+    let in_millis = heading.is_min_in_millis;
+    interval_of(names_group(heading, line), in_millis, line.separator, field).ok_or(
+        ImportColumn::MinUs,
+    )
 }
 
-fn hold_at(heading: &CsvLine, line: &CsvLine) -> Result<Option<u32>, ImportColumn>
-    ensures { result ≡ stated_at hold_in (fields_of heading.now.fields) (fields_of line.now.fields) ImportColumn.Hold }
+fn most_at(heading: &Heading, line: &CsvLine) -> Result<u32, ImportColumn>
+    ensures { result ≡ interval_at line.now.separator (fields_of heading.now.line.fields) (fields_of line.now.fields) ImportColumn.MaxUs }
 {
-    hold_in(field_of(heading, line, ImportColumn::Hold)).ok_or(ImportColumn::Hold)
+    let field = heading.field_of(line, ImportColumn::MaxUs);
+    let in_millis = heading.is_max_in_millis;
+    interval_of(names_group(heading, line), in_millis, line.separator, field).ok_or(
+        ImportColumn::MaxUs,
+    )
+}
+
+fn label_at(heading: &Heading, line: &CsvLine) -> Result<Label, ImportColumn>
+    ensures { result ≡ stated_at label_in (fields_of heading.now.line.fields) (fields_of line.now.fields) ImportColumn.Label }
+{
+    label_in(heading.field_of(line, ImportColumn::Label)).ok_or(ImportColumn::Label)
+}
+
+fn sdi_at(heading: &Heading, line: &CsvLine) -> Result<Option<Sdi>, ImportColumn>
+    ensures { result ≡ stated_at sdi_in (fields_of heading.now.line.fields) (fields_of line.now.fields) ImportColumn.Sdi }
+{
+    sdi_in(heading.field_of(line, ImportColumn::Sdi)).ok_or(ImportColumn::Sdi)
+}
+
+fn hold_at(heading: &Heading, line: &CsvLine) -> Result<Option<u32>, ImportColumn>
+    ensures { result ≡ output_at hold_in None (fields_of heading.now.line.fields) (fields_of line.now.fields) ImportColumn.Hold }
+{
+    let field = heading.field_of(line, ImportColumn::Hold);
+    hold_of(names_group(heading, line), field).ok_or(ImportColumn::Hold)
 }
 
 fn text_at<'a>(
-    heading: &CsvLine,
+    heading: &Heading,
     line: &'a CsvLine,
     column: ImportColumn,
 ) -> Result<&'a str, ImportColumn>
-    ensures { text_view result ≡ stated_at text_in (fields_of heading.now.fields) (fields_of line.now.fields) column }
+    ensures { text_view result ≡ stated_at text_in (fields_of heading.now.line.fields) (fields_of line.now.fields) column }
 {
-    text_in(field_of(heading, line, column)).ok_or(column)
+    text_in(heading.field_of(line, column)).ok_or(column)
 }
 
-fn filters_at<'a>(heading: &CsvLine, line: &'a CsvLine) -> Result<&'a str, ImportColumn>
-    ensures { text_view result ≡ stated_at filters_in (fields_of heading.now.fields) (fields_of line.now.fields) ImportColumn.Filters }
+fn filters_at<'a>(heading: &Heading, line: &'a CsvLine) -> Result<&'a str, ImportColumn>
+    ensures { text_view result ≡ stated_at filters_in (fields_of heading.now.line.fields) (fields_of line.now.fields) ImportColumn.Filters }
 {
-    filters_in(field_of(heading, line, ImportColumn::Filters)).ok_or(ImportColumn::Filters)
+    filters_in(heading.field_of(line, ImportColumn::Filters)).ok_or(ImportColumn::Filters)
 }
 
 /// The numbers of a row. Error: the first column with a wrong form.
 #[tactic(auto, unfolding(crate::specs::ImportRows::numbers_of))]
-fn row_numbers(heading: &CsvLine, line: &CsvLine) -> Result<RowNumbers, ImportColumn>
-    ensures { result ≡ numbers_of (fields_of heading.now.fields) (fields_of line.now.fields) }
+fn row_numbers(heading: &Heading, line: &CsvLine) -> Result<RowNumbers, ImportColumn>
+    ensures { result ≡ numbers_of line.now.separator (fields_of heading.now.line.fields) (fields_of line.now.fields) }
 {
-    let rate = number_at(heading, line, ImportColumn::Rate)?;
+    let rate = rate_at(heading, line)?;
     let label = label_at(heading, line)?;
     let sdi = sdi_at(heading, line)?;
-    let min_us = number_at(heading, line, ImportColumn::MinUs)?;
-    let max_us = number_at(heading, line, ImportColumn::MaxUs)?;
+    let min_us = least_at(heading, line)?;
+    let max_us = most_at(heading, line)?;
     let hold = hold_at(heading, line)?;
     Ok(RowNumbers {
         rate,
@@ -126,8 +156,8 @@ fn row_numbers(heading: &CsvLine, line: &CsvLine) -> Result<RowNumbers, ImportCo
 
 /// The texts of a row. Error: the first column that is not UTF-8, or whose filters have a wrong form.
 #[tactic(auto, unfolding(crate::specs::ImportRows::texts_of))]
-fn text_fields<'a>(heading: &CsvLine, line: &'a CsvLine) -> Result<TextFields<'a>, ImportColumn>
-    ensures { result_map_both texts_view (λ c. c) result ≡ texts_of (fields_of heading.now.fields) (fields_of line.now.fields) }
+fn text_fields<'a>(heading: &Heading, line: &'a CsvLine) -> Result<TextFields<'a>, ImportColumn>
+    ensures { result_map_both texts_view (λ c. c) result ≡ texts_of (fields_of heading.now.line.fields) (fields_of line.now.fields) }
 {
     let group = text_at(heading, line, ImportColumn::Group)?;
     let source = text_at(heading, line, ImportColumn::Source)?;
@@ -145,13 +175,13 @@ fn text_fields<'a>(heading: &CsvLine, line: &'a CsvLine) -> Result<TextFields<'a
 /// fields than the heading.
 #[tactic(auto, unfolding(crate::specs::ImportRows::row_of))]
 pub fn row_of<'a>(
-    heading: &CsvLine,
+    heading: &Heading,
     line: &'a CsvLine,
 ) -> Result<RowFields<'a>, Option<ImportColumn>>
     ensures { result_map_both row_view (λ column. (line.now.number, CsvFaultKind.Form, column)) result
-        ≡ row_of (fields_of heading.now.fields) line.now }
+        ≡ row_of (fields_of heading.now.line.fields) line.now }
 {
-    if line.len() != heading.len() {
+    if line.len() != heading.line.len() {
         return Err(None);
     }
     let numbers = match row_numbers(heading, line) {

@@ -1,12 +1,12 @@
 //! The equipment table that rows describe, as TOML.
-ghost use Rattle.std.specs.Prelude.{◌≡◌, IfOk, [], ◌∷◌, Some, codes, if◌then◌else◌, map, slice_get, string_bytes, take};
+ghost use Rattle.std.specs.Prelude.{◌≡◌, IfOk, [], ◌∷◌, Some, codes, filter, if◌then◌else◌, map, slice_get, string_bytes, take};
 ghost use Rattle.toml.specs.Data.{string};
 ghost use Rattle.toml.specs.View.{table_view, view};
 ghost use Rattle.a429_word.specs.Texts.{octal};
 ghost use Rattle.a429_word.specs.Written.{Gains};
 ghost use Rattle.toml.specs.Parse.{parse_document};
 ghost use Rattle.a429_import.specs.ImportBuilding.{GainsTables, Puts, PutsFilters, PutsHold};
-ghost use Rattle.a429_import.specs.ImportTables.{group_tree, is_word, listed, output_tree, part_tree, part_trees, receiver_tree, root_members, rows_of_group, sdi_data, source_tree, unless_known, words};
+ghost use Rattle.a429_import.specs.ImportTables.{group_tree, is_stated, is_word, listed, output_tree, part_tree, part_trees, receiver_tree, root_members, rows_of_group, sdi_data, source_tree, unless_known, words};
 ghost use Rattle.a429_import.specs.NextRows.{IsFirst, outputs_at};
 
 use crate::building::{put, put_number, put_text};
@@ -188,7 +188,17 @@ fn part_table(
     }
 }
 
-/// Adds the table of the receiver, the source or the group of a row, if no earlier row has the same.
+/// Whether a row states a receiver, a source or a group: it has no group if its name is empty.
+fn is_stated(part: Part, row: &ImportRow) -> bool
+    ensures { result ≡ is_stated part row.now }
+{
+    match part {
+        Part::Receivers | Part::Sources => true,
+        Part::Groups => !row.texts.group.as_str().is_empty(),
+    }
+}
+
+/// Adds the table of the receiver, the source or the group of a row, if it has one and no earlier row has the same.
 fn push_first(
     alloc: Global,
     tables: &mut Vec<Value>,
@@ -199,9 +209,9 @@ fn push_first(
 ) -> Result<(), AllocError>
     requires { slice_get index.now.rows.now number ≡ Some row.now }
     ensures { GainsTables result tables.old tables.new
-        (map (part_tree part index.now.rows.now) (unless_known part (take number index.now.rows.now) row.now)) }
+        (map (part_tree part index.now.rows.now) (filter (is_stated part) (unless_known part (take number index.now.rows.now) row.now))) }
 {
-    if index.is_first(part, number, row) {
+    if index.is_first(part, number, row) && is_stated(part, row) {
         tables.push(part_table(alloc, part, index, number, row)?)?;
     }
     Ok(())

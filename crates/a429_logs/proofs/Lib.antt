@@ -6,3 +6,6 @@ mod ReadEntries
 mod PartsWords
 mod HexNumbers
 pub mod NeverFall
+mod PlainRows
+mod FirstMarks
+mod ReadDigits

@@ -3,6 +3,8 @@ ghost use Rattle.std.specs.Prelude.{◌≡◌, ◌<◌, ◌∷◌, [], Some, Non
 ghost use Rattle.std.specs.List.{list_any};
 ghost use Rattle.a429_logs.specs.LogFields.{Takes, field_in, fields_left, fields_of, is_mark, mark_in, parts_left, parts_of, trimmed, without_byte_order_mark};
 
+use memchr::memchr;
+
 /// What ends a line of a log, or a field of a line.
 #[derive(Clone, Copy, PartialEq, Eq)]
 pub enum Mark {
@@ -27,10 +29,14 @@ impl Mark {
     }
 
     /// The place of the first such mark.
+    #[inline(always)]
     fn first(self, text: &[u8]) -> Option<usize>
         ensures { result ≡ position (is_mark self) text.now }
     {
-        text.iter().position(|byte| self.is(*byte))
+        match self {
+            Mark::LineFeed => memchr(b'\n', text),
+            _ => text.iter().position(|byte| self.is(*byte)),
+        }
     }
 
     /// Whether a text has such a mark.
@@ -94,6 +100,7 @@ impl<'a> Parts<'a> {
     }
 
     /// Takes the next part. `None` if none is left.
+    #[inline(always)]
     pub fn next(&mut self) -> Option<&'a [u8]>
         ensures mark { self.new.mark ≡ self.old.mark }
         ensures taken { Takes (λ part. part.now) result (parts_left self.old) (parts_left self.new) }

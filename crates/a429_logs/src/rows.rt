@@ -1,11 +1,14 @@
 //! The rows of a log: a time, a name and a word.
-ghost use Rattle.std.specs.Prelude.{◌≡◌, option_map};
+ghost use Rattle.std.specs.Prelude.{◌≡◌, IfSome, Ok, option_map, true};
+ghost use Rattle.a429_logs.specs.LogColumns.{plain_places};
 ghost use Rattle.a429_logs.specs.LogFields.{fields_of};
-ghost use Rattle.a429_logs.specs.LogRows.{caught, caught_in, field_at, parts_word, row_of, shown, shown_row, word_in, word_place};
+ghost use Rattle.a429_logs.specs.LogRows.{caught, caught_in, field_at, parts_word, row_of, shown, shown_row, stated_by, word_in, word_place};
+ghost use Rattle.a429_logs.specs.declared.fields.Mark.TheVariants.{Blank};
+ghost use Rattle.a429_logs.specs.declared.times.TimeUnit.TheVariants.{Microseconds};
 
 use crate::columns::{PartsPlaces, Places, WordPlaces};
-use crate::fields::{Fields, Mark};
-use crate::times::{TimeUnit, time_of};
+use crate::fields::{Fields, Mark, Parts};
+use crate::times::{TimeUnit, decimal_digits, time_of};
 use crate::words::{two_bits, value_in, whole_word, word_of};
 use a429_word::Label;
 
@@ -121,6 +124,35 @@ fn word_in(place: &WordPlaces, mark: Mark, line: &[u8], word: &[u8]) -> Result<u
     }
 }
 
+/// Whether rows are times in microseconds, names and words between blanks, as most are.
+fn is_plain(unit: TimeUnit, mark: Mark, places: &Places) -> bool
+    ensures { result ≡ true → (unit ≡ Microseconds) × (mark ≡ Blank) × (places.now ≡ plain_places) }
+{
+    match (unit, mark, places.word) {
+        (TimeUnit::Microseconds, Mark::Blank, WordPlaces::Whole(2)) => {
+            places.count == 3 && places.time == 0 && places.name == 1
+        }
+        _ => false,
+    }
+}
+
+/// The word that a row states which is a time in microseconds, a name and a word between single blanks. `None` for any
+/// other row.
+fn plain_row(line: &[u8]) -> Option<StatedWord<'_>>
+    ensures { IfSome result (λ word. row_of Microseconds Blank plain_places (fields_of Blank line.now) ≡ Ok (stated_by word)) }
+{
+    let mut parts = Parts::of(Mark::Blank, line);
+    let time = parts.next()?;
+    let name = parts.next()?;
+    let word = parts.next()?;
+    if name.is_empty() || parts.next().is_some() {
+        return None;
+    }
+    let time = decimal_digits(time)?;
+    let raw = whole_word(word)?;
+    Some(StatedWord { time, name, raw })
+}
+
 /// The word that a row states. Error: the first fault of the row.
 #[tactic(auto, unfolding(crate::specs::LogRows::row_of))]
 pub fn row_of<'a>(
@@ -131,6 +163,11 @@ pub fn row_of<'a>(
 ) -> Result<StatedWord<'a>, RowFault>
     ensures { shown_row result ≡ row_of unit mark places.now (fields_of mark line.now) }
 {
+    if is_plain(unit, mark, places) {
+        if let Some(word) = plain_row(line) {
+            return Ok(word);
+        }
+    }
     let Some(row) = row_fields(places, mark, line) else {
         return Err(RowFault::Fields);
     };

@@ -97,11 +97,17 @@ fn value(digits: &[u8]) -> u64
 pub fn decimal_digits(text: &[u8]) -> Option<u64>
     ensures { result ≡ decimal_digits text.now }
 {
-    if !text.is_empty() && text.len() <= 18 && are_digits(text) {
-        Some(value(text))
-    } else {
-        None
+    if text.is_empty() || text.len() > 18 {
+        return None;
     }
+    let mut value = 0;
+    for digit in text {
+        if !digit.is_ascii_digit() {
+            return None;
+        }
+        value = value * 10 + u64::from(*digit - b'0');
+    }
+    Some(value)
 }
 
 /// The microseconds that whole units and the decimals below them state.

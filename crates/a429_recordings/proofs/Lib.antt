@@ -1,5 +1,8 @@
 pub mod LogLines
 pub mod NotedWords
+pub mod BoxWords
+pub mod JudgedRows
+pub mod JudgedFiles
 pub mod Timelines
 pub mod SimulatedSteps
 pub mod Played
@@ -16,3 +19,6 @@ pub mod StepOrder
 pub mod LastAccepted
 pub mod LateWords
 pub mod LateRows
+pub mod Silence
+pub mod EarlySlots
+pub mod SilentSlots

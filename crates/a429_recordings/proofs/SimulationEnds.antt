@@ -14,7 +14,7 @@ use Rattle.a429_slots.specs.Tables.{SlotTable, frame_of}
 use Rattle.a429_grid.specs.Grid.{slot_time}
 use Rattle.a429_slots.specs.Proposed.{Proposed}
 use Rattle.a429_recordings.specs.Timeline.{longest_frame, rate_of, slots_by}
-use Rattle.a429_recordings.specs.Tracks.{AreCountedTo, AreTracks, IsTrack}
+use Rattle.a429_recordings.specs.Tracks.{AreCountedTo, AreTracks, IsTrack, StartsAt, slots_before}
 use Rattle.a429_recordings.specs.declared.simulate.tracks.Track.{Track}
 
 most_by : (n a rate : ℕ) → 1 ≤ rate → n * rate < a + rate → n ≤ a
@@ -63,9 +63,9 @@ get_push_cases (z ∷ xs) x (suc i) y here = elim (get_push_cases xs x i y here)
 ]
 
 -- a group more
-pub counted_more : (q : Proposed) (last n : ℕ) (tracks : List Track) (x : Track) → AreCountedTo q last n tracks → x.rate ≡ rate_of q n → x.slots ≡ slots_by q last n → IsTrack x → x.next ≡ 0
-    → AreCountedTo q last (n + 1) (tracks ++ x ∷ [])
-counted_more q last n tracks x C rate slots sound first = record {
+pub counted_more : (q : Proposed) (start last n : ℕ) (tracks : List Track) (x : Track) → AreCountedTo q start last n tracks → x.rate ≡ rate_of q n → x.slots ≡ slots_by q last n → IsTrack x
+    → StartsAt start x → AreCountedTo q start last (n + 1) (tracks ++ x ∷ [])
+counted_more q start last n tracks x C rate slots sound first = record {
   many = omega (arith, length-append tracks (x ∷ []), C.many);
   rates = λ g y here. elim (get_push_cases tracks x g y here) [
     | inl old ↦ C.rates g y old
@@ -81,12 +81,12 @@ counted_more q last n tracks x C rate slots sound first = record {
   ];
   begun = λ g y here. elim (get_push_cases tracks x g y here) [
     | inl old ↦ C.begun g y old
-    | inr new ↦ subst (λ (z : Track). z.next ≡ 0) (sym new.1) first
+    | inr new ↦ subst (StartsAt start) (sym new.1) first
   ];
 }
 
-pub none_counted : (q : Proposed) (last : ℕ) → AreCountedTo q last 0 []
-none_counted q last = record {
+pub none_counted : (q : Proposed) (start last : ℕ) → AreCountedTo q start last 0 []
+none_counted q start last = record {
   many = refl;
   rates = λ g x here. absurd (none-some x here);
   slots = λ g x here. absurd (none-some x here);
@@ -94,8 +94,15 @@ none_counted q last = record {
   begun = λ g x here. absurd (none-some x here);
 }
 
-pub all_counted : (q : Proposed) (last n : ℕ) (tracks : List Track) → AreCountedTo q last n tracks → n ≡ length q.station.groups → AreTracks q last tracks
-all_counted q last n tracks C all = record { many = C.many ∙ all; rates = C.rates; slots = C.slots }
+pub all_counted : (q : Proposed) (start last n : ℕ) (tracks : List Track) → AreCountedTo q start last n tracks → n ≡ length q.station.groups → AreTracks q last tracks
+all_counted q start last n tracks C all = record { many = C.many ∙ all; rates = C.rates; slots = C.slots }
+
+-- the slots before the start are some of those up to the last time
+pub before_within : (rate start last : ℕ) → start ≤ last → slots_before rate start ≤ last * rate / slot_time + 1
+before_within rate start last within = omega (arith, (div_ceil_times (start * rate) slot_time (omega arith)).1, mul-le start rate last rate within (omega arith))
+
+pub few_before : (rate start last : ℕ) → start ≤ last → last * rate / slot_time + 1 ≤ 8192000000 → start * rate < 2 ^ 63
+few_before rate start last within few = omega (arith, few, mul-le start rate last rate within (omega arith))
 
 -- ---- rates
 

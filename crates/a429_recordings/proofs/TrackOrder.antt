@@ -1,7 +1,6 @@
 -- Which group's slot is next.
 use Rattle.std.proofs.Common.{◌≡◌, ◌∙◌, ◌+◌, ◌-◌, ◌*◌, ◌<◌, ◌≤◌, ℕ, zero, suc, Bool, true, false, inl, inr, List, [], ◌∷◌, ◌++◌, length, drop, refl, sym, ap, subst, arith}
 use Rattle.std.specs.Prelude.{◌↔◌, IsTrue, Option, Some, None, nat_lt, slice_get, slice_set, sum_by}
-use Rattle.std.specs.List.{range_with_len}
 use Rattle.std.proofs.lemmas.Bool.{cases_eq, cases_lt}
 use Rattle.std.proofs.lemmas.Bool.Decides.{nat_tests}
 use Rattle.std.proofs.lemmas.Nat.{mul-le}
@@ -12,7 +11,6 @@ use Rattle.a429_word.proofs.Lists.{drop_at, get_set_other, get_set_same}
 use Rattle.a429_equipment.specs.Sound.{OfEach}
 use Rattle.a429_grid.specs.Grid.{slot_time}
 use Rattle.a429_slots.specs.Proposed.{Proposed}
-use Rattle.a429_recordings.specs.SimulationLog.{AreInTime}
 use Rattle.a429_recordings.specs.Timeline.{HasHappened, IsTimeline, Precedes, rate_of, slots_by}
 use Rattle.a429_recordings.specs.Tracks.{AreTracks, ComesFirst, GoesBefore, GroupIsAfter, IsAfter, IsNextTrack, IsNoLater, IsTimelineAt, IsTrack, advanced, next_at}
 use Rattle.a429_recordings.specs.declared.simulate.log.LogWord.{LogWord}
@@ -330,30 +328,3 @@ fewer_left tracks g x at live =
     let f : Track → ℕ = λ z. z.slots - z.next in
     let sums = sum_set f tracks g x more at in
     subst (λ (ts : List Track). sum_by f ts < sum_by f tracks) (sym after) (omega (arith, sums, live))
-
--- ---- before the first moment
-
-next_zero : (tracks : List Track) → OfEach (λ (x : Track). x.next ≡ 0) tracks → (g : ℕ) → next_at tracks g ≡ 0
-next_zero tracks begun g = elim (slice_get_cases tracks g).1 [
-  | inl hit ↦ rw hit.2 (begun g hit.0 hit.2)
-  | inr miss ↦ rw miss.1 refl
-]
-
--- nothing has happened
-pub nothing_happened : (q : Proposed) (words : List LogWord) (last : ℕ) (l : Timeline) → l.words.items ≡ words → l.at ≡ 0 → AreInTime words → AreTracks q last l.tracks.items
-    → OfEach (λ (x : Track). x.next ≡ 0) l.tracks.items → IsTimelineAt q words last [] l
-nothing_happened q words last l same first in_time tracks begun =
-    let zero_of = next_zero l.tracks.items begun in
-    record {
-      words_are = same;
-      in_time = in_time;
-      tracks = tracks;
-      happened = subst (λ (n : ℕ). HasHappened q words last [] (drop n words) (next_at l.tracks.items)) (sym first) (record {
-        words_are = refl;
-        slots_are = λ g. ap (range_with_len 0) (sym (zero_of g));
-        few = λ g. omega (arith, zero_of g);
-        in_order = tt;
-        before_words = λ w ws is. tt;
-        before_slots = λ g left. tt;
-      });
-    }

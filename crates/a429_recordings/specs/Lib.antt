@@ -10,3 +10,6 @@ pub mod SummaryRuns
 pub mod SummaryLaws
 pub mod SimulationReplies
 pub mod Surveys
+pub mod BoxLogs
+pub mod JudgedPlans
+pub mod JudgeReplies

@@ -1,12 +1,14 @@
 -- A simulation by the values of the program: its machine, and what is played on it.
-use Rattle.std.specs.Prelude.{◌≡◌, ◌+◌, ◌-◌, ◌*◌, ◌^◌, ◌<◌, ◌≤◌, ◌++◌, ◌∷◌, [], ⊤, ℕ, List, Option, None, Some, Result, IfSome, MatchOption, MatchResult, get_or, length, min, replicate, slice_get, slice_set}
+use Rattle.std.specs.Prelude.{◌≡◌, ◌+◌, ◌-◌, ◌*◌, ◌^◌, ◌<◌, ◌≤◌, ◌++◌, ◌∷◌, [], ⊤, ℕ, zero, suc, List, Option, None, Some, Result, IfSome, MatchOption, MatchResult, get_or, length, min, replicate, slice_get, slice_set}
 use Rattle.std.specs.Option.{option_map_or}
 use Rattle.a429_equipment.specs.Limits.{count_bits}
 use Rattle.a429_equipment.specs.Sound.{IsSound, OfEach}
 use Rattle.a429_slots.specs.Planned.{IsPlanOf}
 use Rattle.a429_slots.specs.Proposed.{Proposed}
-use Rattle.a429_slots.specs.Tables.{buses_of, groups_of}
+use Rattle.a429_slots.specs.FrameStates.{FrameState}
+use Rattle.a429_slots.specs.Tables.{PlanTable, buses_of, groups_of}
 use Rattle.a429_core.specs.MachineStates.{StandsForHistory}
+use Rattle.a429_core.specs.Passed.{groups_passed}
 use Rattle.a429_console.specs.Names.{Naming, naming_of}
 use Rattle.a429_console.specs.RefusalText.{OrMemory}
 use Rattle.a429_console.specs.declared.refusals.CommandRefusal.{CommandRefusal}
@@ -14,7 +16,7 @@ use Rattle.a429_console.specs.declared.refusals.CommandRefusal.TheVariants as re
 use Rattle.a429_recordings.specs.Simulating.{Step, Asks, Comes, happening_after, happenings_after, happenings_of, history_of, last_word, listed, opening_of, steps_of, times_of, turn_after}
 use Rattle.a429_recordings.specs.SimulationLog.{AreInTime}
 use Rattle.a429_recordings.specs.Timeline.{IsTimeline, SendsTooMuch, table_of}
-use Rattle.a429_recordings.specs.Tracks.{HasTracks, IsTimelineAt, IsTrack, left_in}
+use Rattle.a429_recordings.specs.Tracks.{HasTracks, IsTimelineAt, IsTrack, left_in, next_at}
 use Rattle.a429_recordings.specs.declared.simulate.log.LogWord.{LogWord}
 use Rattle.a429_recordings.specs.declared.simulate.machine.Happening.{Happening}
 use Rattle.a429_recordings.specs.declared.simulate.machine.Happening.TheVariants.{Refuses, Sends}
@@ -24,6 +26,7 @@ use Rattle.a429_recordings.specs.declared.simulate.moments.Moment.{Moment}
 use Rattle.a429_recordings.specs.declared.simulate.moments.Moment.TheVariants.{Word, Slot}
 use Rattle.a429_recordings.specs.declared.simulate.playing.Player.{Player}
 use Rattle.a429_recordings.specs.declared.simulate.playing.SlotLeft.{SlotLeft}
+use Rattle.a429_recordings.specs.declared.simulate.tracks.Track.{Track}
 
 -- the names are those of the station
 abbrev pub HasStationNames : Naming → Proposed → Type 0
@@ -70,6 +73,14 @@ pub record StandsAfter (q : Proposed) (past : List Step) (r : Run) : Type 0 wher
 -- the machine of a station to which nothing has happened
 abbrev pub IsOpening : Proposed → Result Run CommandRefusal → Type 0
 IsOpening q result = MatchResult result (StandsAfter q []) (λ e. e ≡ refused.Memory)
+
+-- the groups of a machine, of which the first n have passed the slots before the next ones of these tracks
+abbrev pub groups_at : List FrameState → PlanTable → List Track → ℕ → List FrameState
+groups_at groups newest tracks zero = groups
+groups_at groups newest tracks (suc n) = groups_passed (groups_at groups newest tracks n) newest n (next_at tracks n)
+
+abbrev pub put_at : Run → List Track → Run
+put_at r tracks = record r { state = record r.state { groups = groups_at r.state.groups r.state.newest tracks (length tracks) } }
 
 -- whatever steps the machine had taken, now it has taken this one after them, and this happened in it
 abbrev pub TakesStep : Proposed → Step → Run → Run → Option Happening → Type 0

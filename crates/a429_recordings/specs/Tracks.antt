@@ -1,5 +1,6 @@
 -- The places of the groups of a simulation, as the program keeps them.
-use Rattle.std.specs.Prelude.{◌≡◌, ◌+◌, ◌-◌, ◌*◌, ◌/◌, ◌<◌, ◌≤◌, ◌++◌, ◌∷◌, [], ◌↔◌, ⊤, ℕ, Bool, List, Option, Some, None, Result, MatchOption, MatchResult, IsTrue, drop, length, slice_get, slice_set, sum_by}
+use Rattle.std.specs.Prelude.{◌≡◌, ◌+◌, ◌-◌, ◌*◌, ◌/◌, ◌<◌, ◌≤◌, ◌++◌, ◌∷◌, [], ◌↔◌, ⊤, ℕ, Bool, List, Option, Some, None, Result, MatchOption, MatchResult, IsTrue, drop, length, min, slice_get, slice_set, sum_by}
+use Rattle.std.specs.Int.{div_ceil}
 use Rattle.std.specs.Option.{option_map_or}
 use Rattle.std.specs.declared.vec.Vec.{Vec}
 use Rattle.std.specs.declared.alloc.Global.{Global}
@@ -97,20 +98,33 @@ abbrev pub SlotsAreCounted : ℕ → ℕ → ℕ → Option ℕ → Type 0
 SlotsAreCounted rate frame last None = 1000000 * frame < last * rate / slot_time + 1
 SlotsAreCounted rate frame last (Some slots) = (slots ≡ last * rate / slot_time + 1) × (slots ≤ 8192000000)
 
--- the first n groups, each before its first slot
-pub record AreCountedTo (q : Proposed) (last n : ℕ) (tracks : List Track) : Type 0 where
+-- how many slots begin before this time, in microseconds: slot t does if t * 36000000 < time * rate
+abbrev pub slots_before : ℕ → ℕ → ℕ
+slots_before rate time = div_ceil (time * rate) slot_time
+
+-- before this time no word comes in: that of the first word, or the last time at which slots begin, if that is earlier
+abbrev pub silent_until : List LogWord → ℕ → ℕ
+silent_until [] last = last
+silent_until (w ∷ words) last = min w.time last
+
+-- the next slot of a group is the first that begins at this time or after it
+abbrev pub StartsAt : ℕ → Track → Type 0
+StartsAt start x = x.next ≡ slots_before x.rate start
+
+-- the first n groups, each before its first slot at the start or after it
+pub record AreCountedTo (q : Proposed) (start last n : ℕ) (tracks : List Track) : Type 0 where
   pub many : length tracks ≡ n
   pub rates : (g : ℕ) (x : Track) → slice_get tracks g ≡ Some x → x.rate ≡ rate_of q g
   pub slots : (g : ℕ) (x : Track) → slice_get tracks g ≡ Some x → x.slots ≡ slots_by q last g
   pub sound : OfEach IsTrack tracks
-  pub begun : OfEach (λ x. x.next ≡ 0) tracks
+  pub begun : OfEach (StartsAt start) tracks
 
 -- one for each group of the station and its plan
 abbrev pub HasTracks : Proposed → List Track → Type 0
 HasTracks q tracks = (length tracks ≡ length q.station.groups) × (length tracks ≡ length (groups_of q.plan))
 
--- each group before its first slot, unless one would send too much
-abbrev pub IsTracking : Proposed → ℕ → Result (Vec Track Global) CommandRefusal → Type 0
-IsTracking q last result =
-    MatchResult result (λ tracks. AreTracks q last tracks.items × HasTracks q tracks.items × OfEach IsTrack tracks.items × OfEach (λ x. x.next ≡ 0) tracks.items)
+-- each group before its first slot at the start or after it, unless one would send too much
+abbrev pub IsTracking : Proposed → ℕ → ℕ → Result (Vec Track Global) CommandRefusal → Type 0
+IsTracking q start last result =
+    MatchResult result (λ tracks. AreTracks q last tracks.items × HasTracks q tracks.items × OfEach IsTrack tracks.items × OfEach (StartsAt start) tracks.items)
     (OrMemory (λ refusal. (refusal ≡ refused.TooMuch) × SendsTooMuch q last))

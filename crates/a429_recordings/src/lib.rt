@@ -11,6 +11,7 @@
 //! `survey_logs` needs no table: its answer is the text of a sheet that says what is on the lines of a log.
 #![tactic(auto)]
 
+pub mod judge;
 pub mod laws;
 mod logs;
 pub mod simulate;

@@ -1,7 +1,8 @@
 -- Lines of events that are played one after another.
-use Rattle.std.proofs.Common.{◌≡◌, ◌∙◌, ℕ, Bool, true, false, List, [], ◌∷◌, ◌++◌, refl, sym, ap, subst, append_assoc, append-nil, arith, inl, inr, length, take}
-use Rattle.std.specs.Prelude.{IsTrue}
+use Rattle.std.proofs.Common.{◌≡◌, ◌≢◌, ◌∙◌, ℕ, Bool, true, false, List, [], ◌∷◌, ◌++◌, ◌-◌, refl, sym, ap, subst, append_assoc, append-nil, arith, inl, inr, length, take}
+use Rattle.std.specs.Prelude.{Err, IsTrue, Ok, OnOk, Result, Some, slice_get}
 use Rattle.std.proofs.lemmas.List.{take_all}
+use Rattle.std.proofs.lemmas.Option.{same_Some}
 use Rattle.a429_slots.specs.Events.{Event}
 use Rattle.a429_slots.specs.History.{Opening}
 use Rattle.a429_slots.specs.Proposed.{Proposed}
@@ -11,10 +12,15 @@ use Rattle.a429_slots.specs.declared.answers.Answer.{Answer}
 use Rattle.a429_core.specs.MachineStates.{GoesOnByEvents, IsWholeEvent, MachineState, StandsForHistory}
 use Rattle.a429_core.specs.MachineSteps.{CallsAreAnswered, stepped}
 use Rattle.a429_console.specs.Outputs.{ending, memory_refused, status_of}
+use Rattle.a429_console.specs.RefusalText.{OrMemory, refusal_line}
+use Rattle.a429_console.specs.Tables.{IsProposedBy, IsTableRefusal}
+use Rattle.a429_console.specs.declared.refusals.CommandRefusal.{CommandRefusal}
+use Rattle.a429_console.specs.declared.refusals.CommandRefusal.TheVariants.{Memory}
 use Rattle.a429_replay.specs.AnswerLines.{answer_line}
-use Rattle.a429_replay.specs.Playing.{Happens, IsEventOf, Played, PlaysOne}
+use Rattle.a429_replay.specs.Playing.{Happens, IsEventOf, Played, PlaysOne, PlaysTable}
 use Rattle.a429_replay.specs.Replaying.{IsOutcome, IsPlayed, ReplayInput}
 use Rattle.a429_replay.specs.declared.script.ScriptEvent.{ScriptEvent}
+use Rattle.a429_replay.specs.declared.script.ScriptEvent.TheVariants.{Publish}
 
 -- one more event
 pub played_push : (o : Opening) (names further : List (List ℕ)) (E : List Event) (events : List ScriptEvent) (event : ScriptEvent) (M N : List Event) (bytes line : List ℕ)
@@ -37,6 +43,34 @@ played_answer calls goes names further event e old new a before after whole of a
       subst (λ (v : MachineState). StandsForHistory count_bits o (E ++ e ∷ []) v) (sym next) (goes count_bits e old whole o E s),
       line ∙ ap (λ (given : Answer). before ++ answer_line names given) told,
     )
+
+-- what happens when a table is published is what happens when the further table of its number is
+happens_among : (o : Opening) (names further : List (List ℕ)) (table : List ℕ) (n : ℕ) (E E' : List Event) (line : List ℕ) → slice_get further (n - 1) ≡ Some table
+    → Happens o names (table ∷ []) E (Publish 1) E' line → Happens o names further E (Publish n) E' line
+happens_among o names further table n E E' line at (inl (e, (t, q, there, is, same), next, text)) =
+    inl (e, (table, q, at, subst (λ (x : List ℕ). IsProposedBy x q) (same_Some t table (sym there)) is, same), next, text)
+happens_among o names further table n E E' line at (inr (refusal, (t, there, is), next, text)) =
+    inr (refusal, (table, at, subst (λ (x : List ℕ). IsTableRefusal x refusal) (same_Some t table (sym there)) is), next, text)
+
+pub played_among : (names further : List (List ℕ)) (table : List ℕ) (n : ℕ) (old new : MachineState) (before after : List ℕ) → slice_get further (n - 1) ≡ Some table
+    → PlaysTable names table old new before after → PlaysOne names further (Publish n) old new before after
+played_among names further table n old new before after at plays = λ o E s.
+    let (E', line, happens, stands, text) = plays o E s in
+    (E', line, happens_among o names further table n E E' line at happens, stands, text)
+
+pub both_on_ok : {X E P Q R : Type 0} (result : Result X E) → (P → Q → R) → OnOk result P → OnOk result Q → OnOk result R
+both_on_ok (Ok x) both p q = both p q
+both_on_ok (Err e) both p q = tt
+
+other_than_memory : (P : CommandRefusal → Type 0) (refusal : CommandRefusal) → refusal ≢ Memory → OrMemory P refusal → P refusal
+other_than_memory P Memory other why = absurd (other refl)
+other_than_memory P refusal other why = why
+
+-- the outcome of the publication of a table that is refused
+pub played_refusal : (names : List (List ℕ)) (table : List ℕ) (refusal : CommandRefusal) (v : MachineState) (before after : List ℕ) → refusal ≢ Memory → OrMemory (IsTableRefusal table) refusal
+    → after ≡ before ++ (refusal_line refusal ++ 10 ∷ []) → PlaysTable names table v v before after
+played_refusal names table refusal v before after other why line = λ o E s.
+    (E, refusal_line refusal ++ 10 ∷ [], inr (refusal, (table, refl, other_than_memory (IsTableRefusal table) refusal other why), refl, refl), s, line)
 
 -- the lines of some events, or of all, with their end
 pub played_ended : (i : ReplayInput) (q : Proposed) (events : List ScriptEvent) (n : ℕ) (lines : List ℕ) (all : Bool) → IsPlayed i q (take n events) lines → (IsTrue all → n ≡ length events)

@@ -18,9 +18,9 @@ use Rattle.a429_replay.specs.declared.replay.Input.{Input}
 use Rattle.a429_replay.specs.declared.replay.PreparedReplay.{PreparedReplay}
 use Rattle.a429_replay.specs.declared.station.ReplayStation.{ReplayStation}
 
--- it has the names of the proposed station, and nothing happened to it since it was opened at slot 0
+-- it has the names and the equipment of the proposed station, and nothing happened to it since it was opened at slot 0
 abbrev pub IsOpened : Proposed → ReplayStation → Type 0
-IsOpened q s = (s.names ≡ naming_of q.station) × StandsForHistory count_bits (record { proposal = q; first = 0 }) [] s.state
+IsOpened q s = (s.names ≡ naming_of q.station) × StandsForHistory count_bits (record { proposal = q; first = 0 }) [] s.state × (s.equipment ≡ q.station)
 
 -- the machine of a proposal, to which nothing has happened, or that an allocation failed
 abbrev pub OpensMachine : Proposed → Result MachineState CommandRefusal → Type 0

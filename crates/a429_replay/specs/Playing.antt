@@ -1,18 +1,15 @@
 -- What the program writes of a script: a line for each event, of the machine's answer, or of the fault of a table that was to be published.
-use Rattle.std.specs.Prelude.{◌≡◌, ◌-◌, ◌≤◌, ◌++◌, ◌∷◌, [], ◌⊎◌, ℕ, List, Bool, Option, Some, IfSome, Result, IfOk, IsTrue, MatchResult, ⊤, length, slice_get, take}
-use Rattle.std.specs.Borrow.{Bor}
+use Rattle.std.specs.Prelude.{◌≡◌, ◌-◌, ◌≤◌, ◌++◌, ◌∷◌, [], ◌⊎◌, ℕ, List, Bool, Option, Some, Result, IfOk, IsTrue, ⊤, length, slice_get, take}
 use Rattle.a429_equipment.specs.Limits.{count_bits}
 use Rattle.a429_slots.specs.Events.{Event}
 use Rattle.a429_slots.specs.Events as machine
 use Rattle.a429_slots.specs.Proposed.{Proposed}
 use Rattle.a429_slots.specs.History.{Opening}
 use Rattle.a429_slots.specs.Answers.{answer}
-use Rattle.a429_core.specs.Happened.{event_of}
 use Rattle.a429_core.specs.MachineStates.{MachineState, StandsForHistory}
-use Rattle.a429_core.specs.declared.events.Event.{Event as MachineEvent}
 use Rattle.a429_replay.specs.AnswerLines.{answer_line}
 use Rattle.a429_console.specs.Outputs.{AppendsPending}
-use Rattle.a429_console.specs.RefusalText.{OrMemory, refusal_line}
+use Rattle.a429_console.specs.RefusalText.{refusal_line}
 use Rattle.a429_console.specs.Tables.{IsProposedBy, IsTableRefusal}
 use Rattle.a429_console.specs.declared.refusals.CommandRefusal.{CommandRefusal}
 use Rattle.a429_replay.specs.declared.pending.Pending.{Pending}
@@ -30,10 +27,6 @@ IsEventOf further (Arrive receiver raw) e = e ≡ machine.Arrive receiver raw
 IsEventOf further (Cell group) e = e ≡ machine.Cell group
 IsEventOf further (Frame group) e = e ≡ machine.Frame group
 IsEventOf further (Publish n) e = (table : List ℕ) × (q : Proposed) × (slice_get further (n - 1) ≡ Some table) × IsProposedBy table q × (e ≡ machine.Publish q)
-
--- the event that publishes a table
-abbrev pub IsPublication : List ℕ → Event → Type 0
-IsPublication table e = (q : Proposed) × IsProposedBy table q × (e ≡ machine.Publish q)
 
 -- a table that was to be published is refused
 abbrev pub IsUnread : List (List ℕ) → ScriptEvent → CommandRefusal → Type 0
@@ -58,6 +51,10 @@ PlaysOne names further event old new before after =
     (o : Opening) (E : List Event) → StandsForHistory count_bits o E old
     → (E' : List Event) × (line : List ℕ) × Happens o names further E event E' line × StandsForHistory count_bits o E' new × (after ≡ before ++ line)
 
+-- a table is published on a state, whatever history the state stands for, and the line that is printed is appended to a text
+abbrev pub PlaysTable : List (List ℕ) → List ℕ → MachineState → MachineState → List ℕ → List ℕ → Type 0
+PlaysTable names table = PlaysOne names (table ∷ []) (Publish 1)
+
 -- the first of these events happen to a state, whatever history the state stands for, and the bytes that are printed are put as Puts says; if memory
 -- sufficed, all of them happen
 abbrev pub PlaysEvents : List (List ℕ) → List (List ℕ) → List ScriptEvent → MachineState → (List ℕ → Type 0) → Bool → Type 0
@@ -69,7 +66,3 @@ PlaysEvents names further events old Puts sufficed =
 abbrev pub PlaysAll : {X E : Type 0} → (X → Option (List ℕ)) → List (List ℕ) → List (List ℕ) → List ScriptEvent → MachineState → X → X → Pending → Pending → Result Bool E → Type 0
 PlaysAll contents names further events old out out' lines lines' result =
     IfOk result (PlaysEvents names further events old (AppendsPending (contents out) lines.text.items (contents out') lines'.text.items))
-
--- an event of a history that is as Is says; or why there is none, as Not says, or that an allocation failed
-abbrev pub GivesEvent : (Event → Type 0) → (CommandRefusal → Type 0) → Result MachineEvent (Option (Bor CommandRefusal)) → Type 0
-GivesEvent Is Not result = MatchResult result (λ e. Is (event_of e)) (λ why. IfSome why (λ refusal. OrMemory Not refusal.now))

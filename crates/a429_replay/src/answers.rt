@@ -1,10 +1,12 @@
 //! Lines of answers.
 ghost use Rattle.std.specs.Prelude.{◌≡◌, ◌≤◌, ◌+◌, ◌++◌, [], drop, length, OnErr};
+ghost use Rattle.std.specs.Fmt.{decimal};
 ghost use Rattle.a429_word.specs.Written.{Gains};
 ghost use Rattle.a429_slots.specs.declared.answers.Answer.TheVariants.{Sent, Refused};
 ghost use Rattle.a429_replay.specs.AnswerLines.{answer_line, cell_text};
 
 use crate::names::Names;
+use crate::slots::SlotTexts;
 use a429_console::output::from_end::{ROOM, push_number, put_decimal, put_hex, put_text};
 use a429_core::{Answer, Refusal};
 use a429_word::Word;
@@ -40,32 +42,58 @@ fn put_cell(room: &mut [u8], end: usize, word: Option<Word>) -> usize
     }
 }
 
+/// Writes the number of a bus before the bytes that begin at `end`, and gives its start.
+#[inline(always)]
+#[tactic(auto, using(std::proofs::lemmas::Fmt::decimal_digit))]
+fn put_bus(room: &mut [u8], end: usize, bus: u32) -> usize
+    requires { (20 ≤ end) × (end ≤ length room.old) }
+    ensures start { (result ≤ end) × (end ≤ result + 20) }
+    ensures written { drop result room.new ≡ decimal bus ++ drop end room.old }
+    ensures size { length room.new ≡ length room.old }
+{
+    if bus < 10 {
+        let digit = [48 + bus as u8];
+        put_text(room, end, &digit)
+    } else {
+        put_decimal(room, end, u64::from(bus))
+    }
+}
+
 /// Appends the line of a cell that was sent. If an allocation fails, nothing is appended.
 #[inline(always)]
-fn push_sent(text: &mut Vec<u8>, bus: u32, slot: u64, word: Option<Word>) -> Result<(), AllocError>
+fn push_sent(
+    text: &mut Vec<u8>,
+    slots: &mut SlotTexts,
+    bus: u32,
+    slot: u64,
+    word: Option<Word>,
+) -> Result<(), AllocError>
     ensures line { Gains result text.old.items text.new.items (answer_line [] (Sent bus slot word)) }
     ensures kept { OnErr result (text.new.items ≡ text.old.items) }
 {
     let mut room = [0u8; ROOM];
     let at = put_text(&mut room, ROOM, b"\n");
     let at = put_cell(&mut room, at, word);
-    let at = put_text(&mut room, at, b" ");
-    let at = put_decimal(&mut room, at, slot);
-    let at = put_text(&mut room, at, b" ");
-    let at = put_decimal(&mut room, at, u64::from(bus));
+    let at = slots.put(&mut room, at, slot);
+    let at = put_bus(&mut room, at, bus);
     let at = put_text(&mut room, at, b"sent ");
     text.extend_from_slice(&room[at..])
 }
 
 /// Appends the line of an answer. If an allocation fails, nothing is appended.
 #[inline(always)]
-pub fn push_answer(text: &mut Vec<u8>, names: &Names, answer: Answer) -> Result<(), AllocError>
+pub fn push_answer(
+    text: &mut Vec<u8>,
+    slots: &mut SlotTexts,
+    names: &Names,
+    answer: Answer,
+) -> Result<(), AllocError>
     ensures line { Gains result text.old.items text.new.items (answer_line names.now.sources answer) }
     ensures kept { OnErr result (text.new.items ≡ text.old.items) }
 {
     match answer {
         Answer::Accepted { source } => text.extend_from_slice(names.accepted_line(source)),
-        Answer::Sent { bus, slot, word } => push_sent(text, bus, slot, word),
+        Answer::Sent { bus, slot, word } => push_sent(text, slots, bus, slot, word),
         Answer::Changed { plan } => push_number(text, b"changed ", plan),
         Answer::Published { plan } => push_number(text, b"published ", plan),
         Answer::Refused(refusal) => text.extend_from_slice(refusal_line(refusal)),

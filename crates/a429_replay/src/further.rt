@@ -1,78 +1,190 @@
-//! Further tables, each read and planned once.
-ghost use Rattle.std.specs.Prelude.{◌≡◌, ◌++◌, ◌∷◌, [], true, IfOk, IsNone, OnOk};
+//! Further tables, each read and planned when it is first published.
+ghost use Rattle.std.specs.Prelude.{◌≡◌, ◌≢◌, ◌++◌, ◌∷◌, [], ℕ, List, true, IfOk, IfSome, IsNone, OnErr, OnOk};
 ghost use Rattle.a429_equipment.specs.SameStation.{same_station};
 ghost use Rattle.std.specs.List.{AllByRecursion};
 ghost use Rattle.a429_console.specs.Files.{bytes_of};
-ghost use Rattle.a429_replay.specs.Playing.{GivesEvent, IsPublication};
-ghost use Rattle.a429_console.specs.Tables.{IsProposing, IsTableRefusal, IsTakenBy};
+ghost use Rattle.a429_console.specs.RefusalText.{refusal_line};
+ghost use Rattle.a429_console.specs.declared.refusals.CommandRefusal.TheVariants.{Memory};
+ghost use Rattle.a429_console.specs.Tables.{IsProposedBy, IsProposing, IsTakenBy};
+ghost use Rattle.a429_replay.specs.Playing.{PlaysTable};
 
-use a429_console::hints::{FurtherCause, FurtherFault, Seen, SeenTable};
+use crate::names::Names;
+use crate::pending::Pending;
+use a429_console::hints::{FurtherCause, FurtherFault, SeenTable};
 use a429_console::refusals::CommandRefusal;
 use a429_console::refusals::tables::propose;
-use a429_core::Event;
+use a429_core::{Event, StationState};
 use a429_equipment::Equipment;
 use a429_slots::laws::plans_are_unique;
 use a429_slots::{OUTPUTS, Proposal};
 use std::alloc::{AllocError, Global};
 use std::marker::Model;
-use std::mem::replace;
 
-/// A table by its bytes, and its proposal or its refusal. Many events may publish it, so it is read and planned once.
+/// What reading and planning a table gave: its proposal or its refusal, and what was read of it, for a hint.
+#[derive(Drop)]
+struct PlannedTable {
+    proposal: Result<Proposal<OUTPUTS>, CommandRefusal>,
+    seen: SeenTable,
+}
+
+impl PlannedTable {
+    /// Reads and plans a table.
+    fn of(alloc: Global, bytes: &[u8]) -> PlannedTable
+        ensures { IsProposing bytes.now result.proposal }
+    {
+        let mut seen = SeenTable::nothing();
+        let proposal = propose(alloc, bytes, &mut seen);
+        PlannedTable { proposal, seen }
+    }
+
+    /// What was planned of a table before. If nothing was, the table is read and planned now.
+    fn or_of(alloc: Global, before: Option<PlannedTable>, bytes: &[u8]) -> PlannedTable
+        requires { IfSome before (λ p. IsProposing bytes.now p.proposal) }
+        ensures { IsProposing bytes.now result.proposal }
+    {
+        match before {
+            Some(planned) => planned,
+            None => PlannedTable::of(alloc, bytes),
+        }
+    }
+}
+
+/// A table by its bytes. It is read and planned when it is first published, and what that gives is kept.
 #[derive(Drop)]
 pub struct FurtherTable {
     bytes: Vec<u8>,
-    proposal: Result<Proposal<OUTPUTS>, CommandRefusal>,
+    planned: Option<PlannedTable>,
 }
 
 impl Model for FurtherTable {
-    ghost use Rattle.std.specs.Prelude.{ℕ, List};
+    ghost use Rattle.std.specs.Prelude.{ℕ, List, IfSome};
+    ghost use Rattle.a429_console.specs.RefusalText.{refusal_line};
+    ghost use Rattle.a429_console.specs.declared.refusals.CommandRefusal.TheVariants.{Memory};
     ghost use Rattle.a429_console.specs.Tables.{IsProposing};
 
     ghost Value = { List ℕ };
 
     ghost view = { λ t. t.bytes.items };
 
-    ghost invariant = { λ t. IsProposing t.bytes.items t.proposal };
+    ghost invariant = { λ t. IfSome t.planned (λ p. IsProposing t.bytes.items p.proposal) };
 }
 
 impl FurtherTable {
-    /// Reads and plans a table. What was read of it is kept in `seen`.
-    pub fn of(alloc: Global, bytes: Vec<u8>, seen: &mut SeenTable) -> FurtherTable
+    /// A table that was not yet published.
+    pub fn of(bytes: Vec<u8>) -> FurtherTable
         ensures { result ≡ bytes.items }
     {
-        let proposal = propose(alloc, &bytes, seen);
-        FurtherTable { bytes, proposal }
-    }
-
-    /// Its proposal, or why there is none.
-    fn proposal(&self) -> &Result<Proposal<OUTPUTS>, CommandRefusal>
-        ensures { IsProposing self.now result.now }
-    {
-        &self.proposal
-    }
-
-    /// The event that publishes it. Error: its fault, otherwise that of its plan, or `None` if an allocation fails.
-    pub fn publication(&self, alloc: Global) -> Result<Event, Option<&CommandRefusal>>
-        ensures { GivesEvent (IsPublication self.now) (IsTableRefusal self.now) result }
-    {
-        match self.proposal() {
-            Ok(proposal) => match proposal.copied(alloc) {
-                Ok(proposal) => Ok(Event::Publish { proposal }),
-                Err(_) => Err(None),
-            },
-            Err(refusal) => Err(Some(refusal)),
+        FurtherTable {
+            bytes,
+            planned: None,
         }
     }
 
-    /// Why a station does not take its plan, for a hint. `None` if the station takes it, or if an allocation fails.
-    fn cause_at(&self, alloc: Global, station: &Equipment) -> Option<FurtherCause>
-        ensures { IsTakenBy station.now self.now → IsNone result }
+    /// Publishes it on a station, and appends the line of the answer, or of the refusal of the table or of its plan. If an
+    /// allocation fails, nothing is appended.
+    pub fn publish(
+        &mut self,
+        alloc: Global,
+        state: &mut StationState,
+        names: &Names,
+        lines: &mut Pending,
+    ) -> Result<(), AllocError>
+        ensures played { OnOk result (PlaysTable names.now.sources self.old
+            state.old state.new lines.old.text.items lines.new.text.items) }
+        ensures kept { OnErr result (lines.new.text.items ≡ lines.old.text.items) }
+        ensures same { self.new ≡ self.old }
     {
-        plans_are_unique();
-        match self.proposal() {
-            Err(refusal) => FurtherCause::of(alloc, refusal),
-            Ok(proposal) => cause_of_proposal(alloc, station, proposal),
+        let planned = PlannedTable::or_of(alloc, self.planned.take(), &self.bytes);
+        let played = publish_or_refuse(alloc, state, names, &planned.proposal, lines);
+        self.planned = Some(planned);
+        played
+    }
+
+    /// Notes it by its number, from 1, for a hint, if it was published and a station does not take its plan.
+    fn note_fault(
+        self,
+        alloc: Global,
+        station: &Equipment,
+        number: usize,
+        faults: &mut Vec<FurtherFault>,
+    )
+        ensures { IsTakenBy station.now self → faults.new.items ≡ faults.old.items }
+    {
+        let FurtherTable { bytes: _, planned } = self;
+        let Some(planned) = planned else {
+            return;
+        };
+        if let Some(cause) = cause_at(alloc, station, &planned.proposal) {
+            FurtherFault::note(faults, number, cause, planned.seen);
         }
+    }
+}
+
+/// Publishes the plan of a table that has one, and appends the line of the answer; otherwise the line of the refusal. If an
+/// allocation fails, nothing is appended.
+fn publish_or_refuse(
+    alloc: Global,
+    state: &mut StationState,
+    names: &Names,
+    proposal: &Result<Proposal<OUTPUTS>, CommandRefusal>,
+    lines: &mut Pending,
+) -> Result<(), AllocError>
+    ensures played { (table : List ℕ) → IsProposing table proposal.now → OnOk result (PlaysTable names.now.sources table
+        state.old state.new lines.old.text.items lines.new.text.items) }
+    ensures kept { OnErr result (lines.new.text.items ≡ lines.old.text.items) }
+{
+    match proposal {
+        Ok(proposal) => publish_plan(alloc, state, names, proposal, lines),
+        Err(refusal) => refuse_table(refusal, lines),
+    }
+}
+
+/// Appends the line of the refusal of a table. If an allocation failed when the table was planned, or fails now, nothing is
+/// appended.
+fn refuse_table(refusal: &CommandRefusal, lines: &mut Pending) -> Result<(), AllocError>
+    ensures other { OnOk result (refusal.now ≢ Memory) }
+    ensures line { OnOk result (lines.new.text.items ≡ lines.old.text.items ++ (refusal_line refusal.now ++ 10 ∷ [])) }
+    ensures kept { OnErr result (lines.new.text.items ≡ lines.old.text.items) }
+{
+    match refusal {
+        CommandRefusal::Memory => Err(AllocError),
+        refusal => lines.push_refusal(refusal),
+    }
+}
+
+/// Publishes the plan of a proposal, and appends the line of the answer. If an allocation fails, nothing is appended.
+fn publish_plan(
+    alloc: Global,
+    state: &mut StationState,
+    names: &Names,
+    proposal: &Proposal<OUTPUTS>,
+    lines: &mut Pending,
+) -> Result<(), AllocError>
+    ensures played { (table : List ℕ) → IsProposedBy table proposal.now → OnOk result (PlaysTable names.now.sources table
+        state.old state.new lines.old.text.items lines.new.text.items) }
+    ensures kept { OnErr result (lines.new.text.items ≡ lines.old.text.items) }
+{
+    let Ok(proposal) = proposal.copied(alloc) else {
+        return Err(AllocError);
+    };
+    match state.step(Event::Publish { proposal }) {
+        Ok(answer) => lines.push_answer(names, answer),
+        Err(error) => Err(error),
+    }
+}
+
+/// Why a station does not take the plan of a table, for a hint. `None` if the station takes it, or if an allocation fails.
+fn cause_at(
+    alloc: Global,
+    station: &Equipment,
+    proposal: &Result<Proposal<OUTPUTS>, CommandRefusal>,
+) -> Option<FurtherCause>
+    ensures { (table : List ℕ) → IsProposing table proposal.now → IsTakenBy station.now table → IsNone result }
+{
+    plans_are_unique();
+    match proposal {
+        Err(refusal) => FurtherCause::of(alloc, refusal),
+        Ok(proposal) => cause_of_proposal(alloc, station, proposal),
     }
 }
 
@@ -92,81 +204,29 @@ fn cause_of_proposal(
     }
 }
 
-/// Reads and plans a table, and adds it to these. What was read of it is kept in `seen`.
-fn plan_table(
-    alloc: Global,
-    bytes: Vec<u8>,
-    planned: &mut Vec<FurtherTable>,
-    seen: &mut Seen,
-) -> Result<(), AllocError>
-    ensures { OnOk result (planned.new.items ≡ planned.old.items ++ bytes.items ∷ []) }
+/// These tables, of which none was published yet. Error: an allocation failed.
+pub fn further_tables(alloc: Global, tables: Vec<Vec<u8>>) -> Result<Vec<FurtherTable>, AllocError>
+    ensures { IfOk result (λ further. further.items ≡ bytes_of tables.items) }
 {
-    let place = seen.further.len();
-    seen.further.push(SeenTable::nothing())?;
-    planned.push(FurtherTable::of(alloc, bytes, &mut seen.further[place]))?;
-    Ok(())
-}
-
-/// Reads and plans tables. What was read of each is kept in `seen`. Error: an allocation failed.
-pub fn plan_tables(
-    alloc: Global,
-    tables: Vec<Vec<u8>>,
-    seen: &mut Seen,
-) -> Result<Vec<FurtherTable>, AllocError>
-    ensures { IfOk result (λ planned. planned.items ≡ bytes_of tables.items) }
-{
-    let mut planned = Vec::new(alloc);
+    let mut further = Vec::new(alloc);
     for bytes in tables {
-        plan_table(alloc, bytes, &mut planned, seen)?;
+        further.push(FurtherTable::of(bytes))?;
     }
-    Ok(planned)
+    Ok(further)
 }
 
-/// What was read of the further table at a place, which is given away.
-fn take_seen(seen: &mut Seen, place: usize) -> SeenTable {
-    match seen.further.get_mut(place) {
-        Some(table) => replace(table, SeenTable::nothing()),
-        None => SeenTable::nothing(),
-    }
-}
-
-/// Notes the further tables whose plans a station does not take, for a hint.
+/// Notes the tables that were published and whose plans a station does not take, for a hint.
 pub fn note_faults(
     alloc: Global,
     station: &Equipment,
-    further: &[FurtherTable],
-    seen: &mut Seen,
+    further: Vec<FurtherTable>,
     faults: &mut Vec<FurtherFault>,
 )
-    ensures { AllByRecursion (IsTakenBy station.now) further.now → faults.new.items ≡ faults.old.items }
+    ensures { AllByRecursion (IsTakenBy station.now) further.items → faults.new.items ≡ faults.old.items }
 {
-    for (place, table) in further.iter().enumerate() {
-        if let Some(cause) = table.cause_at(alloc, station) {
-            let read = take_seen(seen, place);
-            FurtherFault::note(faults, place.saturating_add(1), cause, read);
-        }
-    }
-}
-
-/// A mark for each further table, of which none is published yet. Without memory it has fewer.
-pub fn none_published(alloc: Global, tables: usize) -> Vec<bool> {
-    let mut marks = Vec::new(alloc);
-    for _ in 0..tables {
-        let _ = marks.push(false);
-    }
-    marks
-}
-
-/// Hands on the faults of the tables that are marked as published.
-pub fn hand_published(found: Vec<FurtherFault>, published: &[bool], faults: &mut Vec<FurtherFault>)
-    ensures { found.items ≡ [] → faults.new.items ≡ faults.old.items }
-{
-    if found.is_empty() {
-        return;
-    }
-    for fault in found {
-        if let Some(true) = published.get(fault.number.saturating_sub(1)) {
-            FurtherFault::note(faults, fault.number, fault.cause, fault.table);
-        }
+    let mut number: usize = 0;
+    for table in further {
+        number = number.saturating_add(1);
+        table.note_fault(alloc, station, number, faults);
     }
 }

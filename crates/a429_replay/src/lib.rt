@@ -24,6 +24,7 @@ mod playing;
 mod reading;
 pub mod replay;
 mod script;
+mod slots;
 mod station;
 
 pub use names::Names;

@@ -6,6 +6,7 @@ ghost use Rattle.a429_console.specs.RefusalText.{refusal_line};
 
 use crate::answers::push_answer;
 use crate::names::Names;
+use crate::slots::SlotTexts;
 use a429_console::output::{Output, OutputFault};
 use a429_console::refusals::CommandRefusal;
 use a429_core::Answer;
@@ -15,10 +16,11 @@ use std::io::Write;
 /// From how many bytes on lines are put out.
 const FULL: usize = 65536;
 
-/// Lines that were not yet put out, and room for a refusal.
+/// Lines that were not yet put out, the texts of slots for them, and room for a refusal.
 #[derive(Drop)]
 pub struct Pending {
     pub text: Vec<u8>,
+    slots: SlotTexts,
     line: Vec<u8>,
 }
 
@@ -29,6 +31,7 @@ impl Pending {
     {
         Pending {
             text: Vec::new(alloc),
+            slots: SlotTexts::new(alloc),
             line: Vec::new(alloc),
         }
     }
@@ -39,7 +42,7 @@ impl Pending {
         ensures line { OnOk result (self.new.text.items ≡ self.old.text.items ++ answer_line names.now.sources answer) }
         ensures kept { OnErr result (self.new.text.items ≡ self.old.text.items) }
     {
-        push_answer(&mut self.text, names, answer)
+        push_answer(&mut self.text, &mut self.slots, names, answer)
     }
 
     /// Appends the line of a refusal. If an allocation fails, nothing is appended.

@@ -3,7 +3,7 @@ ghost use Rattle.std.specs.Prelude.{◌≡◌, ◌<◌, OnOk, OnErr, length};
 ghost use Rattle.a429_console.specs.Outputs.{CountsFault};
 ghost use Rattle.a429_replay.specs.declared.script.ScriptEvent.TheVariants.{Publish};
 ghost use Rattle.a429_replay.specs.Kept.{TakesAllTables, events_of};
-ghost use Rattle.a429_replay.specs.Playing.{GivesEvent, HasTable, IsEventOf, IsUnread, PlaysAll, PlaysOne};
+ghost use Rattle.a429_replay.specs.Playing.{HasTable, PlaysAll, PlaysOne};
 
 use crate::further::FurtherTable;
 use crate::kept::KeptEvent;
@@ -11,46 +11,26 @@ use crate::names::Names;
 use crate::pending::{Pending, put_if_full};
 use crate::script::ScriptEvent;
 use a429_console::output::{Output, OutputFault};
-use a429_console::refusals::CommandRefusal;
+use a429_core::StationState;
 use a429_core::laws::calls_are_answered;
-use a429_core::{Event, StationState};
 use std::alloc::{AllocError, Global};
-
-/// The event of the machine that publishes the further table of a number. Error: the table's fault, otherwise that of
-/// its plan, or `None` if an allocation fails.
-fn publication(
-    alloc: Global,
-    further: &[FurtherTable],
-    number: usize,
-) -> Result<Event, Option<&CommandRefusal>>
-    requires { HasTable (length further.now) (Publish number) }
-    ensures { GivesEvent (IsEventOf further.now (Publish number)) (IsUnread further.now (Publish number)) result }
-{
-    further[number - 1].publication(alloc)
-}
 
 /// Publishes the further table of a number, and appends its line. If an allocation fails, nothing is appended.
 fn play_publication(
     alloc: Global,
     state: &mut StationState,
     names: &Names,
-    further: &[FurtherTable],
+    further: &mut [FurtherTable],
     number: usize,
     lines: &mut Pending,
 ) -> Result<(), AllocError>
-    requires { HasTable (length further.now) (Publish number) }
-    ensures played { OnOk result (PlaysOne names.now.sources further.now (Publish number)
+    requires { HasTable (length further.old) (Publish number) }
+    ensures played { OnOk result (PlaysOne names.now.sources further.old (Publish number)
         state.old state.new lines.old.text.items lines.new.text.items) }
     ensures kept { OnErr result (lines.new.text.items ≡ lines.old.text.items) }
+    ensures same { further.new ≡ further.old }
 {
-    match publication(alloc, further, number) {
-        Ok(event) => match state.step(event) {
-            Ok(answer) => lines.push_answer(names, answer),
-            Err(error) => Err(error),
-        },
-        Err(None | Some(CommandRefusal::Memory)) => Err(AllocError),
-        Err(Some(refusal)) => lines.push_refusal(refusal),
-    }
+    further[number - 1].publish(alloc, state, names, lines)
 }
 
 /// Plays an event of a script, and appends its line. If an allocation fails, nothing is appended.
@@ -59,14 +39,15 @@ fn play(
     alloc: Global,
     state: &mut StationState,
     names: &Names,
-    further: &[FurtherTable],
+    further: &mut [FurtherTable],
     event: ScriptEvent,
     lines: &mut Pending,
 ) -> Result<(), AllocError>
-    requires { HasTable (length further.now) event }
-    ensures played { OnOk result (PlaysOne names.now.sources further.now event
+    requires { HasTable (length further.old) event }
+    ensures played { OnOk result (PlaysOne names.now.sources further.old event
         state.old state.new lines.old.text.items lines.new.text.items) }
     ensures kept { OnErr result (lines.new.text.items ≡ lines.old.text.items) }
+    ensures same { further.new ≡ further.old }
 {
     calls_are_answered();
     match event {
@@ -88,36 +69,26 @@ fn play(
     }
 }
 
-/// Marks the further table that an event publishes.
-fn mark_published(published: &mut [bool], event: ScriptEvent) {
-    if let ScriptEvent::Publish(number) = event {
-        if let Some(mark) = published.get_mut(number.saturating_sub(1)) {
-            *mark = true;
-        }
-    }
-}
-
 /// Plays events one after another. Their lines are put out when they have become many, and those that are left are in
-/// `lines`. The further tables that are published are marked. The result is whether memory sufficed for all.
+/// `lines`. The result is whether memory sufficed for all.
 pub fn play_all<O: Output>(
     alloc: Global,
     state: &mut StationState,
     names: &Names,
-    further: &[FurtherTable],
+    further: &mut [FurtherTable],
     events: &[KeptEvent],
-    published: &mut [bool],
     lines: &mut Pending,
     out: &mut O,
 ) -> Result<bool, OutputFault>
-    requires { TakesAllTables (length further.now) events.now }
-    ensures played { PlaysAll O.contents names.now.sources further.now (events_of events.now) state.old
+    requires { TakesAllTables (length further.old) events.now }
+    ensures played { PlaysAll O.contents names.now.sources further.old (events_of events.now) state.old
         out.old out.new lines.old lines.new result }
     ensures few { OnOk result (length lines.old.text.items < 65536 → length lines.new.text.items < 65536) }
     ensures faults { CountsFault result (O.failures out.old) (O.failures out.new) }
+    ensures same { further.new ≡ further.old }
 {
     for kept in events {
         let event = kept.event();
-        mark_published(published, event);
         let Ok(()) = play(alloc, state, names, further, event, lines) else {
             return Ok(false);
         };

@@ -4,12 +4,11 @@ ghost use Rattle.a429_console.specs.Files.{texts_of};
 ghost use Rattle.a429_console.specs.Readings.{HasRead};
 ghost use Rattle.a429_console.specs.Outputs.{CountsFault};
 ghost use Rattle.a429_console.specs.RefusalText.{OrMemory};
-ghost use Rattle.a429_console.specs.Tables.{TakesAll};
 ghost use Rattle.a429_replay.specs.Kept.{TakesAllTables};
 ghost use Rattle.a429_replay.specs.Replaying.{HasReplayed, IsNoStart, TakesFurther};
 ghost use Rattle.a429_replay.specs.Opened.{AreTablesRead, IsInputReading, IsOutcomePut, IsPreparedFor, input_of};
 
-use crate::further::{FurtherTable, hand_published, none_published, plan_tables};
+use crate::further::{FurtherTable, further_tables, note_faults};
 use crate::kept::KeptEvent;
 use crate::pending::Pending;
 use crate::playing::play_all;
@@ -23,7 +22,7 @@ use a429_console::output::{Output, OutputFault};
 use a429_console::refusals::{CommandRefusal, refuse};
 use std::alloc::Global;
 
-/// The bytes of the files that a replay reads, and the further tables, each with its proposal or refusal.
+/// The bytes of the files that a replay reads.
 #[derive(Drop)]
 struct Input {
     table: Vec<u8>,
@@ -31,7 +30,7 @@ struct Input {
     further: Vec<FurtherTable>,
 }
 
-/// Reads the further tables of these names, and plans them.
+/// Reads the files of further tables of these names.
 fn read_further<F: FileReader>(
     alloc: Global,
     files: &mut F,
@@ -41,7 +40,7 @@ fn read_further<F: FileReader>(
     ensures { HasRead F.answers (λ file. AreTablesRead file (texts_of names.now) result) files.old files.new }
 {
     let tables = read_files(alloc, files, names, seen)?;
-    Ok(plan_tables(alloc, tables, seen)?)
+    Ok(further_tables(alloc, tables)?)
 }
 
 /// Reads the files of these names.
@@ -73,17 +72,11 @@ struct PreparedReplay {
 }
 
 /// The station that is given, with the events of the script, if that is one of it. Error: the table, its plan, or the
-/// script is refused. The further tables whose plans the station does not take are noted.
-fn prepare(
-    alloc: Global,
-    input: &Input,
-    seen: &mut Seen,
-    faults: &mut Vec<FurtherFault>,
-) -> Result<PreparedReplay, CommandRefusal>
-    ensures prepared { MatchResult result (IsPreparedFor (input_of input.now)) (OrMemory (IsNoStart (input_of input.now))) }
-    ensures taken { TakesAll (input_of input.now).table (input_of input.now).further → faults.new.items ≡ faults.old.items }
+/// script is refused.
+fn prepare(alloc: Global, input: &Input, seen: &mut Seen) -> Result<PreparedReplay, CommandRefusal>
+    ensures { MatchResult result (IsPreparedFor (input_of input.now)) (OrMemory (IsNoStart (input_of input.now))) }
 {
-    let station = ReplayStation::open(alloc, &input.table, &input.further, seen, faults)?;
+    let station = ReplayStation::open(alloc, &input.table, &mut seen.table)?;
     let form = ScriptForm {
         names: &station.names,
         further: input.further.len(),
@@ -97,18 +90,19 @@ fn prepare(
 fn play_prepared<O: Output>(
     alloc: Global,
     prepared: &mut PreparedReplay,
-    input: &Input,
-    published: &mut [bool],
+    input: &mut Input,
     out: &mut O,
 ) -> Result<u8, OutputFault>
-    requires { TakesAllTables (length (input_of input.now).further) prepared.old.events.items }
-    ensures played { IfOk result (IsOutcomePut (input_of input.now) prepared.old (O.contents out.old) (O.contents out.new)) }
+    requires { TakesAllTables (length (input_of input.old).further) prepared.old.events.items }
+    ensures played { IfOk result (IsOutcomePut (input_of input.old) prepared.old (O.contents out.old) (O.contents out.new)) }
+    ensures station { prepared.new.station.equipment ≡ prepared.old.station.equipment }
+    ensures input { input_of input.new ≡ input_of input.old }
     ensures status { IfOk result (λ status. status ≤ 1) }
     ensures flushed { OnOk result (IsTrue (O.is_flushed out.new)) }
     ensures faults { CountsFault result (O.failures out.old) (O.failures out.new) }
 {
     let mut lines = Pending::new(alloc);
-    let further = &input.further;
+    let further = &mut input.further;
     let station = &mut prepared.station;
     let sufficed = play_all(
         alloc,
@@ -116,7 +110,6 @@ fn play_prepared<O: Output>(
         &station.names,
         further,
         &prepared.events,
-        published,
         &mut lines,
         out,
     )?;
@@ -143,16 +136,14 @@ pub fn replay<F: FileReader, O: Output>(
     ensures flushed { OnOk result (IsTrue (O.is_flushed out.new)) }
     ensures faults { CountsFault result (O.failures out.old) (O.failures out.new) }
 {
-    let input = match read_input(alloc, files, table, script, further, seen) {
+    let mut input = match read_input(alloc, files, table, script, further, seen) {
         Ok(input) => input,
         Err(refusal) => return refuse(alloc, refusal, seen, out),
     };
-    let mut found = Vec::new(alloc);
-    match prepare(alloc, &input, seen, &mut found) {
+    match prepare(alloc, &input, seen) {
         Ok(mut prepared) => {
-            let mut published = none_published(alloc, input.further.len());
-            let status = play_prepared(alloc, &mut prepared, &input, &mut published, out);
-            hand_published(found, &published, faults);
+            let status = play_prepared(alloc, &mut prepared, &mut input, out);
+            note_faults(alloc, &prepared.station.equipment, input.further, faults);
             status
         }
         Err(refusal) => refuse(alloc, refusal, seen, out),

@@ -1,42 +1,39 @@
 //! The station of a table, opened for a script.
-ghost use Rattle.std.specs.Prelude.{◌≡◌, MatchResult};
+ghost use Rattle.std.specs.Prelude.{MatchResult};
 ghost use Rattle.a429_slots.specs.Planned.{IsPlanOf};
 ghost use Rattle.a429_replay.specs.Opened.{IsOpenedFrom, OpensStation};
 ghost use Rattle.a429_console.specs.RefusalText.{OrMemory};
-ghost use Rattle.a429_console.specs.Tables.{IsTableRefusal, TakesAll};
+ghost use Rattle.a429_console.specs.Tables.{IsTableRefusal};
 
-use crate::further::{FurtherTable, note_faults};
 use crate::names::Names;
 use crate::opening::open_machine;
-use a429_console::hints::{FurtherFault, Seen};
+use a429_console::hints::SeenTable;
 use a429_console::refusals::CommandRefusal;
 use a429_console::refusals::tables::propose;
 use a429_core::StationState;
+use a429_equipment::Equipment;
 use a429_slots::{OUTPUTS, Proposal};
 use std::alloc::Global;
 
-/// A station in operation, with its names.
+/// A station in operation, with its names, and its equipment, with which further tables are compared for hints.
 #[derive(Drop)]
 pub struct ReplayStation {
     pub names: Names,
+    pub equipment: Equipment,
     pub state: StationState,
 }
 
 impl ReplayStation {
     /// Opens the station of a table's bytes at slot 0, with no event yet. Error: the table's fault, otherwise the first
-    /// fault of its plan. The further tables whose plans the station does not take are noted.
+    /// fault of its plan.
     pub fn open(
         alloc: Global,
         table: &[u8],
-        further: &[FurtherTable],
-        seen: &mut Seen,
-        faults: &mut Vec<FurtherFault>,
+        seen: &mut SeenTable,
     ) -> Result<ReplayStation, CommandRefusal>
-        ensures opened { MatchResult result (IsOpenedFrom table.now) (OrMemory (IsTableRefusal table.now)) }
-        ensures taken { TakesAll table.now further.now → faults.new.items ≡ faults.old.items }
+        ensures { MatchResult result (IsOpenedFrom table.now) (OrMemory (IsTableRefusal table.now)) }
     {
-        let proposal = propose(alloc, table, &mut seen.table)?;
-        note_faults(alloc, proposal.equipment(), further, seen, faults);
+        let proposal = propose(alloc, table, seen)?;
         ReplayStation::of(alloc, proposal)
     }
 
@@ -45,8 +42,13 @@ impl ReplayStation {
         requires planned { IsPlanOf proposal.station proposal.plan }
         ensures { OpensStation proposal result }
     {
-        let names = Names::of(alloc, proposal.equipment())?;
+        let equipment = proposal.equipment().copied(alloc)?;
+        let names = Names::of(alloc, &equipment)?;
         let state = open_machine(alloc, proposal)?;
-        Ok(ReplayStation { names, state })
+        Ok(ReplayStation {
+            names,
+            equipment,
+            state,
+        })
     }
 }

@@ -36,9 +36,9 @@ use Rattle.a429_cert.proofs.CheckedPlans.{same_bytes}
 use Rattle.a429_import.specs.declared.firsts.Part.{Part}
 use Rattle.a429_import.specs.declared.firsts.Part.TheVariants.{Groups, Receivers, Sources}
 use Rattle.a429_import.specs.declared.rows.ImportRow.{ImportRow}
-use Rattle.a429_import.specs.ImportTables.{firsts, group_stated, group_tree, name_in, number_of, output_tree, part_tree, part_trees, receiver_tree, record_stated, root_members, rows_of_group, sdi_data, source_stated, source_tree, with_filters, words}
+use Rattle.a429_import.specs.ImportTables.{firsts, group_stated, group_tree, groups_of, name_in, number_of, output_tree, part_tree, part_trees, receiver_tree, record_stated, root_members, rows_of_group, sdi_data, source_stated, source_tree, with_filters, words}
 use Rattle.a429_callers.proofs.Icd.NamedFirsts.{own_firsts}
-use Rattle.a429_callers.proofs.Icd.Groups.{group_rows_are, groups_again}
+use Rattle.a429_callers.proofs.Icd.Groups.{group_rows_are, groups_again, groups_are}
 use Rattle.a429_callers.proofs.Icd.Records.{IsRead, all_read, first_is_of, no_words, source_is}
 use Rattle.a429_callers.proofs.Icd.Rows.{IsRowOf, one_source, read_output, read_table, rows_are, source_at, source_there}
 use Rattle.a429_callers.proofs.Icd.Sound.{few_receivers, few_sources, imported_sound}
@@ -100,7 +100,7 @@ module _ (e : TableRecord) (sound : IsSound e) (plain : AllByRecursion (λ recei
 
   groups_at : rows_at (codes "group") root ≡ map (group_tree rows) (firsts Groups rows)
   unfolding rows_at root_members
-  groups_at = elements-items_of (part_trees Groups rows)
+  groups_at = elements-items_of (part_trees Groups rows) ∙ ap (map (group_tree rows)) (groups_are e sound)
 
   -- ---- names
 
@@ -336,10 +336,10 @@ module _ (e : TableRecord) (sound : IsSound e) (plain : AllByRecursion (λ recei
 
     -- ---- all stops
 
-    -- there are as many first rows of groups as groups
-    group_count : length (firsts Groups rows) ≡ length e.groups
+    -- there are as many groups
+    group_count : length (groups_of rows) ≡ length e.groups
     unfolding record_stated
-    group_count = sym (length-map (firsts Groups rows) group_stated) ∙ ap length (groups_again e sound)
+    group_count = sym (length-map (groups_of rows) group_stated) ∙ ap length (groups_again e sound)
 
     root_stop : IsFine root (Root, root)
     unfolding root_members
@@ -347,7 +347,7 @@ module _ (e : TableRecord) (sound : IsSound e) (plain : AllByRecursion (λ recei
         root_fine (part_trees Groups rows) (part_trees Receivers rows) (part_trees Sources rows)
         (omega (arith, length-map (firsts Receivers rows) (part_tree Receivers rows), few_receivers e sound plain, sound.few_receivers))
         (omega (arith, length-map (firsts Sources rows) (part_tree Sources rows), few_sources e sound plain, sound.few_sources))
-        (omega (arith, length-map (firsts Groups rows) (part_tree Groups rows), group_count, sound.few_groups)) kind
+        (omega (arith, length-map (groups_of rows) (part_tree Groups rows), group_count, sound.few_groups)) kind
 
     fine_at_stops : HoldsAtStops (IsFine root) root
     fine_at_stops = record {

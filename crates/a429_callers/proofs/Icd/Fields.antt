@@ -1,19 +1,22 @@
 -- The fields of a row of an interface control document state what they were written from.
-use Rattle.std.proofs.Common.{◌≡◌, ◌∙◌, ℕ, zero, suc, ◌+◌, ◌<◌, ◌^◌, Bool, true, false, List, [], ◌∷◌, length, map, Option, None, Some, Result, Ok, Err, IsAscii, ap, sym, refl, arith, inl, inr, lt-ltb, eqb-true}
+use Rattle.std.proofs.Common.{◌≡◌, ◌∙◌, ℕ, zero, suc, ◌+◌, ◌<◌, ◌^◌, Bool, true, false, List, [], ◌∷◌, length, map, Option, None, Some, Result, Ok, Err, IsAscii, ap, ap₂, sym, refl, arith, le-leb, ne_eqb, ◌≤◌, ◌/◌, ◌%◌, inl, inr, lt-ltb, eqb-true}
 use Rattle.std.specs.Prelude.{◌==◌, ◌||◌, ◌&&◌, IfSome, codes, if◌then◌else◌, nat_le}
+use Rattle.std.specs.Char.{is_ascii_digit, to_ascii_lowercase}
 use Rattle.std.specs.Fmt.{decimal}
 use Rattle.std.specs.List.{list_all}
 use Rattle.std.specs.Option.{option_map}
 use Rattle.std.specs.Str.{bytes_eq}
 use Rattle.std.proofs.lemmas.Bool.{and_parts, leb-true}
+use Rattle.std.proofs.lemmas.Bool.Decides.{nat_tests}
 use Rattle.std.proofs.lemmas.Fmt.{decimal_digit, decimal_nonempty}
 use Rattle.std.proofs.lemmas.Option.{none-some}
 use Rattle.std.proofs.lemmas.Str.{IsUtf8-from_ascii, IsUtf8-nil, is_utf8-from_IsUtf8}
 use Rattle.std.proofs.lemmas.Str.Ascii.{IsAscii-cons, IsAscii-nil}
 use Rattle.a429_word.specs.Decimal.{decimal_number, is_numeral}
-use Rattle.a429_word.specs.Texts.{octal}
+use Rattle.a429_word.specs.Texts.{label_value, octal}
 use Rattle.a429_word.proofs.LabelTexts.{value_of_written}
 use Rattle.a429_word.proofs.Lists.{false_unless, or_parts}
+use Rattle.a429_word.proofs.Numerals.{numeral_digits}
 use Rattle.a429_equipment.specs.NameForm.{is_name, is_name_byte}
 use Rattle.a429_equipment.specs.declared.rows.GroupRow.{GroupRow}
 use Rattle.a429_equipment.specs.declared.rows.OutputRow.{OutputRow}
@@ -23,15 +26,17 @@ use Rattle.a429_slots.specs.declared.group_plan.SendLimits.{SendLimits}
 use Rattle.a429_slots.specs.declared.group_plan.SlotPlace.{SlotPlace}
 use Rattle.a429_text.specs.Fields.{Field, field_text}
 use Rattle.a429_cert.proofs.CheckedPlans.{same_bytes}
-use Rattle.a429_cert.proofs.Fields.{value_again}
+use Rattle.a429_cert.proofs.Fields.{decimal_numeral, value_again}
 use Rattle.a429_import.specs.declared.fault.CsvFaultKind.TheVariants.{Form}
 use Rattle.a429_import.specs.declared.fault.ImportColumn.TheVariants.{Group, Rate, Source, Receiver, Label, Sdi, MinUs, MaxUs, Hold, Filters}
 use Rattle.a429_import.specs.declared.rows.ImportRow.{ImportRow}
 use Rattle.a429_import.specs.declared.rows.RowNumbers.{RowNumbers}
 use Rattle.a429_import.specs.declared.rows.RowTexts.{RowTexts}
 use Rattle.a429_documents.specs.Document.{icd_columns, icd_row, limit_field, receiver_name, sdi_field}
-use Rattle.a429_import.specs.ImportFields.{filters_in, hold_in, label_in, number_in, sdi_in, text_in}
-use Rattle.a429_import.specs.ImportRows.{CsvFault, column_field, joined, numbers_of, texts_of}
+use Rattle.a429_import.specs.ImportFields.{filters_in, hold_in, label_in, padded, number_in, rate_in, sdi_in, text_in, utf8_in}
+use Rattle.a429_import.specs.Imports.{is_filled}
+use Rattle.a429_import.specs.ImportWords.{is_text, unwrapped}
+use Rattle.a429_import.specs.ImportRows.{CsvFault, column_field, is_column_in_millis, is_named, joined, names_group, numbers_of, texts_of}
 
 -- ---- numbers
 
@@ -39,9 +44,35 @@ number_back : (n : ℕ) → n < 2 ^ 32 → number_in (decimal n) ≡ Some n
 unfolding number_in
 number_back n small = rw (value_again n (omega (arith, small))) (ap (λ (b : Bool). if b then Some n else None) (lt-ltb n (2 ^ 32) small))
 
+lower_digit : (d : ℕ) → is_ascii_digit d ≡ true → to_ascii_lowercase d ≡ d
+lower_digit d h = grind (arith, nat_tests)
+
+lower_digits : (w : List ℕ) → list_all is_ascii_digit w ≡ true → map to_ascii_lowercase w ≡ w
+lower_digits [] h = refl
+lower_digits (d ∷ w) h =
+    let parts = and_parts (is_ascii_digit d) (list_all is_ascii_digit w) h in
+    ap₂ (λ (x : ℕ) (xs : List ℕ). x ∷ xs) (lower_digit d parts.0) (lower_digits w parts.1)
+
+-- a number is no word for a bit rate, because no letter is a digit
+no_word : (word : List ℕ) (n : ℕ) → n < 2 ^ 32 → decimal_number (map to_ascii_lowercase word) ≡ None → is_text word (decimal n) ≡ false
+no_word word n small none =
+    let lower = lower_digits (decimal n) (numeral_digits (decimal n) (decimal_numeral n (omega (arith, small)))) in
+    false_unless (is_text word (decimal n))
+    (λ same. none-some n (sym none ∙ ap decimal_number (same_bytes (map to_ascii_lowercase word) (map to_ascii_lowercase (decimal n)) same ∙ lower) ∙ value_again n (omega (arith, small))))
+
+rate_back : (n : ℕ) → n < 2 ^ 32 → rate_in (decimal n) ≡ Some n
+unfolding rate_in decimal_number is_numeral
+rate_back n small =
+    rw (no_word (codes "hs") n small refl, no_word (codes "high") n small refl, no_word (codes "ls") n small refl, no_word (codes "low") n small refl) (number_back n small)
+
+not_wrapped : (first : ℕ) (rest : List ℕ) → first ≤ 51 → unwrapped (first ∷ rest) ≡ first ∷ rest
+not_wrapped first rest few = rw (ne_eqb first 61 (λ same. omega (arith, same, few))) refl
+
 label_back : (label : ℕ) → label < 256 → label_in (octal label) ≡ Some label
 unfolding label_in
-label_back label small = value_of_written label small
+label_back label small =
+    let few : 48 + label / 64 ≤ 51 = omega (arith, small) in
+    ap (λ (f : List ℕ). label_value (padded f)) (not_wrapped (48 + label / 64) ((48 + label / 8 % 8) ∷ (48 + label % 8) ∷ []) few) ∙ value_of_written label small
 
 digit_back : (k : ℕ) → k < 4 → sdi_in ((48 + k) ∷ []) ≡ Some (Some k)
 unfolding sdi_in
@@ -95,13 +126,14 @@ ascii [] h = IsAscii-nil
 ascii (b ∷ bytes) h = let parts = and_parts (is_name_byte b) (list_all is_name_byte bytes) h in IsAscii-cons b bytes (name_byte b parts.0) (ascii bytes parts.1)
 
 text_back : (name : List ℕ) → is_name name ≡ true → text_in name ≡ Some name
-unfolding text_in is_name
+unfolding text_in utf8_in is_name
 text_back name h =
-    let bytes = (and_parts (nat_le 1 (length name) && nat_le (length name) 16) (list_all is_name_byte name) h).1 in
-    rw (is_utf8-from_IsUtf8 name (IsUtf8-from_ascii name (ascii name bytes))) refl
+    let parts = and_parts (nat_le 1 (length name) && nat_le (length name) 16) (list_all is_name_byte name) h in
+    let few = leb-true (length name) 16 (and_parts (nat_le 1 (length name)) (nat_le (length name) 16) parts.0).1 in
+    rw (le-leb (length name) 4096 (omega (arith, few)), is_utf8-from_IsUtf8 name (IsUtf8-from_ascii name (ascii name parts.1))) refl
 
 no_text : text_in [] ≡ Some []
-unfolding text_in
+unfolding text_in utf8_in
 no_text = rw (is_utf8-from_IsUtf8 [] IsUtf8-nil) refl
 
 no_filters : filters_in [] ≡ Some []
@@ -110,20 +142,30 @@ no_filters = rw no_text refl
 
 -- ---- a row
 
+-- a name is not empty
+pub name_filled : (name : List ℕ) → is_name name ≡ true → is_filled name ≡ true
+unfolding is_name
+name_filled [] h = cc
+name_filled (b ∷ name) h = rw (ne_eqb (length (b ∷ name)) 0 (λ z. omega (arith, z))) refl
+
 -- the texts of a row as comma-separated values
 abbrev pub texts : List Field → List (List ℕ)
 texts row = map (field_text []) row
 
 -- what fields state below a heading
-abbrev pub row_from : List (List ℕ) → ℕ → List (List ℕ) → Result ImportRow CsvFault
-row_from heading number fields =
-    if length fields == length heading then joined number (numbers_of heading fields) (texts_of heading fields) else Err (number, Form, None)
+abbrev pub row_by : ℕ → List (List ℕ) → ℕ → List (List ℕ) → Result ImportRow CsvFault
+row_by separator heading number fields =
+    if length fields == length heading then joined number (numbers_of separator heading fields) (texts_of heading fields) else Err (number, Form, None)
 
-numbers_are : (heading fields : List (List ℕ)) (n : RowNumbers) → number_in (column_field heading fields Rate) ≡ Some n.rate → label_in (column_field heading fields Label) ≡ Some n.label
+-- the same between commas
+abbrev pub row_from : List (List ℕ) → ℕ → List (List ℕ) → Result ImportRow CsvFault
+row_from heading number fields = row_by 44 heading number fields
+
+numbers_are : (heading fields : List (List ℕ)) (n : RowNumbers) → names_group heading fields ≡ true → is_column_in_millis heading MinUs ≡ false → is_column_in_millis heading MaxUs ≡ false → rate_in (column_field heading fields Rate) ≡ Some n.rate → label_in (column_field heading fields Label) ≡ Some n.label
     → sdi_in (column_field heading fields Sdi) ≡ Some n.sdi → number_in (column_field heading fields MinUs) ≡ Some n.min_us → number_in (column_field heading fields MaxUs) ≡ Some n.max_us
-    → hold_in (column_field heading fields Hold) ≡ Some n.hold → numbers_of heading fields ≡ Ok n
+    → hold_in (column_field heading fields Hold) ≡ Some n.hold → numbers_of 44 heading fields ≡ Ok n
 unfolding numbers_of
-numbers_are heading fields n rate label sdi least most hold = rw (rate, label, sdi, least, most, hold) refl
+numbers_are heading fields n named least_in_us most_in_us rate label sdi least most hold = rw (named, rate, label, sdi, least_in_us, least, most_in_us, most, hold) refl
 
 texts_are : (heading fields : List (List ℕ)) (t : RowTexts) → text_in (column_field heading fields Group) ≡ Some t.group → text_in (column_field heading fields Source) ≡ Some t.source
     → text_in (column_field heading fields Receiver) ≡ Some t.receiver → filters_in (column_field heading fields Filters) ≡ Some t.filters → texts_of heading fields ≡ Ok t
@@ -150,14 +192,14 @@ pub record IsReadable (receivers : List ReceiverRow) (g : GroupRow) (s : SourceR
   pub hold : IfSome o.hold (λ n. n < 2 ^ 32)
 
 module _ (receivers : List ReceiverRow) (g : GroupRow) (s : SourceRow) (o : OutputRow) (place : SlotPlace) (limits : SendLimits) (R : IsReadable receivers g s o) (held : limits.hold ≡ o.hold) where
-  numbers_back : numbers_of icd_columns (texts (icd_row receivers g s o place limits)) ≡ Ok (read_row receivers g s o).numbers
-  unfolding column_field
+  numbers_back : numbers_of 44 icd_columns (texts (icd_row receivers g s o place limits)) ≡ Ok (read_row receivers g s o).numbers
+  unfolding column_field is_column_in_millis is_named
   numbers_back =
-      numbers_are icd_columns (texts (icd_row receivers g s o place limits)) (read_row receivers g s o).numbers (number_back g.rate R.rate) (label_back s.label R.label) (sdi_back s.sdi R.sdi) (number_back o.min_us R.least)
+      numbers_are icd_columns (texts (icd_row receivers g s o place limits)) (read_row receivers g s o).numbers (name_filled g.name R.group) refl refl (rate_back g.rate R.rate) (label_back s.label R.label) (sdi_back s.sdi R.sdi) (number_back o.min_us R.least)
       (number_back o.max_us R.most) (ap (λ (h : Option ℕ). hold_in (field_text [] (limit_field h))) held ∙ hold_back o.hold R.hold)
 
   texts_back : texts_of icd_columns (texts (icd_row receivers g s o place limits)) ≡ Ok (read_row receivers g s o).texts
-  unfolding column_field
+  unfolding column_field is_named
   texts_back =
       texts_are icd_columns (texts (icd_row receivers g s o place limits)) (read_row receivers g s o).texts (text_back g.name R.group) (text_back s.name R.source) (text_back (receiver_name receivers s.receiver) R.receiver) no_filters
 

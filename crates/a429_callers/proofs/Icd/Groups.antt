@@ -17,8 +17,9 @@ use Rattle.a429_cert.proofs.CheckedPlans.{same_bytes}
 use Rattle.a429_table.proofs.Absence.{all_from}
 use Rattle.a429_import.specs.declared.firsts.Part.TheVariants.{Groups, Sources}
 use Rattle.a429_import.specs.declared.rows.ImportRow.{ImportRow}
-use Rattle.a429_import.specs.ImportTables.{firsts, firsts_after, group_stated, number_of, output_stated, outputs_stated, record_stated}
-use Rattle.a429_callers.proofs.Icd.Rows.{read_groups, read_output, read_table, source_at}
+use Rattle.a429_import.specs.ImportTables.{firsts, firsts_after, group_stated, groups_of, has_group, number_of, output_stated, outputs_stated, record_stated}
+use Rattle.a429_callers.proofs.Icd.Rows.{IsRowOf, has_group_of, read_groups, read_output, read_table, rows_are, source_at}
+use Rattle.a429_import.proofs.ImportRecords.{all_firsts, from_all}
 use Rattle.a429_callers.proofs.Icd.RenumberedPlans.{renumbered_row}
 
 -- none of these rows is of a group of this name
@@ -49,6 +50,10 @@ or_left a b h = rw h refl
 or_right : (a b : Bool) → b ≡ true → (a || b) ≡ true
 or_right true b h = refl
 or_right false b h = h
+
+all_kept : {X : Type 0} (test : X → Bool) (xs : List X) → AllByRecursion (λ x. test x ≡ true) xs → filter test xs ≡ xs
+all_kept test [] all = refl
+all_kept {X} test (x ∷ xs) all = rw all.0 (ap (λ (ys : List X). x ∷ ys) (all_kept test xs all.1))
 
 module _ (e : TableRecord) where
   -- the first row of each group
@@ -188,15 +193,21 @@ module _ (e : TableRecord) (sound : IsSound e) where
   heads_are : firsts Groups (read_table e) ≡ heads e e.groups e.outputs
   heads_are = firsts_are e e.groups e.outputs [] (some_first e.outputs sound.some_outputs) sound.own_groups (none_before e.groups)
 
+  -- each row names a group
+  pub groups_are : groups_of (read_table e) ≡ firsts Groups (read_table e)
+  groups_are =
+      all_kept has_group (firsts Groups (read_table e))
+      (all_firsts (λ row. has_group row ≡ true) Groups (read_table e) [] (from_all (IsRowOf e) (λ row. has_group row ≡ true) (has_group_of e sound) (read_table e) (rows_are e sound)))
+
   -- the groups are those of the table
   pub groups_again : (record_stated (read_table e)).groups ≡ e.groups
   unfolding record_stated
-  groups_again = ap (map group_stated) heads_are ∙ heads_named e e.groups e.outputs (some_first e.outputs sound.some_outputs) sound.outputs_of_groups
+  groups_again = ap (map group_stated) (groups_are ∙ heads_are) ∙ heads_named e e.groups e.outputs (some_first e.outputs sound.some_outputs) sound.outputs_of_groups
 
   -- and so are their outputs, but for the numbers of their sources
   pub outputs_again : (record_stated (read_table e)).outputs ≡ map (map (renumbered_row (new_number e))) e.outputs
   unfolding record_stated
   outputs_again =
-      ap (map (outputs_stated (read_table e))) heads_are
+      ap (map (outputs_stated (read_table e))) (groups_are ∙ heads_are)
       ∙ outputs_from e e.groups e.outputs (some_first e.outputs sound.some_outputs) sound.outputs_of_groups
       (λ k g os at listed. group_rows_are e e.groups e.outputs k g os sound.own_groups at listed)

@@ -26,12 +26,14 @@ use Rattle.a429_import.specs.declared.fault.ImportColumn.TheVariants.{Filters, L
 use Rattle.a429_import.specs.declared.lines.CsvLine.{CsvLine}
 use Rattle.a429_import.specs.declared.rows.ImportRow.{ImportRow}
 use Rattle.a429_documents.specs.Document.{groups_rows, icd_columns, icd_rows, output_row, output_rows, receiver_name}
-use Rattle.a429_import.specs.ImportRows.{agreed, below_heading, clash, first_clash, next_row, other_clash, row_of, rows_after, rows_stated, source_clash, unless_wrong, wrong_column, is_wrong}
-use Rattle.a429_import.specs.Imports.{AreLines}
-use Rattle.a429_text.specs.Fields.{Field, field_text}
+use Rattle.a429_import.specs.ImportRows.{agreed, clash, first_clash, is_named, next_row, other_clash, row_of, rows_after, rows_stated, source_clash, unless_wrong, with_row, wrong_column, is_wrong}
+use Rattle.a429_import.specs.ImportTables.{has_group, is_known}
+use Rattle.a429_import.specs.declared.firsts.Part.TheVariants.{Sources}
+use Rattle.a429_import.specs.Imports.{AreLines, has_text}
+use Rattle.a429_text.specs.Fields.{Field}
 use Rattle.a429_text.specs.Sheets.{csv_text_of}
-use Rattle.a429_callers.proofs.Icd.Fields.{texts, IsReadable, read_row, row_back, row_from}
-use Rattle.a429_callers.proofs.Icd.Texts.{lines_back}
+use Rattle.a429_callers.proofs.Icd.Fields.{texts, IsReadable, name_filled, read_row, row_back, row_by, row_from}
+use Rattle.a429_callers.proofs.Icd.Texts.{AreRowsOf, HaveTexts, lines_back}
 use Rattle.a429_import.proofs.RowsInRecord.{IsAt}
 
 -- ---- what is read
@@ -147,6 +149,15 @@ module _ (e : TableRecord) (sound : IsSound e) where
   pub rows_are : AllByRecursion (IsRowOf e) (read_table e)
   rows_are = rows_of_groups_are e.groups e.outputs (all_from (IsAt e.groups) e.groups (λ i g at. (i, at))) (all_from (IsAt e.outputs) e.outputs (λ i os at. (i, at))) sound.known_sources
 
+  -- each names a group
+  pub has_group_of : (row : ImportRow) → IsRowOf e row → has_group row ≡ true
+  has_group_of row R =
+      let good : IsGroupRow R.group = all_at IsGroupRow e.groups R.group_at.0 R.group sound.group_rows R.group_at.1 in
+      ap (λ (name : List ℕ). not (length name == 0)) R.group_name ∙ name_filled R.group.name good.0
+
+  kept_row : (earlier : List ImportRow) (row : ImportRow) → IsRowOf e row → with_row earlier row ≡ earlier ++ row ∷ []
+  kept_row earlier row R = ap (λ (b : Bool). if not b && is_known Sources earlier row then earlier else earlier ++ row ∷ []) (has_group_of row R)
+
   -- ---- which state nothing otherwise
 
   pub one_source : (a b : ImportRow) (A : IsRowOf e a) (B : IsRowOf e b) → a.texts.source ≡ b.texts.source → A.source ≡ B.source
@@ -212,14 +223,15 @@ module _ (e : TableRecord) (sound : IsSound e) where
   after_all heading (line ∷ lines) [] earlier each all more = absurd each
   after_all heading (line ∷ lines) (row ∷ rows) earlier each all more =
       rw (next_is heading earlier line row each.0 all more.0)
-      (after_all heading lines rows (earlier ++ row ∷ []) each.1 (all_joined (IsRowOf e) earlier (row ∷ []) all (more.0, tt)) more.1
+      (ap (λ (rows : List ImportRow). rows_after heading rows lines) (kept_row earlier row more.0)
+      ∙ after_all heading lines rows (earlier ++ row ∷ []) each.1 (all_joined (IsRowOf e) earlier (row ∷ []) all (more.0, tt)) more.1
       ∙ ap (λ (rows : List ImportRow). Ok rows) (append_assoc earlier (row ∷ []) rows))
 
   -- ---- the rows of the document
 
   -- the fields of a row are read as this, below any number of lines
   abbrev IsReadAs : List (List ℕ) → ImportRow → Type 0
-  IsReadAs fields row = (read_back fields ≡ fields) × ((number : ℕ) → row_from icd_columns number fields ≡ Ok row)
+  IsReadAs fields row = (read_back fields ≡ fields) × (has_text fields ≡ true) × ((number : ℕ) → row_from icd_columns number fields ≡ Ok row)
 
   -- the same of the texts of a row
   abbrev IsRowReadAs : List Field → ImportRow → Type 0
@@ -261,7 +273,7 @@ module _ (e : TableRecord) (sound : IsSound e) where
   unfolding output_row
   output_read g o p served group below interval hold =
       rw (source_there o.source below)
-      (refl, λ number. row_back e.receivers g (source_at e o.source) o p.place p.limits (is_readable g o group below interval hold) served.2 number)
+      (refl, rw (name_filled g.name group.0) refl, λ number. row_back e.receivers g (source_at e o.source) o p.place p.limits (is_readable g o group below interval hold) served.2 number)
 
   outputs_read : (g : GroupRow) (os : List OutputRow) (ps : List Placed) → AllZip (IsServed g.rate) os ps → IsGroupRow g → HaveSources e.sources os → AllByRecursion IsInterval os → AllByRecursion IsHold os
       → AllZip IsRowReadAs (output_rows e g os ps) (map (read_output e g) os)
@@ -285,9 +297,10 @@ module _ (e : TableRecord) (sound : IsSound e) where
 
   -- ---- the lines
 
-  line_read : (line : CsvLine) (fields : List (List ℕ)) (row : ImportRow) → fields_of line.fields ≡ read_back fields → IsReadAs fields row → row_of icd_columns line ≡ Ok row
+  line_read : (line : CsvLine) (fields : List (List ℕ)) (row : ImportRow) → line.separator ≡ 44 → fields_of line.fields ≡ read_back fields → IsReadAs fields row → row_of icd_columns line ≡ Ok row
   unfolding row_of
-  line_read line fields row has read = ap (row_from icd_columns line.number) (has ∙ read.0) ∙ read.1 line.number
+  line_read line fields row commas has read =
+      ap (λ (s : ℕ). row_by s icd_columns line.number (fields_of line.fields)) commas ∙ ap (row_from icd_columns line.number) (has ∙ read.0) ∙ read.2 line.number
 
   first_is : (x y : List (List ℕ)) (xs ys : List (List (List ℕ))) → ◌≡◌ {A = List (List (List ℕ))} (x ∷ xs) (y ∷ ys) → x ≡ y
   first_is x y xs ys h = ap (λ (zs : List (List (List ℕ))). get_or zs 0 []) h
@@ -298,32 +311,38 @@ module _ (e : TableRecord) (sound : IsSound e) where
   longer : (y : List (List ℕ)) (ys : List (List (List ℕ))) → ◌≡◌ {A = List (List (List ℕ))} [] (y ∷ ys) → ⊥
   longer y ys h = omega (arith, ap length h)
 
-  lines_read : (lines : List CsvLine) (texts : List (List (List ℕ))) (rows : List ImportRow) → map (λ l. fields_of l.fields) lines ≡ map read_back texts → AllZip IsReadAs texts rows
+  lines_read : (lines : List CsvLine) (texts : List (List (List ℕ))) (rows : List ImportRow) → map (λ l. fields_of l.fields) lines ≡ map read_back texts → AllByRecursion (λ l. l.separator ≡ 44) lines → AllZip IsReadAs texts rows
       → AllZip (λ line row. row_of icd_columns line ≡ Ok row) lines rows
-  lines_read [] [] [] has read = tt
-  lines_read [] [] (row ∷ rows) has read = absurd read
-  lines_read [] (t ∷ texts) rows has read = absurd (longer (read_back t) (map read_back texts) has)
-  lines_read (line ∷ lines) [] rows has read = absurd (longer (fields_of line.fields) (map (λ (l : CsvLine). fields_of l.fields) lines) (sym has))
-  lines_read (line ∷ lines) (t ∷ texts) [] has read = absurd read
-  lines_read (line ∷ lines) (t ∷ texts) (row ∷ rows) has read = (
-    line_read line t row (first_is (fields_of line.fields) (read_back t) (map (λ (l : CsvLine). fields_of l.fields) lines) (map read_back texts) has) read.0,
-    lines_read lines texts rows (later_are (fields_of line.fields) (read_back t) (map (λ (l : CsvLine). fields_of l.fields) lines) (map read_back texts) has) read.1,
+  lines_read [] [] [] has commas read = tt
+  lines_read [] [] (row ∷ rows) has commas read = absurd read
+  lines_read [] (t ∷ texts) rows has commas read = absurd (longer (read_back t) (map read_back texts) has)
+  lines_read (line ∷ lines) [] rows has commas read = absurd (longer (fields_of line.fields) (map (λ (l : CsvLine). fields_of l.fields) lines) (sym has))
+  lines_read (line ∷ lines) (t ∷ texts) [] has commas read = absurd read
+  lines_read (line ∷ lines) (t ∷ texts) (row ∷ rows) has commas read = (
+    line_read line t row commas.0 (first_is (fields_of line.fields) (read_back t) (map (λ (l : CsvLine). fields_of l.fields) lines) (map read_back texts) has) read.0,
+    lines_read lines texts rows (later_are (fields_of line.fields) (read_back t) (map (λ (l : CsvLine). fields_of l.fields) lines) (map read_back texts) has) commas.1 read.1,
   )
 
   no_wrong_column : wrong_column icd_columns ≡ None
-  unfolding wrong_column is_wrong
+  unfolding wrong_column is_wrong is_named
   no_wrong_column = refl
 
-  stated_from : (lines : List CsvLine) (texts : List (List (List ℕ))) → map (λ l. fields_of l.fields) lines ≡ map read_back (icd_columns ∷ texts) → AllZip IsReadAs texts (read_table e) → rows_stated lines ≡ Ok (read_table e)
+  stated_from : (lines : List CsvLine) (texts : List (List (List ℕ))) → AreRowsOf (icd_columns ∷ texts) lines → AllZip IsReadAs texts (read_table e) → rows_stated lines ≡ Ok (read_table e)
   unfolding rows_stated
-  stated_from [] texts has read = absurd (longer (read_back icd_columns) (map read_back texts) has)
-  stated_from (heading ∷ lines) texts has read =
-      let head : fields_of heading.fields ≡ icd_columns = first_is (fields_of heading.fields) icd_columns (map (λ (l : CsvLine). fields_of l.fields) lines) (map read_back texts) has in
-      let rest = later_are (fields_of heading.fields) icd_columns (map (λ (l : CsvLine). fields_of l.fields) lines) (map read_back texts) has in
-      ap (λ (h : List (List ℕ)). below_heading h lines) head ∙ ap (unless_wrong icd_columns lines) no_wrong_column
-      ∙ after_all icd_columns lines (read_table e) [] (lines_read lines texts (read_table e) rest read) tt rows_are
+  stated_from [] texts are read = absurd (longer (read_back icd_columns) (map read_back texts) are.fields)
+  stated_from (heading ∷ lines) texts are read =
+      let head : fields_of heading.fields ≡ icd_columns = first_is (fields_of heading.fields) icd_columns (map (λ (l : CsvLine). fields_of l.fields) lines) (map read_back texts) are.fields in
+      let rest = later_are (fields_of heading.fields) icd_columns (map (λ (l : CsvLine). fields_of l.fields) lines) (map read_back texts) are.fields in
+      ap (λ (o : Option ImportColumn). unless_wrong heading lines o) (ap wrong_column head ∙ no_wrong_column)
+      ∙ ap (λ (h : List (List ℕ)). rows_after h [] lines) head
+      ∙ after_all icd_columns lines (read_table e) [] (lines_read lines texts (read_table e) rest are.separators.1 read) tt rows_are
+
+  have_texts : (texts : List (List (List ℕ))) (rows : List ImportRow) → AllZip IsReadAs texts rows → HaveTexts texts
+  have_texts [] rows read = tt
+  have_texts (t ∷ texts) [] read = absurd read
+  have_texts (t ∷ texts) (row ∷ rows) read = (ap has_text read.0.0 ∙ read.0.1, have_texts texts rows read.1)
 
   pub rows_stated_are : (p : PlanTable) (lines : List CsvLine) → IsPlanOf e p → AreLines (csv_text_of (icd_columns ∷ map texts (icd_rows e p))) lines → rows_stated lines ≡ Ok (read_table e)
   rows_stated_are p lines planned are =
-      stated_from lines (map texts (icd_rows e p)) (lines_back (map texts (icd_rows e p)) lines are)
-      (zip_texts (icd_rows e p) (read_table e) (groups_read e.groups e.outputs (groups_of p) planned.groups sound.group_rows sound.known_sources sound.intervals sound.holds))
+      let read = zip_texts (icd_rows e p) (read_table e) (groups_read e.groups e.outputs (groups_of p) planned.groups sound.group_rows sound.known_sources sound.intervals sound.holds) in
+      stated_from lines (map texts (icd_rows e p)) (lines_back (map texts (icd_rows e p)) lines (refl, have_texts (map texts (icd_rows e p)) (read_table e) read) are) read

@@ -1,7 +1,8 @@
 -- The text of an interface control document is read as its rows.
-use Rattle.std.proofs.Common.{◌≡◌, ◌∙◌, ℕ, List, [], ◌∷◌, ◌++◌, None, Some, map, ap, ap₂, sym, subst, refl}
-use Rattle.std.specs.Prelude.{codes}
-use Rattle.std.specs.List.{flat_map}
+use Rattle.std.proofs.Common.{◌≡◌, ◌∙◌, ℕ, Bool, true, false, List, [], ◌∷◌, ◌++◌, Option, None, Some, arith, drop, filter, get_or, length, map, take, ap, ap₂, sym, subst, refl}
+use Rattle.std.specs.Prelude.{◌||◌, codes, not, unwrap_or}
+use Rattle.std.specs.List.{AllByRecursion, find, flat_map, list_any}
+use Rattle.std.specs.Option.{option_map_or}
 use Rattle.std.proofs.lemmas.Option.{none-some, same_Some}
 use Rattle.csv.specs.Machine.{Read, next_record}
 use Rattle.csv.specs.Reading.{AreRecords, Reached, default_config, strip_bom}
@@ -13,7 +14,11 @@ use Rattle.csv.proofs.RoundTrip.{read-write}
 use Rattle.a429_import.specs.declared.lines.CsvLine.{CsvLine}
 use Rattle.a429_text.specs.Sheets.{csv_text_of}
 use Rattle.a429_documents.specs.Document.{icd_columns}
-use Rattle.a429_import.specs.Imports.{AreLines}
+use Rattle.a429_import.specs.ImportForms.{ends_line, first_line, from_heading, from_line, heading_among, heading_of, is_heading, separator_in, separators, without_byte_order_mark}
+use Rattle.a429_import.specs.ImportRows.{is_named}
+use Rattle.a429_import.specs.Imports.{AreLines, has_text, separated}
+use Rattle.a429_import.proofs.FirstPlaces.{position_first}
+use Rattle.a429_import.proofs.ImportForms.{among_here}
 
 -- the lines of these rows
 abbrev text_of : List (List (List ℕ)) → List ℕ
@@ -44,17 +49,87 @@ records_back (row ∷ rows) (r ∷ records) h =
 
 -- ---- the names of the columns come first
 
-heading_text : row_text default_writer icd_columns ≡ codes "group,rate,source,receiver,label,sdi,bus,slot,period,period_us,min_us,max_us,hold,spacing,latency_us\n"
+abbrev names : List ℕ
+names = codes "group,rate,source,receiver,label,sdi,bus,slot,period,period_us,min_us,max_us,hold,spacing,latency_us"
+
+heading_text : row_text default_writer icd_columns ≡ names ++ 10 ∷ []
 unfolding is_blank escaped fields_text
 heading_text = refl
 
-no_mark : (rest : List ℕ) → strip_bom (row_text default_writer icd_columns ++ rest) ≡ row_text default_writer icd_columns ++ rest
+abbrev after_names : List ℕ → List ℕ
+after_names rest = (names ++ 10 ∷ []) ++ rest
+
+or_false : (a b : Bool) → (a || b) ≡ false → (a ≡ false) × (b ≡ false)
+or_false true b h = cc
+or_false false b h = (refl, h)
+
+none_before : (p : ℕ → Bool) (xs : List ℕ) → list_any p xs ≡ false → AllByRecursion (λ y. p y ≡ false) xs
+none_before p [] h = tt
+none_before p (x ∷ xs) h = let parts = or_false (p x) (list_any p xs) h in (parts.0, none_before p xs parts.1)
+
+starts : (rest : List ℕ) → from_line (without_byte_order_mark (after_names rest)) ≡ after_names rest
+starts rest = ap (λ (o : Option ℕ). drop (unwrap_or o (length (after_names rest))) (after_names rest)) (position_first (λ b. not (ends_line b)) (after_names rest) 0 103 tt refl refl)
+
+first_names : (rest : List ℕ) → first_line (after_names rest) ≡ names
+first_names rest =
+    ap (λ (o : Option ℕ). take (unwrap_or o (length (after_names rest))) (after_names rest))
+    (position_first ends_line (after_names rest) 100 10 (none_before ends_line names refl) refl refl)
+
+commas : find (is_heading names) separators ≡ Some 44
+unfolding is_named
+commas = refl
+
+heading_there : (rest : List ℕ) → heading_of (after_names rest) ≡ Some (44, after_names rest)
+heading_there rest =
+    ap (heading_among 11) (starts rest) ∙ among_here 11 (after_names rest) 44 (omega arith) (ap (λ (l : List ℕ). find (is_heading l) separators) (first_names rest) ∙ commas)
+
+by_commas : (rest : List ℕ) → separator_in (after_names rest) ≡ 44
+by_commas rest = ap (λ (o : Option (ℕ × List ℕ)). option_map_or (λ h. h.0) o 44) (heading_there rest)
+
+all_of_it : (rest : List ℕ) → from_heading (after_names rest) ≡ after_names rest
+all_of_it rest = ap (λ (o : Option (ℕ × List ℕ)). option_map_or (λ h. h.1) o (after_names rest)) (heading_there rest)
+
+no_mark : (rest : List ℕ) → strip_bom (after_names rest) ≡ after_names rest
 unfolding strip_bom
-no_mark rest = subst (λ (text : List ℕ). strip_bom (text ++ rest) ≡ text ++ rest) (sym heading_text) refl
+no_mark rest = refl
+
+-- ---- no row is empty
+
+-- each row has a field that is not empty
+abbrev pub HaveTexts : List (List (List ℕ)) → Type 0
+HaveTexts rows = AllByRecursion (λ row. has_text (read_back row) ≡ true) rows
+
+all_kept : (rows : List (List (List ℕ))) (lines : List CsvLine) → HaveTexts rows → map (λ l. fields_of l.fields) lines ≡ map read_back rows → filter (λ l. has_text (fields_of l.fields)) lines ≡ lines
+all_kept rows [] texts same = refl
+all_kept [] (line ∷ lines) texts same = absurd (omega (arith, ap length same))
+all_kept (row ∷ rows) (line ∷ lines) texts same =
+    let here : fields_of line.fields ≡ read_back row = ap (λ (zs : List (List (List ℕ))). get_or zs 0 []) same in
+    let later : map (λ (l : CsvLine). fields_of l.fields) lines ≡ map read_back rows = ap (drop 1) same in
+    rw (ap has_text here ∙ texts.0) (ap (λ (ls : List CsvLine). line ∷ ls) (all_kept rows lines texts.1 later))
 
 -- the lines of a document are its rows
-pub lines_back : (rows : List (List (List ℕ))) (lines : List CsvLine) → AreLines (csv_text_of (icd_columns ∷ rows)) lines → map (λ l. fields_of l.fields) lines ≡ map read_back (icd_columns ∷ rows)
+pub record AreRowsOf (rows : List (List (List ℕ))) (lines : List CsvLine) : Type 0 where
+  pub fields : map (λ l. fields_of l.fields) lines ≡ map read_back rows
+  pub separators : AllByRecursion (λ l. l.separator ≡ 44) lines
+
+abbrev text : List (List (List ℕ)) → List ℕ
+text rows = row_text default_writer icd_columns ++ text_of rows
+
+text_is : (rows : List (List (List ℕ))) → text rows ≡ after_names (text_of rows)
+text_is rows = ap (λ (t : List ℕ). t ++ text_of rows) heading_text
+
+pub lines_back : (rows : List (List (List ℕ))) (lines : List CsvLine) → HaveTexts (icd_columns ∷ rows) → AreLines (csv_text_of (icd_columns ∷ rows)) lines → AreRowsOf (icd_columns ∷ rows) lines
 unfolding csv_text_of
-lines_back rows lines h =
-    let fields : List (List (List ℕ)) = map (λ (l : CsvLine). fields_of l.fields) lines in
-    records_back (icd_columns ∷ rows) fields (subst (λ (xs : List ℕ). AreRecords default_config st.StartRecord xs fields) (no_mark (text_of rows)) h)
+lines_back rows lines texts h =
+    let is = text_is rows in
+    let fields : List (List (List ℕ)) = map (λ (l : CsvLine). fields_of l.fields) h.all in
+    let separator : separator_in (text rows) ≡ 44 = ap separator_in is ∙ by_commas (text_of rows) in
+    let from : strip_bom (from_heading (text rows)) ≡ text rows = ap (λ (t : List ℕ). strip_bom (from_heading t)) is ∙ ap strip_bom (all_of_it (text_of rows)) ∙ no_mark (text_of rows) ∙ sym is in
+    let one = subst (λ (s : ℕ). AreRecords (separated s) st.StartRecord (strip_bom (from_heading (text rows))) fields) separator h.records in
+    let two = subst (λ (xs : List ℕ). AreRecords default_config st.StartRecord xs fields) from one in
+    let same : fields ≡ map read_back (icd_columns ∷ rows) = records_back (icd_columns ∷ rows) fields two in
+    let lines_are : lines ≡ h.all = h.filled ∙ all_kept (icd_columns ∷ rows) h.all texts same in
+    record {
+      fields = ap (map (λ (l : CsvLine). fields_of l.fields)) lines_are ∙ same;
+      separators = subst (λ (ls : List CsvLine). AllByRecursion (λ l. l.separator ≡ 44) ls) (sym lines_are) (subst (λ (s : ℕ). AllByRecursion (λ l. l.separator ≡ s) h.all) separator h.separators);
+    }

@@ -1,7 +1,7 @@
 //! The command line: its commands.
 ghost use Rattle.std.specs.Prelude.{◌≡◌, ◌∷◌, [], IfOk, map, option_map};
 ghost use Rattle.clap.specs.Words.{HasKind, app_of, kind_of, new_app, with_subcommand};
-ghost use Rattle.a429_console.specs.CommandLine.{HasRule, bare_line, command_line, form_row, form_rule, many_rule, number_rule, required_rule, row_app, with_any, with_commands, with_names};
+ghost use Rattle.a429_console.specs.CommandLine.{HasRule, bare_line, command_line, form_row, form_rule, many_rule, number_rule, required_rule, row_app, with_any, with_commands, with_names, with_texts};
 
 use crate::arguments::forms::{
     CommandForm, NameForm, NumberForm, OptionForm, OptionKind, commands,
@@ -27,14 +27,15 @@ fn option_argument<'a>(alloc: Global, form: &OptionForm) -> Arg<'a>
     match form.kind {
         OptionKind::Flag => option.action(ArgAction::SetTrue),
         OptionKind::Text { value } => option.value_name(value),
+        OptionKind::Texts { value } => option.value_name(value).action(ArgAction::Append),
         OptionKind::Number { value, least, most } => option
             .value_name(value)
             .value_parser(ValueParser::unsigned(least, most)),
     }
 }
 
-/// A command with the second name that it is given, if there is one.
-fn with_second<'a>(
+/// A command with a further name that it is given, if there is one.
+fn with_name<'a>(
     alloc: Global,
     command: Command<'a>,
     form: Option<NameForm>,
@@ -85,6 +86,19 @@ fn named_command<'a>(alloc: Global, name: &'a str, about: &'a str, end: &'a str)
     Command::new(alloc, name).about(about).after_help(end)
 }
 
+/// A command with the names that it is given once each.
+fn with_texts<'a>(
+    alloc: Global,
+    command: Command<'a>,
+    form: &CommandForm,
+) -> Result<Command<'a>, AllocError>
+    ensures { IfOk result (λ c. app_of c ≡ with_texts (app_of command.entry) (form_row form.now)) }
+{
+    let command = command.arg(name_argument(alloc, form.first))?;
+    let command = with_name(alloc, command, form.second)?;
+    with_name(alloc, command, form.third)
+}
+
 /// A command with all that it is given apart from options.
 fn with_names<'a>(
     alloc: Global,
@@ -93,8 +107,7 @@ fn with_names<'a>(
 ) -> Result<Command<'a>, AllocError>
     ensures { IfOk result (λ c. app_of c ≡ with_names (app_of command.entry) (form_row form.now)) }
 {
-    let command = command.arg(name_argument(alloc, form.first))?;
-    let command = with_second(alloc, command, form.second)?;
+    let command = with_texts(alloc, command, form)?;
     let command = with_number(alloc, command, form.number)?;
     with_more(alloc, command, form.more)
 }

@@ -6,8 +6,8 @@ ghost use Rattle.a429_console.specs.CommandLine.{IsRow, form_row, row_of, verbs}
 
 use crate::arguments::help;
 use crate::arguments::options::{
-    ALL, ALL_CELLS, BCD, BITS, BNR, CODE, CSV, DATA, FROM, GROUP, HTML, JSON, LIMIT, RATE, ROWS,
-    SDI, SLACK, SLOTS, SSM, SUMMARY, SUMMARY_JSON, TIME, UNTIL, WIDTH,
+    ALL, ALL_CELLS, BCD, BITS, BNR, CODE, CSV, DATA, EVENTS, FROM, GROUP, HTML, IN, JSON, LIMIT,
+    RATE, ROWS, SDI, SLACK, SLOTS, SSM, SUMMARY, SUMMARY_JSON, TIME, TOLERANCE, UNTIL, WIDTH,
 };
 use a429_equipment::FRAMES;
 
@@ -30,6 +30,7 @@ pub enum Verb {
     Replay,
     Simulate,
     Survey,
+    Judge,
     Live,
 }
 
@@ -57,6 +58,10 @@ pub enum OptionKind {
     Text {
         value: &'static str,
     },
+    /// Such a text each time. It is given as often as one likes.
+    Texts {
+        value: &'static str,
+    },
     /// A whole number from `least` to `most`.
     Number {
         value: &'static str,
@@ -73,14 +78,15 @@ pub struct OptionForm {
     pub help: &'static str,
 }
 
-/// A command: its name, and what it is given: one or two names, perhaps a number, perhaps any number of further names, and
-/// options. `help_of` has its help.
+/// A command: its name, and what it is given: one to three names, perhaps a number, perhaps any number of further names,
+/// and options. `help_of` has its help.
 #[derive(Clone, Copy)]
 pub struct CommandForm {
     pub verb: Verb,
     pub name: &'static str,
     pub first: NameForm,
     pub second: Option<NameForm>,
+    pub third: Option<NameForm>,
     pub number: Option<NumberForm>,
     pub more: Option<NameForm>,
     pub options: &'static [OptionForm],
@@ -108,12 +114,13 @@ const OF_TABLE: CommandForm = CommandForm {
     name: "plan",
     first: name!("TABLE", help::TABLE),
     second: None,
+    third: None,
     number: None,
     more: None,
     options: &[],
 };
 
-static COMMANDS: [CommandForm; 17] = [
+static COMMANDS: [CommandForm; 18] = [
     CommandForm {
         verb: Verb::Word,
         name: "word",
@@ -215,6 +222,15 @@ static COMMANDS: [CommandForm; 17] = [
         first: name!("LOG", help::LOG),
         more: Some(name!("LOGS", help::LOGS)),
         options: &[TIME, FROM, RATE, ROWS, SLACK, CSV, JSON],
+        ..OF_TABLE
+    },
+    CommandForm {
+        verb: Verb::Judge,
+        name: "judge",
+        second: Some(name!("IN", help::HEARD_LOG)),
+        third: Some(name!("OUT", help::SENT_LOG)),
+        more: Some(name!("OUTS", help::SENT_LOGS)),
+        options: &[IN, TOLERANCE, EVENTS, TIME, FROM, CSV, JSON],
         ..OF_TABLE
     },
     CommandForm {

@@ -28,6 +28,7 @@ pub fn help_of(verb: Verb) -> CommandHelp {
         Verb::Replay => (REPLAY, REPLAY_END),
         Verb::Simulate => (SIMULATE, SIMULATE_END),
         Verb::Survey => (SURVEY, SURVEY_END),
+        Verb::Judge => (JUDGE, JUDGE_END),
         Verb::Live => (LIVE, LIVE_END),
     };
     CommandHelp { about, end }
@@ -275,6 +276,36 @@ rate. An interval, in microseconds, is the time from one word to the next.
 
 Example:
   a429 survey examples/displays/log";
+
+pub const JUDGE: &str = "Judge whether what a box sent is right, by logs of its words";
+
+pub const HEARD_LOG: &str = "What came in, `TIME RECEIVER HEX` on each line";
+
+pub const SENT_LOG: &str = "What the box sent, with GROUP or GROUP.BUS for RECEIVER";
+
+pub const SENT_LOGS: &str = "Further logs of what it sent, read as if they were one";
+
+pub const HEARD_LOGS: &str = "A further log of what came in; may be given again";
+
+pub const TOLERANCE: &str = "\
+How far recorded times may be wrong, 0 to 30000000 us
+[default: two slots of the group]";
+
+pub const EVENTS: &str = "A row for each finding instead of each output";
+
+pub const JUDGE_END: &str = "\
+Both logs are on one clock. There is a row for each output, and a row for each
+group that counts its foreign words. The status is 1 if something is found:
+  wrong    the word that was sent did not come in before
+  stale    a later word came in before
+  soon     it was sent before the minimum interval was over
+  late     it was sent after the maximum interval was over
+  missed   a word that came in was not sent in time
+  again    a word was sent more often than `hold` says
+  foreign  a word that no output of the group sends
+
+Example:
+  a429 judge examples/displays/table.toml examples/displays/log sent.log";
 
 pub const LIVE: &str = "Run a station on threads, and print how many words and cells passed";
 

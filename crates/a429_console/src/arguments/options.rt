@@ -20,6 +20,9 @@ const MOST_RATE: u64 = 100_000;
 /// By how much an interval may be widened, in per cent (profile).
 const MOST_SLACK: u64 = 99;
 
+/// The greatest tolerance, in microseconds: that of the longest interval of an output (profile).
+const MOST_TOLERANCE: u64 = 30_000_000;
+
 /// The greatest SDI and the greatest SSM (ARINC 429 Part 1: two bits each).
 const MOST_PAIR: u64 = 3;
 
@@ -147,6 +150,27 @@ pub const SLACK: OptionForm = OptionForm {
     },
     help: help::SLACK,
 };
+
+/// `--in`
+pub const IN: OptionForm = OptionForm {
+    id: "in",
+    kind: OptionKind::Texts { value: "LOG" },
+    help: help::HEARD_LOGS,
+};
+
+/// `--tolerance`
+pub const TOLERANCE: OptionForm = OptionForm {
+    id: "tolerance",
+    kind: OptionKind::Number {
+        value: "US",
+        least: 0,
+        most: MOST_TOLERANCE,
+    },
+    help: help::TOLERANCE,
+};
+
+/// `--events`
+pub const EVENTS: OptionForm = flag!("events", help::EVENTS);
 
 /// `--sdi`
 pub const SDI: OptionForm = OptionForm {

@@ -11,8 +11,8 @@ use crate::arguments::choices::{Choices, choices_in, is_given};
 use crate::arguments::command_line::{build_command, words_error};
 use crate::arguments::forms::{CommandForm, NameForm, NumberForm, Verb, command_named};
 use crate::arguments::options::{
-    ALL, BCD, BITS, BNR, CODE, DATA, GROUP, HTML, LIMIT, RATE, ROWS, SDI, SLACK, SLOTS, SSM,
-    SUMMARY, UNTIL,
+    ALL, BCD, BITS, BNR, CODE, DATA, EVENTS, GROUP, HTML, IN, LIMIT, RATE, ROWS, SDI, SLACK, SLOTS,
+    SSM, SUMMARY, TOLERANCE, UNTIL,
 };
 use crate::arguments::times::LogOrigin;
 use a429_logs::TimeUnit;
@@ -71,6 +71,10 @@ pub struct Options<'a> {
     pub rows: bool,
     /// By how much their intervals are wider than those of the recording, 0 to 99 per cent (`--slack`).
     pub slack: Option<u32>,
+    /// How far recorded times may be wrong, in microseconds (`--tolerance`). `None`: two slots of the group.
+    pub tolerance: Option<u32>,
+    /// Each finding has a row, instead of each output (`--events`).
+    pub events: bool,
     pub fields: FieldOptions<'a>,
 }
 
@@ -81,10 +85,14 @@ pub struct Asked<'a> {
     pub first: &'a str,
     /// Empty, if the command is given one name.
     pub second: &'a str,
+    /// Empty, if it is given fewer than three.
+    pub third: &'a str,
     /// How many frames; 0, if the command is given no number.
     pub number: u32,
     /// Filters, further tables, or further logs.
     pub more: Vec<&'a str>,
+    /// Further logs of what came in (`--in`).
+    pub inputs: Vec<&'a str>,
     pub options: Options<'a>,
 }
 
@@ -148,8 +156,10 @@ fn read_asked<'a>(
         verb: form.verb,
         first: name_in(found, Some(form.first)),
         second: name_in(found, form.second),
+        third: name_in(found, form.third),
         number: number_in(found, form.number),
         more: names_in(alloc, found, form.more)?,
+        inputs: texts_in(alloc, found, IN.id)?,
         options: options_in(found, choices),
     })
 }
@@ -176,6 +186,16 @@ fn number_in(found: &ArgMatches<'_>, form: Option<NumberForm>) -> u32
     }
 }
 
+/// The texts of an argument that is given as often as one likes, in their order.
+fn texts_in<'a>(alloc: Global, found: &ArgMatches<'a>, id: &str) -> Result<Vec<&'a str>, AllocError>
+    ensures { IfOk result (λ texts. texts_of texts.items ≡ values_of id.now (rows_of (found_of found.now))) }
+{
+    match found.get_strs(id) {
+        Some(texts) => Vec::from_slice(alloc, texts),
+        None => Ok(Vec::new(alloc)),
+    }
+}
+
 /// The names that are given as often as one likes, in their order, if the command is given any.
 fn names_in<'a>(
     alloc: Global,
@@ -186,11 +206,8 @@ fn names_in<'a>(
         → MatchOption (option_map (λ n. n.id.now) form) (texts ≡ []) (λ id. values_of id (rows_of (found_of found.now)) ≡ texts)
         → texts_of names.items ≡ texts) }
 {
-    let Some(form) = form else {
-        return Ok(Vec::new(alloc));
-    };
-    match found.get_strs(form.id) {
-        Some(names) => Vec::from_slice(alloc, names),
+    match form {
+        Some(form) => texts_in(alloc, found, form.id),
         None => Ok(Vec::new(alloc)),
     }
 }
@@ -215,6 +232,8 @@ fn options_in<'a>(found: &ArgMatches<'a>, choices: Choices) -> Options<'a>
         rate: asked_number(found, RATE.id),
         rows: is_given(found, ROWS.id),
         slack: asked_number(found, SLACK.id),
+        tolerance: asked_number(found, TOLERANCE.id),
+        events: is_given(found, EVENTS.id),
         fields: fields_in(found),
     }
 }

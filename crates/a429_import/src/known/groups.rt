@@ -5,13 +5,13 @@ ghost use Rattle.a429_import.specs.declared.firsts.Part.TheVariants as part;
 ghost use Rattle.a429_import.specs.declared.rows.ImportRow.{ImportRow};
 ghost use Rattle.a429_import.specs.ImportClashes.{Agree, first_part_clash};
 ghost use Rattle.a429_import.specs.ImportLimits.{has_too_many_outputs, has_wrong_rate};
-ghost use Rattle.a429_import.specs.ImportTables.{firsts};
+ghost use Rattle.a429_import.specs.ImportTables.{groups_of};
 ghost use Rattle.a429_import.specs.ImportTexts.{row_view};
-ghost use Rattle.a429_import.specs.Known.{KnowsGroups, are_full, one_more, one_output, rate_clash};
+ghost use Rattle.a429_import.specs.Known.{KnowsGroups, are_groups_full, one_more, one_output, rate_clash};
 
 use crate::clashes::{RowClash, numbered};
 use crate::fault::ImportColumn;
-use crate::limits::{first_above, first_wrong_rate};
+use crate::limits::{count_flags, first_above, first_wrong_rate};
 use crate::named_rows::{FoundName, NamedRows};
 use crate::rows::RowFields;
 use a429_equipment::{GROUPS, OUTPUTS};
@@ -20,10 +20,12 @@ use std::alloc::{AllocError, Global};
 /// The groups of rows, each with the bit rate that its first row states.
 #[derive(Drop)]
 pub struct KnownGroups {
-    pub named: NamedRows,
+    named: NamedRows,
     rates: Vec<u32>,
     /// The number of outputs of each; one above the limit stands for any above it.
     outputs: Vec<u8>,
+    /// Whether each is a group. The empty name stands for the rows without a group.
+    flags: Vec<bool>,
 }
 
 /// One more output, up to one above the limit.
@@ -55,6 +57,7 @@ impl KnownGroups {
             named: NamedRows::new(alloc, chains)?,
             rates: Vec::new(alloc),
             outputs: Vec::new(alloc),
+            flags: Vec::new(alloc),
         })
     }
 
@@ -96,29 +99,37 @@ impl KnownGroups {
         self.named.push(row.texts.group, number)?;
         self.rates.push(row.numbers.rate)?;
         self.outputs.push(1)?;
+        self.flags.push(!row.texts.group.is_empty())?;
         Ok(())
+    }
+
+    /// The number of groups.
+    pub fn len(&self) -> usize
+        ensures { (rows : List ImportRow) → KnowsGroups self.now rows → result ≡ length (groups_of rows) }
+    {
+        count_flags(&self.flags)
     }
 
     /// The first group with a wrong bit rate.
     pub fn wrong_rate(&self) -> Option<usize>
         ensures { (rows : List ImportRow) → KnowsGroups self.now rows
-            → result ≡ position_from has_wrong_rate 0 (firsts part.Groups rows) }
+            → result ≡ position_from has_wrong_rate 0 (groups_of rows) }
     {
-        first_wrong_rate(&self.rates)
+        first_wrong_rate(&self.flags, &self.rates)
     }
 
     /// The first group with too many outputs.
     pub fn too_many_outputs(&self) -> Option<usize>
         ensures { (rows : List ImportRow) → KnowsGroups self.now rows
-            → result ≡ position_from (has_too_many_outputs rows) 0 (firsts part.Groups rows) }
+            → result ≡ position_from (has_too_many_outputs rows) 0 (groups_of rows) }
     {
-        first_above(&self.outputs)
+        first_above(&self.flags, &self.outputs)
     }
 
     /// Whether there are too many groups, or a group has too many outputs.
     pub fn are_full(&self) -> bool
-        ensures { (rows : List ImportRow) → KnowsGroups self.now rows → result ≡ are_full rows }
+        ensures { (rows : List ImportRow) → KnowsGroups self.now rows → result ≡ are_groups_full rows }
     {
-        GROUPS < self.named.len() || self.too_many_outputs().is_some()
+        GROUPS < self.len() || self.too_many_outputs().is_some()
     }
 }

@@ -5,6 +5,7 @@ ghost use Rattle.a429_import.specs.declared.firsts.Part.TheVariants as part;
 ghost use Rattle.a429_import.specs.declared.rows.ImportRow.{ImportRow};
 ghost use Rattle.a429_import.specs.FirstRows.{first_from};
 ghost use Rattle.a429_import.specs.ImportClashes.{Agree, first_part_clash, numbered};
+ghost use Rattle.a429_import.specs.ImportTables.{is_known};
 ghost use Rattle.a429_import.specs.ImportTexts.{row_view};
 ghost use Rattle.a429_import.specs.Known.{KnowsSources, is_number, known_clash, label_is, sdi_is};
 
@@ -108,6 +109,14 @@ impl KnownSources {
             Some(found) => numbered(found.first, self.column_at(found.place, receiver, row)),
             None => None,
         }
+    }
+
+    /// Whether the source of a row is known.
+    pub fn has(&self, row: &RowFields<'_>) -> bool
+        requires { (rows : List ImportRow) × KnowsSources self.now rows }
+        ensures { (rows : List ImportRow) → KnowsSources self.now rows → result ≡ is_known part.Sources rows (row_view row.now) }
+    {
+        self.named.find(row.texts.source).is_some()
     }
 
     /// Takes one more row, with its number, and that of the first row of its receiver. Error: an allocation failed.

@@ -2,10 +2,13 @@
 ghost use Rattle.std.specs.Prelude.{◌≡◌, ◌<◌, IfSome};
 ghost use Rattle.a429_slots.specs.Proposed.{Proposed};
 ghost use Rattle.a429_recordings.specs.Simulating.{Comes, Asks, turn_after};
-ghost use Rattle.a429_recordings.specs.SimulationRuns.{HasPlannedGroup, IsKnown, IsOpening, IsSlotOf, TakesQuietly, TakesStep, heard_at, noted};
+ghost use Rattle.a429_equipment.specs.Sound.{OfEach};
+ghost use Rattle.a429_recordings.specs.Tracks.{IsTrack};
+ghost use Rattle.a429_recordings.specs.SimulationRuns.{HasPlannedGroup, IsKnown, IsOpening, IsSlotOf, TakesQuietly, TakesStep, heard_at, noted, put_at};
 
 use crate::simulate::figures::OutputSend;
 use crate::simulate::log::LogWord;
+use crate::simulate::tracks::Track;
 use a429_console::refusals::CommandRefusal;
 use a429_core::laws::{calls_are_answered, sent_cells_are_answered};
 use a429_core::{Answer, Refusal, StationState};
@@ -66,6 +69,16 @@ impl Run {
         let heard = vec![in alloc; unheard; proposal.equipment().sources().len()]?;
         let state = open_machine(alloc, proposal.copied(alloc)?)?;
         Ok(Run { state, heard })
+    }
+
+    /// Puts each group at the next slot of its track. No word was accepted before.
+    pub fn put_at(&mut self, tracks: &[Track])
+        requires sound { OfEach IsTrack tracks.now }
+        ensures { self.new ≡ put_at self.old tracks.now }
+    {
+        for group in 0..tracks.len() {
+            self.state.pass_slots(group, tracks[group].next);
+        }
     }
 
     /// A word comes in. It happens that it is refused, or nothing.

@@ -7,8 +7,9 @@ ghost use Rattle.a429_recordings.specs.Timeline.{end_of};
 use crate::simulate::log::LogWord;
 use crate::simulate::machine::{Happening, Run};
 use crate::simulate::moments::{Moment, Timeline};
-use crate::simulate::tracks::{end_of, tracks_of};
+use crate::simulate::tracks::{end_of, silent_until, tracks_of};
 use a429_console::refusals::CommandRefusal;
+use a429_core::laws::{calls_are_answered, sent_cells_are_answered};
 use a429_slots::{OUTPUTS, Proposal};
 use std::alloc::Global;
 
@@ -30,7 +31,7 @@ pub struct Player {
 
 impl Player {
     /// A station to which nothing has happened, with these words before it, and slots up to this time or to that which the words
-    /// ask for. Error: a group would send too much.
+    /// ask for. The slots before the first word have passed: no group sends in them. Error: a group would send too much.
     pub fn open(
         alloc: Global,
         proposal: &Proposal<OUTPUTS>,
@@ -40,8 +41,12 @@ impl Player {
         requires { AreInTime words.items }
         ensures { IsBeginningOf proposal.now words.items (end_of proposal.now words.items until) result }
     {
-        let tracks = tracks_of(alloc, proposal, end_of(proposal, &words, until))?;
-        let run = Run::open(alloc, proposal)?;
+        calls_are_answered();
+        sent_cells_are_answered();
+        let last = end_of(proposal, &words, until);
+        let tracks = tracks_of(alloc, proposal, silent_until(&words, last), last)?;
+        let mut run = Run::open(alloc, proposal)?;
+        run.put_at(&tracks);
         let timeline = Timeline {
             words,
             at: 0,

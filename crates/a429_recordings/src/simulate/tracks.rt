@@ -1,10 +1,10 @@
 //! The place of each group: which of its slots is next.
-ghost use Rattle.std.specs.Prelude.{◌≡◌, ◌<◌, ◌≤◌, ◌*◌, ◌↔◌, IsTrue, IfSome, length, Some, slice_get};
+ghost use Rattle.std.specs.Prelude.{◌≡◌, ◌<◌, ◌≤◌, ◌*◌, ◌^◌, ◌↔◌, IsTrue, IfSome, length, Some, slice_get};
 ghost use Rattle.a429_equipment.specs.Sound.{OfEach};
 ghost use Rattle.a429_slots.specs.Tables.{groups_of};
 ghost use Rattle.a429_slots.specs.Planned.{IsPlanOf};
 ghost use Rattle.a429_documents.specs.Document.{slots_us};
-ghost use Rattle.a429_recordings.specs.Tracks.{GoesBefore, SlotsAreCounted, IsNextTrack, IsTrack, IsTracking, advanced, next_at};
+ghost use Rattle.a429_recordings.specs.Tracks.{GoesBefore, SlotsAreCounted, IsNextTrack, IsTrack, IsTracking, advanced, next_at, silent_until, slots_before};
 ghost use Rattle.a429_recordings.specs.Timeline.{end_of, last_time, longest_frame, rate_of};
 ghost use Rattle.a429_recordings.specs.SimulationRuns.{HasPlannedGroup};
 ghost use Rattle.a429_recordings.specs.SimulationLog.{AreInTime};
@@ -130,6 +130,14 @@ fn count_slots(rate: u32, frame: u32, last: u64) -> Option<u64>
     }
 }
 
+/// How many slots begin before this time in microseconds, at a rate in bit/s.
+fn slots_before(rate: u32, time: u64) -> u64
+    requires few { time * rate < 2 ^ 63 }
+    ensures { result ≡ slots_before rate time }
+{
+    (time * u64::from(rate)).div_ceil(SLOT_TIME)
+}
+
 /// How long the longest frame of a group lasts, in microseconds, rounded up.
 fn longest_frame(equipment: &Equipment, plan: &Plan<OUTPUTS>) -> u64
     requires planned { IsPlanOf equipment.now plan.now }
@@ -171,14 +179,28 @@ pub fn end_of(proposal: &Proposal<OUTPUTS>, words: &[LogWord], until: Option<u64
     last_time(words) + longest_frame(proposal.equipment(), proposal.plan())
 }
 
-/// Each group before its first slot, with slots that begin up to this time in microseconds. Error: a group would send
-/// more than a million frames.
+/// The time before which no group sends a word, in microseconds: that of the first word, or the last time at which slots
+/// begin if that is earlier.
+pub fn silent_until(words: &[LogWord], last: u64) -> u64
+    ensures value { result ≡ silent_until words.now last }
+    ensures within { result ≤ last }
+{
+    match words.first() {
+        None => last,
+        Some(word) => u64::min(word.time, last),
+    }
+}
+
+/// Each group before its first slot at this start or after it, with slots that begin up to the last time. Both are in
+/// microseconds. Error: a group would send more than a million frames.
 pub fn tracks_of(
     alloc: Global,
     proposal: &Proposal<OUTPUTS>,
+    start: u64,
     last: u64,
 ) -> Result<Vec<Track>, CommandRefusal>
-    ensures { IsTracking proposal.now last result }
+    requires within { start ≤ last }
+    ensures { IsTracking proposal.now start last result }
 {
     let (equipment, plan) = (proposal.equipment(), proposal.plan());
     let mut tracks = Vec::new(alloc);
@@ -190,7 +212,7 @@ pub fn tracks_of(
         tracks.push(Track {
             rate,
             slots,
-            next: 0,
+            next: slots_before(rate, start),
         })?;
     }
     Ok(tracks)

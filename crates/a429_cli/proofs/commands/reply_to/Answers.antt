@@ -67,3 +67,7 @@ returns-in-Survey g c =
     subst (λ (f : SurveyForm). Replies (IsSurveyed file (asked.first.now ∷ texts_of asked.more.items) f) (IsNoSurvey file (asked.first.now ∷ texts_of asked.more.items) f) c.survey_reply.result) c.of-survey.ensures
     (subst (λ (more : List (Bor (List ℕ))). Replies (IsSurveyed file (asked.first.now ∷ texts_of more) c.of-survey.result) (IsNoSurvey file (asked.first.now ∷ texts_of more) c.of-survey.result) c.survey_reply.result)
     c.deref.ensures.value is)))
+
+pub returns-in-Judge : goal.returns-in-Judge
+returns-in-Judge g c =
+    given_by g.F.FileReader.answers c.args.files.now c.judge_reply.new.files (asked_of c.args.asked.now) c.judge_reply.result c.args.asked.now.verb verb.Judge c.in-Judge.is c.judge_reply.ensures

@@ -1,4 +1,4 @@
-use Rattle.std.proofs.Common.{◌≡◌, ◌<◌, ◌≤◌, ◌∙◌, [], true, false, length, get_or, subst, sym, ℕ, List}
+use Rattle.std.proofs.Common.{◌≡◌, ◌<◌, ◌≤◌, ◌∙◌, [], ap, true, false, length, get_or, subst, sym, ℕ, List}
 use Rattle.std.specs.List.{AllByRecursion}
 use Rattle.std.proofs.lemmas.List.{take_all}
 use Rattle.std.proofs.lemmas.Option.{slice_get-get_or}
@@ -12,7 +12,7 @@ returns-then-is_named c =
     let fields : List (List ℕ) = fields_of c.args.heading.now.fields in
     let i : ℕ = c.loop-place.place in
     let below : i < length fields = subst (λ (n : ℕ). i < n) c.len-place-end.ensures c.loop-place-test.true in
-    let passes : is_named c.args.column (get_or fields i []) ≡ true = sym c.is_named.ensures ∙ c.if-is_named.true in
+    let passes : is_named c.args.column (get_or fields i []) ≡ true = ap (is_named c.args.column) (sym c.field.ensures) ∙ sym c.is_named.ensures ∙ c.if-is_named.true in
     sym (position_first (is_named c.args.column) fields i (get_or fields i []) c.loop-place.invariant (slice_get-get_or fields i [] below) passes)
 
 pub returns : goal.returns

@@ -8,5 +8,5 @@ returns-in-None c = λ lines known. no_lines c.args.read.now lines c.wrong_headi
 
 pub returns-in-Some : goal.returns-in-Some
 returns-in-Some c = λ lines known.
-    let there : HaveRows (Some _) c.args.read.now lines = subst (λ o. HaveRows o c.args.read.now lines) c.in-Some.is known in
-    c.table_of_rows.ensures there.2.rows lines there.2.has (rows_read _ c.args.read.now lines there)
+    let there : HaveRows (Some c.in-Some._heading) c.args.read.now lines = subst (λ o. HaveRows o c.args.read.now lines) c.in-Some.is known in
+    c.table_of_rows.ensures there.2.rows lines there.2.has (rows_read c.in-Some._heading c.args.read.now lines there)

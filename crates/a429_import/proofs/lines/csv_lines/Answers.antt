@@ -1,11 +1,14 @@
-use Rattle.std.proofs.Common.{Bor, List, ℕ, ◌≡◌, ◌∙◌, sym, refl, rules, inl, inr, true, map, Some, ◌∷◌, []}
-use Rattle.std.specs.Result.{is_ok}
+use Rattle.std.proofs.Common.{Bor, List, ℕ, ◌∙◌, sym, refl, inl, inr, map, Some, ◌∷◌, [], ap, filter, ◌++◌}
 use Rattle.std.proofs.lemmas.List.{map-append}
-use Rattle.csv.specs.Reading.{Reached, default_config, strip_bom}
+use Rattle.std.proofs.lemmas.List.Elements.{filter-append}
+use Rattle.csv.specs.Reading.{AreRecords, Reached, strip_bom}
 use Rattle.csv.specs.Records.{fields_of}
+use Rattle.csv.specs.declared.parser.Config.{Config}
 use Rattle.csv.specs.declared.parser.State.TheVariants as st
 use Rattle.csv.proofs.ReadFacts.{rows-end, rows-more}
 use Rattle.a429_import.specs.declared.lines.CsvLine.{CsvLine}
+use Rattle.a429_import.specs.Imports.{has_text, separated}
+use Rattle.a429_import.proofs.ImportForms.{lines_are, one_more_separator}
 use Rattle.a429_import.proofs.ImportReading.{ok_is}
 use Rattle.a429_import.proofs.lines.csv_lines.Goals as goal
 
@@ -15,28 +18,30 @@ loop-row-init c =
     let fr = c.from_reader-reader.ensures in
     let flexible = c.flexible.ensures in
     let headers = c.has_headers.ensures in
+    let delimiter = c.delimiter.ensures in
     let start = c.into_iter-row-iterator.ensures.into_iter_gives ∙ refl in
     let reader = c.into_byte_records-row-items.ensures.rdr in
     let left = c.into_byte_records-row-items.ensures.left in
     rw (start, reader, c.new-lines.ensures.items) (record {
-      plain = rw (flexible, headers) at fr.trim ∙ c.new.ensures.trim;
-      ready = inr (inr (rw (flexible, headers) at fr.has_headers, fr.headers));
+      plain = rw (delimiter, flexible, headers) at fr.trim ∙ c.new.ensures.trim;
+      ready = inr (inr (rw (delimiter, flexible, headers) at fr.has_headers, fr.headers));
       turns = left;
-      config = rw (flexible, headers) at fr.config ∙ c.new.ensures.config;
-      rest = strip_bom c.args.text.now;
+      config = rw (delimiter, flexible, headers) at fr.config ∙ ap (λ (g : Config). record g { delimiter = c.form_of-form.result.separator }) c.new.ensures.config;
+      rest = strip_bom c.form_of-form.result.text.now;
       source = fr.source;
+      all = [];
       reached = (sym fr.state, refl);
+      separators = tt;
+      filled = refl;
     })
 
 pub loop-row-preserved : goal.loop-row-preserved
 loop-row-preserved c =
     let inv = c.loop-row.invariant in
     let line : CsvLine = c.in_ok-line.line in
-    let read = ok_is c.in-Some.row line.fields c.in_ok-line.ensures in
+    let read = ok_is c.in-Some.row line.fields c.in_ok-line.ensures.fields in
     let s = rw (c.in-Some.is, read) at ((c.next.ensures.steps inv.turns inv.plain).0 inv.ready) in
-    let good : is_ok c.push.result ≡ true = search rules in
-    let items = rw good at c.push.ensures.items in
-    let m = rows-more (λ (s : Bor (List ℕ)). Some s.now) c.loop-row.row-iterator.rdr c.next.new.self.rdr (fields_of line.fields) default_config st.StartRecord (strip_bom c.args.text.now) inv.rest (map (λ (l : CsvLine). fields_of l.fields) c.loop-row.lines.items) inv.config inv.source inv.reached s.0 in
+    let m = rows-more (λ (s : Bor (List ℕ)). Some s.now) c.loop-row.row-iterator.rdr c.next.new.self.rdr (fields_of line.fields) (separated c.form_of-form.result.separator) st.StartRecord (strip_bom c.form_of-form.result.text.now) inv.rest (map (λ (l : CsvLine). fields_of l.fields) inv.all) inv.config inv.source inv.reached s.0 in
     record {
       plain = s.0.3 ∙ inv.plain;
       ready = inl s.1;
@@ -44,11 +49,16 @@ loop-row-preserved c =
       config = s.0.2 ∙ inv.config;
       rest = m.0;
       source = m.1;
-      reached = rw (items, map-append (λ (l : CsvLine). fields_of l.fields) c.loop-row.lines.items (line ∷ [])) m.2;
+      all = inv.all ++ line ∷ [];
+      reached = rw (map-append (λ (l : CsvLine). fields_of l.fields) inv.all (line ∷ [])) m.2;
+      separators = one_more_separator inv.all line inv.separators c.in_ok-line.ensures.separator;
+      filled = c.in_ok-push_line.ensures ∙ ap (λ (ls : List CsvLine). ls ++ filter (λ (l : CsvLine). has_text (fields_of l.fields)) (line ∷ [])) inv.filled ∙ sym (filter-append (λ (l : CsvLine). has_text (fields_of l.fields)) inv.all (line ∷ []));
     }
 
 pub returns : goal.returns
 returns c =
     let inv = c.loop-row.invariant in
     let s = rw c.in-None.is at ((c.next.ensures.steps inv.turns inv.plain).0 inv.ready) in
-    (c.loop-row.row-iterator.rdr.state, inv.rest, inv.reached, rows-end (λ (s : Bor (List ℕ)). Some s.now) c.loop-row.row-iterator.rdr c.next.new.self.rdr [] default_config inv.rest inv.config inv.source s)
+    let ended : AreRecords (separated c.form_of-form.result.separator) st.StartRecord (strip_bom c.form_of-form.result.text.now) (map (λ (l : CsvLine). fields_of l.fields) inv.all) =
+    (c.loop-row.row-iterator.rdr.state, inv.rest, inv.reached, rows-end (λ (s : Bor (List ℕ)). Some s.now) c.loop-row.row-iterator.rdr c.next.new.self.rdr [] (separated c.form_of-form.result.separator) inv.rest inv.config inv.source s) in
+    lines_are c.args.text.now c.form_of-form.result inv.all c.loop-row.lines.items c.form_of-form.ensures.separator c.form_of-form.ensures.text ended inv.separators inv.filled

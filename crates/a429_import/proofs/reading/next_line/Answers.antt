@@ -7,8 +7,8 @@ use Rattle.a429_import.proofs.reading.next_line.Goals as goal
 pub returns-in-None : goal.returns-in-None
 returns-in-None c = λ lines known.
     let old : LinesRead = c.args.read.now in
-    let new : LinesRead = record { heading = Some c.args.line; rows = old.rows; fault = old.fault } in
-    heading_read old new c.args.line lines c.heading_fault-fault.result (subst (λ o. HaveRows o old lines) c.in-None.is known) refl refl c.heading_fault-fault.ensures
+    let new : LinesRead = record { heading = Some c.of.result; rows = old.rows; fault = old.fault } in
+    heading_read old new c.of.result c.args.line lines c.heading_fault-fault.result (subst (λ o. HaveRows o old lines) c.in-None.is known) refl c.of.ensures refl c.heading_fault-fault.ensures
 
 pub returns-in-Some : goal.returns-in-Some
 returns-in-Some c = λ lines known.

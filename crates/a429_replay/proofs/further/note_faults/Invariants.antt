@@ -1,7 +1,11 @@
 use Rattle.std.proofs.Common.{◌≡◌}
 use Rattle.std.specs.List.{AllByRecursion}
+use Rattle.std.specs.Vec.Iter.{into_iter_items}
 use Rattle.a429_console.specs.Tables.{IsTakenBy}
 use Rattle.a429_replay.proofs.further.note_faults.Given as goal
 
-abbrev pub invariant-loop-place : goal.invariant-loop-place
-invariant-loop-place l = AllByRecursion (IsTakenBy l.station) l.further → l.faults.items ≡ l.initial.faults.items
+abbrev pub invariant-loop-table : goal.invariant-loop-table
+invariant-loop-table l = record {
+  none : AllByRecursion (IsTakenBy l.station) l.fn.further.items → l.faults.items ≡ l.initial.faults.items;
+  left : AllByRecursion (IsTakenBy l.station) l.fn.further.items → AllByRecursion (IsTakenBy l.station) (into_iter_items l.table-iterator);
+}

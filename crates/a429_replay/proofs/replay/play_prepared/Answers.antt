@@ -22,14 +22,14 @@ returns-clause-played g c =
     let all = c.in_ok-sufficed.sufficed in
     let (n, E, lines, told, appended, every) = c.in_ok-sufficed.ensures.played o [] opened.1 in
     let kept = rw c.new-lines.ensures at appended in
-    let sent = rw c.deref-3.ensures.value at put in
-    let of_events : Played o c.args.prepared.now.station.names.sources c.deref.result.now [] (take n events) E lines =
-    subst (λ (ks : List KeptEvent). Played o c.args.prepared.now.station.names.sources c.deref.result.now [] (take n (events_of ks)) E lines) c.deref-2.ensures.value told in
+    let sent = rw c.deref-2.ensures.value at put in
+    let of_events : Played o c.args.prepared.now.station.names.sources c.deref_mut.result.now [] (take n events) E lines =
+    subst (λ (ks : List KeptEvent). Played o c.args.prepared.now.station.names.sources c.deref_mut.result.now [] (take n (events_of ks)) E lines) c.deref.ensures.value told in
     let of_tables : Played o c.args.prepared.now.station.names.sources i.further [] (take n events) E lines =
-    subst (λ (ts : List (List ℕ)). Played o c.args.prepared.now.station.names.sources ts [] (take n events) E lines) c.deref.ensures.value of_events in
+    subst (λ (ts : List (List ℕ)). Played o c.args.prepared.now.station.names.sources ts [] (take n events) E lines) c.deref_mut.ensures.value of_events in
     let played : Played o (naming_of q.station).sources i.further [] (take n events) E lines =
     subst (λ (names : List (List ℕ)). Played o names i.further [] (take n events) E lines) (ap (λ (n : Naming). n.sources) opened.0) of_tables in
-    let whole : IsTrue all → n ≡ length events = subst (λ (ks : List KeptEvent). IsTrue all → n ≡ length (events_of ks)) c.deref-2.ensures.value every in
+    let whole : IsTrue all → n ≡ length events = subst (λ (ks : List KeptEvent). IsTrue all → n ≡ length (events_of ks)) c.deref.ensures.value every in
     let bytes = lines ++ ending all in (
       bytes,
       subst (λ (n : ℕ). IsOutcome i q events n bytes) (sym is) (played_ended i q events n lines all (E, played) whole),

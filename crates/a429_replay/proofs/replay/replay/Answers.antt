@@ -1,11 +1,13 @@
 use Rattle.a429_console.proofs.ReadingParts.{read_weaker}
-use Rattle.std.proofs.Common.{rules, ◌∙◌, ◌⊎◌, ◌++◌, ◌∷◌, [], map, refl, inl, inr}
+use Rattle.std.proofs.Common.{◌≡◌, ◌∙◌, ◌⊎◌, ◌++◌, ◌∷◌, [], List, ℕ, ap, map, refl, subst, sym, inl, inr}
+use Rattle.std.specs.List.{AllByRecursion}
 use Rattle.std.proofs.lemmas.Result.{IfOk-weaker}
+use Rattle.a429_equipment.specs.TableRecord.{TableRecord}
 use Rattle.a429_console.specs.FileReadings.{IsFirstUnread}
 use Rattle.a429_console.specs.RefusalText.{refusal_line}
-use Rattle.a429_console.specs.Tables.{IsTableRefusal}
+use Rattle.a429_console.specs.Tables.{IsTableRefusal, IsTakenBy}
 use Rattle.a429_replay.specs.Kept.{events_of}
-use Rattle.a429_replay.specs.Replaying.{IsReplayRefusal, IsScriptRefusal}
+use Rattle.a429_replay.specs.Replaying.{IsReplayRefusal, IsScriptRefusal, ReplayInput}
 use Rattle.a429_replay.specs.Opened.{input_of}
 use Rattle.a429_console.proofs.Refused.{both_ok, or_memory_weaker, told_or_memory}
 use Rattle.a429_replay.proofs.replay.replay.Goals as goal
@@ -20,19 +22,19 @@ returns-in-Err-clause-replayed g c = read_weaker c.in-Err.ensures (λ file bad.
 
 pub returns-in-Ok-prepare-clause-replayed : goal.returns-in-Ok-prepare-clause-replayed
 returns-in-Ok-prepare-clause-replayed g c =
-    let (q, start, opened, tables) = c.in-Ok-prepare.ensures.prepared in
+    let (q, start, opened, tables) = c.in-Ok-prepare.ensures in
     read_weaker c.in-Ok.ensures (λ file read. IfOk-weaker c.play_prepared-status.result _ _ (λ status played.
     let was = played q start opened in
     (was.0, inr (input_of c.in-Ok.input, q, events_of c.in-Ok-prepare.prepared.events.items, read, start, was.1), was.2))
     c.play_prepared-status.ensures.played)
 
-pub returns-clause-replayed : goal.returns-clause-replayed
-returns-clause-replayed g c = read_weaker c.in-Ok.ensures (λ file read.
+pub returns-in-Err-prepare-clause-replayed : goal.returns-in-Err-prepare-clause-replayed
+returns-in-Err-prepare-clause-replayed g c = read_weaker c.in-Ok.ensures (λ file read.
     let names = map (λ n. n.now) c.args.further.now in
     let i = input_of c.in-Ok.input in
     let begun = IsReplayRefusal file c.args.table.now c.args.script.now names in
     let why = or_memory_weaker (λ r. IsTableRefusal i.table r ⊎ IsScriptRefusal i r) begun c.in-Err-prepare.refusal
-    (λ cause. inr (i, read, cause)) c.in-Err-prepare.ensures.prepared in
+    (λ cause. inr (i, read, cause)) c.in-Err-prepare.ensures in
     both_ok c.refuse-in-Err-prepare.result _ _ (λ status is line. (refusal_line line.0 ++ 10 ∷ [], inl (line.0, told_or_memory begun c.in-Err-prepare.refusal line.0 line.1 why, is, refl), line.2)) c.refuse-in-Err-prepare.ensures.status c.refuse-in-Err-prepare.ensures.line)
 
 pub returns-in-Err-clause-taken : goal.returns-in-Err-clause-taken
@@ -40,7 +42,14 @@ returns-in-Err-clause-taken g c = read_weaker c.in-Err.ensures (λ file bad take
 
 pub returns-in-Ok-prepare-clause-taken : goal.returns-in-Ok-prepare-clause-taken
 returns-in-Ok-prepare-clause-taken g c =
-    read_weaker c.in-Ok.ensures (λ file read takes. c.hand_published.ensures (c.prepare.ensures.taken (takes (input_of c.in-Ok.input) read) ∙ search rules))
+    let (q, start, opened, tables) = c.in-Ok-prepare.ensures in
+    let i = input_of c.in-Ok.input in
+    let station = c.play_prepared-status.new.prepared.station.equipment in
+    let same_station : station ≡ q.station = c.play_prepared-status.ensures.station ∙ opened.2 in
+    let same_tables = ap (λ (j : ReplayInput). j.further) c.play_prepared-status.ensures.input in
+    read_weaker c.in-Ok.ensures (λ file read takes.
+    let all : AllByRecursion (IsTakenBy station) i.further = subst (λ (t : TableRecord). AllByRecursion (IsTakenBy t) i.further) (sym same_station) (takes i read q start.proposed) in
+    c.note_faults.ensures (subst (λ (ts : List (List ℕ)). AllByRecursion (IsTakenBy station) ts) (sym same_tables) all))
 
-pub returns-clause-taken : goal.returns-clause-taken
-returns-clause-taken g c = read_weaker c.in-Ok.ensures (λ file read takes. refl)
+pub returns-in-Err-prepare-clause-taken : goal.returns-in-Err-prepare-clause-taken
+returns-in-Err-prepare-clause-taken g c = read_weaker c.in-Ok.ensures (λ file read takes. refl)

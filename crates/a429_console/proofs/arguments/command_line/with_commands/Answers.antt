@@ -17,6 +17,7 @@ none = record {
   name = no_text;
   first = record { id = no_text; help = no_text };
   second = None;
+  third = None;
   number = None;
   more = None;
   options = record { ref_ptr = (0, 0); now = [] };

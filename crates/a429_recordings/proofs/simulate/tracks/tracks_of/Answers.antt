@@ -1,4 +1,4 @@
-use Rattle.std.proofs.Common.{◌≡◌, ◌∙◌, ◌<◌, ◌++◌, ◌∷◌, [], ℕ, length, ap, sym, subst, refl, rules, arith}
+use Rattle.std.proofs.Common.{◌≡◌, ◌∙◌, ◌<◌, ◌++◌, ◌∷◌, [], ℕ, length, ap, sym, subst, rules, arith}
 use Rattle.std.specs.Prelude.{Some, option_map, slice_get}
 use Rattle.a429_equipment.specs.Sound.{IsSound}
 use Rattle.a429_equipment.specs.TableRecord.{TableRecord}
@@ -6,8 +6,13 @@ use Rattle.a429_slots.specs.Tables.{PlanTable, groups_of}
 use Rattle.a429_recordings.specs.Timeline.{rate_of, slots_by}
 use Rattle.a429_recordings.specs.Tracks.{IsTrack}
 use Rattle.a429_recordings.specs.declared.simulate.tracks.Track.{Track}
-use Rattle.a429_recordings.proofs.SimulationEnds.{counted_more, rate_bounds, rate_is, slots_by_is}
+use Rattle.a429_recordings.proofs.SimulationEnds.{before_within, counted_more, few_before, rate_bounds, rate_is, slots_by_is}
 use Rattle.a429_recordings.proofs.simulate.tracks.tracks_of.Goals as goal
+
+pub slots_before-requires : goal.slots_before-requires
+slots_before-requires c =
+    let counted = c.in-Some.ensures in
+    record { few = few_before c.group_rate-rate.result c.args.start c.args.last c.requires.within (omega (arith, counted.0, counted.1)) }
 
 pub loop-group-preserved : goal.loop-group-preserved
 loop-group-preserved c =
@@ -23,8 +28,8 @@ loop-group-preserved c =
     let many : length (groups_of c.plan-plan.result.now) ≡ length q.station.groups = ap (λ (p : PlanTable). length (groups_of p)) c.plan-plan.ensures.plan ∙ c.plan-plan.ensures.own.count in
     let within : n < length q.station.groups = omega (arith, c.loop-group-test.true, c.groups-group-end.ensures.value, many) in
     let counted = c.in-Some.ensures in
-    let x : Track = record { rate = rate; slots = c.in-Some.slots; next = 0 } in
+    let x : Track = record { rate = rate; slots = c.in-Some.slots; next = c.slots_before.result } in
     let slots : x.slots ≡ slots_by q c.args.last n = counted.0 ∙ sym (slots_by_is q c.args.last n rate within own) in
-    let track : IsTrack x = record { some_rate = bounds.0; few_rate = bounds.1; few_slots = counted.1; within = omega arith } in
+    let track : IsTrack x = record { some_rate = bounds.0; few_rate = bounds.1; few_slots = counted.1; within = omega (arith, c.slots_before.ensures, counted.0, before_within rate c.args.start c.args.last c.requires.within) } in
     let items : c.push.new.self.items ≡ c.loop-group.tracks.items ++ x ∷ [] = search rules in
-    rw items (counted_more q c.args.last n c.loop-group.tracks.items x c.loop-group.invariant (sym own) slots track refl)
+    rw items (counted_more q c.args.start c.args.last n c.loop-group.tracks.items x c.loop-group.invariant (sym own) slots track c.slots_before.ensures)

@@ -7,8 +7,8 @@ use Rattle.a429_console.proofs.Refused.{matched_both}
 use Rattle.a429_replay.specs.Opened.{IsOpened, IsOpenedFrom}
 use Rattle.a429_replay.proofs.station.ReplayStation.open.Goals as goal
 
-pub returns-clause-opened : goal.returns-clause-opened
-returns-clause-opened c =
+pub returns : goal.returns
+returns c =
     let table = c.args.table.now in
     let q = c.in_ok-proposal.proposal in
     matched_both c.of.result (IsOpened q) (IsOpenedFrom table) (λ (e : CommandRefusal). e ≡ Memory) (OrMemory (IsTableRefusal table))

@@ -1,0 +1,56 @@
+//! The command `judge`: the status says whether something was found.
+ghost use Rattle.std.specs.Prelude.{◌≡◌};
+ghost use Rattle.a429_console.specs.Readings.{HasRead};
+ghost use Rattle.a429_console.specs.Requests.{asked_of};
+ghost use Rattle.a429_recordings.specs.JudgeReplies.{names_of};
+ghost use Rattle.a429_cli.specs.JudgeAnswers.{IsJudgement, IsUnjudged, box_names, judge_status};
+ghost use Rattle.a429_cli.specs.WholeReplies.{Replies};
+
+use crate::replies::reply::Reply;
+use a429_console::arguments::requests::Asked;
+use a429_console::files::FileReader;
+use a429_console::hints::Seen;
+use a429_console::refusals::CommandRefusal;
+use a429_recordings::judge::{JudgeForm, JudgeNames, judge_logs};
+use std::alloc::Global;
+
+/// 1 if something was found, otherwise 0.
+fn judge_status(found: bool) -> u8
+    ensures { result ≡ judge_status found }
+{
+    if found { 1 } else { 0 }
+}
+
+/// The names of the files that a request has.
+fn names_in<'a>(asked: &'a Asked) -> JudgeNames<'a>
+    ensures { names_of result ≡ box_names (asked_of asked.now) }
+{
+    JudgeNames {
+        table: asked.first,
+        heard: asked.second,
+        more_heard: &asked.inputs,
+        sent: asked.third,
+        more_sent: &asked.more,
+    }
+}
+
+/// Whether what a box sent is right, with status 0 if nothing was found, and otherwise 1. The files are refused first, then
+/// the table and its plan, the tolerance, the first faulty line, and logs that have no time in common.
+pub fn judge_reply<F: FileReader>(
+    alloc: Global,
+    files: &mut F,
+    asked: &Asked,
+    seen: &mut Seen,
+) -> Result<Reply, CommandRefusal>
+    ensures { HasRead F.answers (λ file. Replies (IsJudgement file (asked_of asked.now))
+        (IsUnjudged file (asked_of asked.now)) result) files.old files.new }
+{
+    let form = JudgeForm::of(&asked.options);
+    match judge_logs(alloc, files, names_in(asked), form, seen) {
+        Ok(judged) => Ok(Reply {
+            bytes: judged.text,
+            status: judge_status(judged.found),
+        }),
+        Err(refusal) => Err(refusal),
+    }
+}

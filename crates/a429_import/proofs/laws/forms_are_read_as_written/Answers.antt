@@ -1,0 +1,34 @@
+use Rattle.std.proofs.Common.{refl}
+use Rattle.a429_word.specs.Decimal.{decimal_number, is_numeral}
+use Rattle.a429_word.specs.Texts.{label_value}
+use Rattle.a429_import.specs.ImportFields.{hold_in, label_in, millis_in, number_in, rate_in, sdi_in}
+use Rattle.a429_import.specs.ImportForms.{heading_among}
+use Rattle.a429_import.specs.ImportRows.{column_field, is_column_in_millis, is_named, numbers_of}
+use Rattle.a429_import.proofs.laws.forms_are_read_as_written.Goals as goal
+
+pub returns-clause-fields : goal.returns-clause-fields
+unfolding rate_in number_in decimal_number is_numeral label_in label_value sdi_in
+returns-clause-fields c = record {
+  high = refl;
+  low = refl;
+  number = refl;
+  lost_zeros = refl;
+  kept_zeros = refl;
+  octal = refl;
+  binary = refl;
+  digit = refl;
+  nothing = refl;
+  word = refl;
+}
+
+pub returns-clause-millis : goal.returns-clause-millis
+unfolding millis_in decimal_number is_numeral
+returns-clause-millis c = record { whole = refl; point = refl; no_comma = refl; comma = refl; zeros = refl; too_fine = refl; no_digit = refl }
+
+pub returns-clause-headings : goal.returns-clause-headings
+unfolding is_named heading_among
+returns-clause-headings c = record { any_case = refl; millis = refl; unit = refl; other = refl; below = refl; none = refl }
+
+pub returns-clause-alone : goal.returns-clause-alone
+unfolding numbers_of column_field is_column_in_millis is_named rate_in number_in decimal_number is_numeral label_in label_value sdi_in hold_in
+returns-clause-alone c = record { output = refl; alone = refl; rated = refl; least = refl; no_rate = refl }

@@ -1,0 +1,58 @@
+-- What some fields and headings state, as programs write them (profile: import).
+use Rattle.std.specs.Prelude.{◌≡◌, ℕ, codes, true, false, List, [], ◌∷◌, None, Some, Ok, Err}
+use Rattle.a429_import.specs.declared.fault.ImportColumn.TheVariants.{MaxUs, MinUs, Rate}
+use Rattle.a429_import.specs.declared.rows.RowNumbers.{RowNumbers}
+use Rattle.a429_import.specs.ImportFields.{label_in, millis_in, rate_in, sdi_in}
+use Rattle.a429_import.specs.ImportForms.{heading_of}
+use Rattle.a429_import.specs.ImportRows.{is_in_millis, is_named, numbers_of}
+
+-- bit rates, labels and SDIs
+pub record ReadsFields : Type 0 where
+  pub high : rate_in (codes "HS") ≡ Some 100000
+  pub low : rate_in (codes "Low") ≡ Some 12500
+  pub number : rate_in (codes "12500") ≡ Some 12500
+  pub lost_zeros : label_in (codes "3") ≡ Some 3
+  pub kept_zeros : label_in (codes "=\"003\"") ≡ Some 3
+  pub octal : label_in (codes "203") ≡ Some 131
+  pub binary : sdi_in (codes "10") ≡ Some (Some 2)
+  pub digit : sdi_in (codes "2") ≡ Some (Some 2)
+  pub nothing : sdi_in (codes "") ≡ Some None
+  pub word : sdi_in (codes "All") ≡ Some None
+
+-- milliseconds between commas (44), semicolons (59) and tabs (9), in microseconds
+pub record ReadsMillis : Type 0 where
+  pub whole : millis_in 44 (codes "20") ≡ Some 20000
+  pub point : millis_in 44 (codes "31.25") ≡ Some 31250
+  pub no_comma : millis_in 44 (codes "31,25") ≡ None
+  pub comma : millis_in 59 (codes "31,25") ≡ Some 31250
+  pub zeros : millis_in 9 (codes "0.0050") ≡ Some 5
+  pub too_fine : millis_in 9 (codes "0.0005") ≡ None
+  pub no_digit : millis_in 44 (codes "31.") ≡ None
+
+-- names of columns, and a heading below a title
+pub record ReadsHeadings : Type 0 where
+  pub any_case : is_named MinUs (codes "Min US") ≡ true
+  pub millis : is_named MaxUs (codes "MAX_MS") ≡ true
+  pub unit : is_in_millis MaxUs (codes "MAX_MS") ≡ true
+  pub other : is_named MinUs (codes "max us") ≡ false
+  pub below : heading_of (codes "Outputs, of a box\r\n\r\n\"Group\";Rate") ≡ Some (59, codes "\"Group\";Rate")
+  pub none : heading_of (codes "group\nrate") ≡ None
+
+-- the names of the columns that a heading needs
+abbrev pub needed_columns : List (List ℕ)
+needed_columns = codes "group" ∷ codes "rate" ∷ codes "source" ∷ codes "receiver" ∷ codes "label" ∷ codes "sdi" ∷ codes "min_us" ∷ codes "max_us" ∷ []
+
+-- a row of these columns, about the source `alt` with label 203 of `adc-1`
+abbrev pub row_of_alt : List ℕ → List ℕ → List ℕ → List ℕ → List (List ℕ)
+row_of_alt group rate least most = group ∷ rate ∷ codes "alt" ∷ codes "adc-1" ∷ codes "203" ∷ codes "1" ∷ least ∷ most ∷ []
+
+abbrev pub numbers_of_alt : ℕ → ℕ → ℕ → RowNumbers
+numbers_of_alt rate least most = record { rate = rate; label = 131; sdi = Some 1; min_us = least; max_us = most; hold = None }
+
+-- a row with a group, and rows without one
+pub record ReadsAlone : Type 0 where
+  pub output : numbers_of 44 needed_columns (row_of_alt (codes "main") (codes "HS") (codes "20000") (codes "40000")) ≡ Ok (numbers_of_alt 100000 20000 40000)
+  pub alone : numbers_of 44 needed_columns (row_of_alt [] [] [] []) ≡ Ok (numbers_of_alt 0 0 0)
+  pub rated : numbers_of 44 needed_columns (row_of_alt [] (codes "HS") [] []) ≡ Err Rate
+  pub least : numbers_of 44 needed_columns (row_of_alt [] [] (codes "0") []) ≡ Err MinUs
+  pub no_rate : numbers_of 44 needed_columns (row_of_alt (codes "main") [] [] []) ≡ Err Rate

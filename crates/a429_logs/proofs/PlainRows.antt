@@ -1,0 +1,82 @@
+-- Rows that are a time in microseconds, a name and a word between single blanks.
+use Rattle.std.proofs.Common.{◌≡◌, ◌∙◌, ◌+◌, ◌<◌, ◌∷◌, [], ℕ, true, false, List, length, refl, ap, arith, append-nil}
+use Rattle.std.specs.Prelude.{◌&&◌, Some, None, Ok, nat_le, nat_lt, position}
+use Rattle.std.specs.List.{list_all, position_or_len}
+use Rattle.std.specs.Char.{is_ascii_digit}
+use Rattle.std.specs.Str.Parse.{digits_value}
+use Rattle.std.proofs.lemmas.Bool.{and_parts, ltb-true}
+use Rattle.std.proofs.lemmas.Bool.Decides.{nat_tests}
+use Rattle.std.proofs.lemmas.Option.{cond_some}
+use Rattle.a429_word.specs.Hexadecimal.{raw_word}
+use Rattle.a429_logs.specs.LogColumns.{plain_places}
+use Rattle.a429_logs.specs.LogFields.{field_in, fields_of, parts_of}
+use Rattle.a429_logs.specs.LogRows.{decimal_digits, row_of, whole_word}
+use Rattle.a429_logs.specs.LogTimes.{is_point, micros, time_by, time_of, whole_time}
+use Rattle.a429_logs.specs.declared.fields.Mark.TheVariants.{Blank}
+use Rattle.a429_logs.specs.declared.times.TimeUnit.TheVariants.{Microseconds}
+
+-- ---- fields
+
+filled : (x : List ℕ) → 0 < length x → field_in Blank x ≡ Some x
+filled [] some = absurd (omega (arith, some))
+filled (b ∷ bs) some = refl
+
+three_fields : (line t n w : List ℕ) → parts_of Blank line ≡ t ∷ n ∷ w ∷ [] → 0 < length t → 0 < length n → 0 < length w → fields_of Blank line ≡ t ∷ n ∷ w ∷ []
+unfolding fields_of
+three_fields line t n w parts time name word = rw (parts, filled t time, filled n name, filled w word) refl
+
+-- ---- times
+
+no_point : (x : ℕ) → is_ascii_digit x ≡ true → is_point Blank x ≡ false
+no_point x digit = grind (arith, nat_tests)
+
+at_end : (t : List ℕ) → list_all is_ascii_digit t ≡ true → position_or_len (is_point Blank) t ≡ length t
+at_end [] all = refl
+at_end (x ∷ xs) all =
+    let both = and_parts (is_ascii_digit x) (list_all is_ascii_digit xs) all in
+    rw (no_point x both.0) (let later = at_end xs both.1 in omega (arith, later))
+
+digits_only : (t : List ℕ) → list_all is_ascii_digit t ≡ true → position (is_point Blank) t ≡ None
+digits_only t all =
+    let end = at_end t all in
+    let none : nat_lt (position_or_len (is_point Blank) t) (length t) ≡ false = grind (arith, nat_tests, end) in
+    rw none refl
+
+record IsNumber (t : List ℕ) (time : ℕ) : Type 0 where
+  pub some : 0 < length t
+  pub few : nat_le (length t) 18 ≡ true
+  pub all : list_all is_ascii_digit t ≡ true
+  pub value : digits_value 10 t ≡ time
+
+number : (t : List ℕ) (time : ℕ) → decimal_digits t ≡ Some time → IsNumber t time
+number t time is =
+    let both = cond_some ((nat_lt 0 (length t) && nat_le (length t) 18) && list_all is_ascii_digit t) (digits_value 10 t) time is in
+    let parts = and_parts (nat_lt 0 (length t) && nat_le (length t) 18) (list_all is_ascii_digit t) both.0 in
+    let sizes = and_parts (nat_lt 0 (length t)) (nat_le (length t) 18) parts.0 in
+    record { some = ltb-true 0 (length t) sizes.0; few = sizes.1; all = parts.1; value = both.1 }
+
+whole_plain : (t : List ℕ) (time : ℕ) → IsNumber t time → whole_time Microseconds t ≡ Some time
+unfolding micros
+whole_plain t time N =
+    let some : nat_lt 0 (length t) ≡ true = grind (arith, nat_tests, N.some) in
+    let few : nat_le (length t + 0) 18 ≡ true = grind (arith, nat_tests, N.few) in
+    rw (some, few, N.all) (ap (λ (ds : List ℕ). Some (digits_value 10 ds)) (append-nil t) ∙ ap (λ (k : ℕ). Some k) N.value)
+
+plain_time : (t : List ℕ) (time : ℕ) → IsNumber t time → time_of Microseconds Blank t ≡ Some time
+unfolding time_of
+plain_time t time N = ap (time_by Microseconds t) (digits_only t N.all) ∙ whole_plain t time N
+
+-- ---- rows
+
+some_word : (w : List ℕ) (raw : ℕ) → whole_word w ≡ Some raw → 0 < length w
+unfolding whole_word raw_word
+some_word [] raw is = absurd (cc is)
+some_word (b ∷ bs) raw is = omega arith
+
+pub plain_row : (line t n w : List ℕ) (time raw : ℕ) → parts_of Blank line ≡ t ∷ n ∷ w ∷ [] → decimal_digits t ≡ Some time → 0 < length n → whole_word w ≡ Some raw
+    → row_of Microseconds Blank plain_places (fields_of Blank line) ≡ Ok (record { time = time; name = n; raw = raw })
+unfolding row_of
+plain_row line t n w time raw parts digits name word =
+    let N = number t time digits in
+    let fields = three_fields line t n w parts N.some name (some_word w raw word) in
+    rw (fields, plain_time t time N, word) refl

@@ -1,0 +1,39 @@
+-- What is judged, from the bytes of files up to their names.
+use Rattle.std.proofs.Common.{◌≡◌, ℕ, List, inl, inr}
+use Rattle.std.specs.Prelude.{Err, Ok, Option, Result, false}
+use Rattle.a429_logs.specs.declared.reading.Reading.{Reading}
+use Rattle.a429_slots.specs.Proposed.{Proposed}
+use Rattle.a429_console.specs.Tables.{IsProposedBy}
+use Rattle.a429_console.specs.declared.refusals.CommandRefusal.{CommandRefusal}
+use Rattle.a429_console.specs.declared.refusals.CommandRefusal.TheVariants as refused
+use Rattle.a429_console.proofs.Refused.{or_memory_weaker}
+use Rattle.a429_judge.specs.Recordings.{Recording}
+use Rattle.a429_recordings.specs.BoxLogs.{IsNoting, overlap}
+use Rattle.a429_recordings.specs.JudgeReplies.{AreBoxFiles, BoxFiles, IsJudgeAnswer, IsJudging, IsJudgingOf, IsNoRecording, IsPrinting, IsRecorded, IsUnjudged, IsUnjudgedBy, IsUnjudgedOf, heard_words, sent_reading, sent_words}
+use Rattle.a429_recordings.specs.JudgedPlans.{is_any_wide}
+use Rattle.a429_recordings.specs.declared.judge.JudgeForm.{JudgeForm}
+use Rattle.a429_recordings.specs.declared.judge.sheets.Judged.{Judged}
+use Rattle.a429_recordings.specs.declared.judge.words.BoxWord.{BoxWord}
+
+-- logs with these words
+pub recorded : (q : Proposed) (i : BoxFiles (List ℕ)) (reading : Reading) (heard sent : List BoxWord) (result : Result Recording CommandRefusal) → heard_words q reading i.heard ≡ Ok heard
+    → sent_words q (sent_reading reading i.heard) i.sent ≡ Ok sent → IsNoting q.station heard sent result → IsRecorded q i reading result
+recorded q i reading heard sent (Ok r) h s is = record { heard = heard; sent = sent; heard_are = h; sent_are = s; common = is.0; recorded = is.1 }
+recorded q i reading heard sent (Err e) h s bad =
+    or_memory_weaker (λ (refusal : CommandRefusal). (overlap heard sent ≡ false) × (refusal ≡ refused.Apart)) (IsNoRecording q i reading) e (λ one. inr (inr (heard, sent, h, s, one.0, one.1))) bad
+
+-- the tolerance is not too great
+pub printed : (q : Proposed) (i : BoxFiles (List ℕ)) (f : JudgeForm) (result : Result Judged CommandRefusal) → is_any_wide q f.tolerance ≡ false → IsPrinting q i f result → IsJudgingOf q i f result
+printed q i f (Ok j) narrow is = (narrow, is)
+printed q i f (Err e) narrow bad = or_memory_weaker (IsNoRecording q i f.reading) (IsUnjudgedOf q i f) e (λ one. inr (narrow, one)) bad
+
+-- the bytes of the table have this plan
+pub judged_of : (q : Proposed) (i : BoxFiles (List ℕ)) (f : JudgeForm) (result : Result Judged CommandRefusal) → IsProposedBy i.table q → IsJudgingOf q i f result → IsJudging i f result
+judged_of q i f (Ok j) proposed is = (q, proposed, is)
+judged_of q i f (Err e) proposed bad = or_memory_weaker (IsUnjudgedOf q i f) (IsUnjudged i f) e (λ one. inr (q, proposed, one)) bad
+
+-- the files have these bytes
+pub judged_by : (file : List ℕ → Option (List ℕ)) (names i : BoxFiles (List ℕ)) (f : JudgeForm) (result : Result Judged CommandRefusal) → AreBoxFiles file names i → IsJudging i f result
+    → IsJudgeAnswer file names f result
+judged_by file names i f (Ok j) are is = (i, are, is)
+judged_by file names i f (Err e) are bad = or_memory_weaker (IsUnjudged i f) (IsUnjudgedBy file names f) e (λ one. inr (i, are, one)) bad

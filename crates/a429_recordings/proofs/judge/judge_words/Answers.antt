@@ -1,0 +1,21 @@
+use Rattle.std.proofs.Common.{◌∙◌, ap}
+use Rattle.std.specs.Prelude.{Err}
+use Rattle.std.proofs.lemmas.Result.{err_from_is_err_and}
+use Rattle.a429_console.specs.RefusalText.{OrMemory}
+use Rattle.a429_console.specs.declared.refusals.CommandRefusal.TheVariants as refused
+use Rattle.a429_console.proofs.Refused.{failed}
+use Rattle.a429_recordings.specs.JudgeReplies.{IsNoRecording, files_of}
+use Rattle.a429_recordings.proofs.judge.judge_words.Goals as goal
+
+pub returns-in_err-judge : goal.returns-in_err-judge
+returns-in_err-judge c =
+    let p = err_from_is_err_and c.from_residual-in_err-judge.result c.from_residual-in_err-judge.ensures.1 in
+    failed c.from_residual-in_err-judge.result _ (OrMemory (IsNoRecording c.args.proposal.now (files_of c.args.input.now) c.args.form.reading)) c.in_err-judge.field-0.0 (p.1 ∙ ap Err p.2) c.in_err-judge.ensures
+
+pub returns : goal.returns
+returns c = record {
+  recording = c.in_ok-judge.judge;
+  recorded = c.in_ok-judge.ensures;
+  text = c.in_ok-judge_sheet.ensures.0;
+  finds = c.in_ok-judge_sheet.ensures.1;
+}

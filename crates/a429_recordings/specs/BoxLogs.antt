@@ -1,0 +1,128 @@
+-- The logs of a box: what came in, and what it sent (profile: log of what was sent).
+use Rattle.std.specs.Prelude.{◌≡◌, ◌≤◌, ◌∷◌, [], ⊤, true, MatchResult, ◌==◌, ◌&&◌, ◌+◌, ℕ, List, Bool, length, false, Option, Some, None, Result, Ok, Err, drop, fold, if◌then◌else◌, nat_le, nat_lt, option_and_then, option_map, position, slice_get, take}
+use Rattle.std.specs.Option.{option_map_or}
+use Rattle.a429_word.specs.Decimal.{decimal_number}
+use Rattle.a429_logs.specs.LogRows.{Stated}
+use Rattle.a429_logs.specs.Logs.{reading_after}
+use Rattle.a429_logs.specs.declared.reading.Reading.{Reading}
+use Rattle.a429_equipment.specs.Agreement.{last_of}
+use Rattle.a429_equipment.specs.Arrivals.{sorted}
+use Rattle.a429_equipment.specs.TableRecord.{TableRecord}
+use Rattle.a429_equipment.specs.declared.arrivals.ArrivalRefusal.{ArrivalRefusal}
+use Rattle.a429_slots.specs.Tables.{PlanTable, buses_of, groups_of}
+use Rattle.a429_console.specs.Names.{Naming, number_named}
+use Rattle.a429_judge.specs.Recordings.{Recording, no_words, with_heard, with_sent}
+use Rattle.a429_judge.specs.declared.duties.Sent.{Sent}
+use Rattle.a429_judge.specs.declared.facts.Mark.{Mark}
+use Rattle.a429_console.specs.RefusalText.{OrMemory}
+use Rattle.a429_console.specs.declared.refusals.CommandRefusal.{CommandRefusal}
+use Rattle.a429_console.specs.declared.refusals.CommandRefusal.TheVariants as refused
+use Rattle.a429_recordings.specs.LogItems.{IsItemFault, items_of}
+use Rattle.a429_recordings.specs.declared.judge.words.BoxLog.{BoxLog}
+use Rattle.a429_recordings.specs.declared.judge.words.BoxLog.TheVariants as log
+use Rattle.a429_recordings.specs.declared.judge.words.BoxWord.{BoxWord}
+use Rattle.a429_recordings.specs.declared.judge.words.BoxWords.{BoxWords}
+use Rattle.a429_recordings.specs.declared.judge.words.Place.{Place}
+
+-- ---- the places of words
+
+-- how many buses a group has; 0 if there is no such group
+abbrev pub buses_at : PlanTable → ℕ → ℕ
+buses_at p g = option_map_or buses_of (slice_get (groups_of p) g) 0
+
+-- a bus of a group, by its number in decimal digits
+abbrev pub bus_named : PlanTable → ℕ → List ℕ → Option ℕ
+bus_named p g text = option_and_then (λ bus. if nat_lt bus (buses_at p g) then Some bus else None) (decimal_number text)
+
+-- at this number, on no bus that is known
+abbrev pub at_number : ℕ → Place
+at_number n = record { number = n; bus = None }
+
+-- a bus of a group, by the names of both
+abbrev pub bus_place : PlanTable → Naming → List ℕ → List ℕ → Option Place
+bus_place p names group bus =
+    option_and_then (λ g. option_map (λ b. record { number = g; bus = Some b }) (bus_named p g bus)) (number_named names.groups group)
+
+-- the place of a word that was sent, by its name; the first full stop of that, if there is one, is here
+abbrev pub place_by : PlanTable → Naming → List ℕ → Option ℕ → Option Place
+place_by p names name None = option_map at_number (number_named names.groups name)
+place_by p names name (Some at) = bus_place p names (take at name) (drop (at + 1) name)
+
+-- the place of a word that was sent, by `GROUP` or `GROUP.BUS`
+unfoldable pub sent_place : PlanTable → Naming → List ℕ → Option Place
+sent_place p names name = place_by p names name (position (λ c. c == 46) name)
+
+-- the place of a word, by the name that a log has for it
+abbrev pub place_named : PlanTable → Naming → BoxLog → List ℕ → Option Place
+place_named p names log.Heard name = option_map at_number (number_named names.receivers name)
+place_named p names log.Sent name = sent_place p names name
+
+-- a word of a log, if there is a place of its name; its time is below 10^14 microseconds
+unfoldable pub box_word : PlanTable → Naming → BoxLog → Stated → Option BoxWord
+box_word p names l w =
+    if nat_lt w.time 100000000000000 then option_map (λ place. record { time = w.time; place = place; raw = w.raw }) (place_named p names l w.name)
+    else None
+
+-- ---- how logs are read
+
+-- how the log after some logs is read
+abbrev pub reading_behind : Reading → List (List ℕ) → Reading
+reading_behind reading texts = fold reading_after reading texts
+
+-- how the first log of what was sent is read, after those of what came in: times are counted from the same one, and begin again
+abbrev pub restarted : Reading → Reading
+restarted reading = record { unit = reading.unit; shape = None; clock = record { base = reading.clock.base; last = 0 } }
+
+-- the first word of a log comes no later than the last of another
+abbrev pub begins_by : List BoxWord → List BoxWord → Bool
+begins_by words other = option_map_or (λ a. option_map_or (λ b. nat_le a.time b.time) (last_of other) false) (slice_get words 0) false
+
+-- two logs have a time in common
+abbrev pub overlap : List BoxWord → List BoxWord → Bool
+overlap words other = begins_by words other && begins_by other words
+
+-- the words of logs and how the next log is read, or the first faulty line
+abbrev pub IsLogsReading : (Stated → Option BoxWord) → Reading → List (List ℕ) → Result BoxWords CommandRefusal → Type 0
+IsLogsReading item reading texts result =
+    MatchResult result (λ read. (items_of item reading texts ≡ Ok read.words.items) × (read.next ≡ reading_behind reading texts)) (OrMemory (IsItemFault item reading texts))
+
+-- no word comes before the one above it, nor before this time
+abbrev pub AreFrom : ℕ → List BoxWord → Type 0
+AreFrom last [] = ⊤
+AreFrom last (w ∷ words) = (last ≤ w.time) × AreFrom w.time words
+
+abbrev pub AreOrdered : List BoxWord → Type 0
+AreOrdered words = AreFrom 0 words
+
+-- ---- the words as they are judged
+
+abbrev pub source_in : Result ℕ ArrivalRefusal → Option ℕ
+source_in (Ok source) = Some source
+source_in (Err refusal) = None
+
+-- the source that accepts a word which came in, as the station does
+abbrev pub accepting : TableRecord → BoxWord → Option ℕ
+accepting t w = if nat_lt w.place.number (length t.receivers) then source_in (sorted t w.place.number w.raw) else None
+
+abbrev pub mark_of : BoxWord → Mark
+mark_of w = record { time = w.time; raw = w.raw }
+
+abbrev pub sent_of : BoxWord → Sent
+sent_of w = record { group = w.place.number; bus = w.place.bus; mark = mark_of w }
+
+-- one more word that came in, and one more that was sent
+abbrev pub hears : TableRecord → Recording → BoxWord → Recording
+hears t r w = with_heard (accepting t w) (mark_of w) r
+
+abbrev pub sends : Recording → BoxWord → Recording
+sends r w = with_sent (sent_of w) r
+
+-- the words of both logs
+abbrev pub recording_of : TableRecord → List BoxWord → List BoxWord → Recording
+recording_of t heard sent = fold sends (fold (hears t) no_words heard) sent
+
+-- the logs have a time in common, and this is the recording of their words; or they have none
+abbrev pub IsNoting : TableRecord → List BoxWord → List BoxWord → Result Recording CommandRefusal → Type 0
+IsNoting t heard sent result =
+    MatchResult result (λ r. (overlap heard sent ≡ true) × (r ≡ recording_of t heard sent))
+    (OrMemory (λ refusal. (overlap heard sent ≡ false) × (refusal ≡ refused.Apart)))

@@ -1,0 +1,173 @@
+-- The command `judge`: what it prints, and why it prints nothing.
+use Rattle.std.specs.Prelude.{◌≡◌, ◌==◌, ◌∷◌, [], ◌⊎◌, ◌++◌, ℕ, Bool, true, false, not, List, Option, Some, None, Ok, Err, Result, MatchResult, length}
+use Rattle.a429_text.specs.Sheets.{sheet_text}
+use Rattle.a429_text.specs.declared.sheets.SheetForm.{SheetForm}
+use Rattle.a429_logs.specs.declared.reading.Reading.{Reading}
+use Rattle.a429_slots.specs.Proposed.{Proposed}
+use Rattle.a429_console.specs.FileReadings.{AreReadLogs, IsFileRefusal, IsFirstUnreadLog, readable}
+use Rattle.a429_console.specs.Files.{bytes_of, texts_of}
+use Rattle.a429_console.specs.Names.{naming_of}
+use Rattle.a429_console.specs.RefusalText.{OrMemory}
+use Rattle.a429_console.specs.Requests.{OptionBytes}
+use Rattle.a429_console.specs.Tables.{IsProposedBy, IsTableRefusal}
+use Rattle.a429_console.specs.declared.refusals.CommandRefusal.{CommandRefusal}
+use Rattle.a429_console.specs.declared.refusals.CommandRefusal.TheVariants as refused
+use Rattle.a429_judge.specs.Recordings.{Recording}
+use Rattle.a429_recordings.specs.BoxLogs.{box_word, overlap, reading_behind, recording_of, restarted}
+use Rattle.a429_recordings.specs.JudgedPlans.{event_columns, is_any_wide, is_found, judge_columns, judge_events, judged_rows}
+use Rattle.a429_recordings.specs.LogItems.{IsItemFault, items_of}
+use Rattle.a429_recordings.specs.SimulationReplies.{reading_for}
+use Rattle.a429_recordings.specs.declared.judge.JudgeForm.{JudgeForm}
+use Rattle.a429_recordings.specs.declared.judge.JudgeInput.{JudgeInput}
+use Rattle.a429_recordings.specs.declared.judge.JudgeNames.{JudgeNames}
+use Rattle.a429_recordings.specs.declared.judge.duties.Judging.{Judging}
+use Rattle.a429_recordings.specs.declared.judge.sheets.Judged.{Judged}
+use Rattle.a429_recordings.specs.declared.judge.words.BoxLog.TheVariants as log
+use Rattle.a429_recordings.specs.declared.judge.words.BoxWord.{BoxWord}
+
+-- what the options ask for
+abbrev pub judge_form : OptionBytes → JudgeForm
+judge_form o = record { tolerance = o.tolerance; events = o.events; form = o.form; reading = reading_for o }
+
+-- ---- files
+
+-- the names of the files: a table, the logs of what came in, and those of what was sent; or their bytes
+pub record BoxFiles (A : Type 0) : Type 0 where
+  pub table : A
+  pub heard : List A
+  pub sent : List A
+
+-- these are the bytes of the files of these names
+abbrev pub AreBoxFiles : (List ℕ → Option (List ℕ)) → BoxFiles (List ℕ) → BoxFiles (List ℕ) → Type 0
+AreBoxFiles file names i =
+    (readable (file names.table) ≡ Some i.table) × AreReadLogs file names.heard i.heard × AreReadLogs file names.sent i.sent
+
+-- of these files the first that cannot be read
+abbrev pub IsUnreadBoxFile : (List ℕ → Option (List ℕ)) → BoxFiles (List ℕ) → CommandRefusal → Type 0
+IsUnreadBoxFile file names refusal =
+    IsFileRefusal file names.table refusal
+    ⊎ (((table : List ℕ) × (readable (file names.table) ≡ Some table) × IsFirstUnreadLog file names.heard refusal)
+    ⊎ ((table : List ℕ) × (heard : List (List ℕ)) × (readable (file names.table) ≡ Some table) × AreReadLogs file names.heard heard
+    × IsFirstUnreadLog file names.sent refusal))
+
+-- ---- logs
+
+-- the words that came in, or the first faulty line
+abbrev pub heard_words : Proposed → Reading → List (List ℕ) → Result (List BoxWord) ℕ
+heard_words q reading texts = items_of (box_word q.plan (naming_of q.station) log.Heard) reading texts
+
+-- how the logs of what was sent are read, after these
+abbrev pub sent_reading : Reading → List (List ℕ) → Reading
+sent_reading reading heard = restarted (reading_behind reading heard)
+
+-- the words that were sent
+abbrev pub sent_words : Proposed → Reading → List (List ℕ) → Result (List BoxWord) ℕ
+sent_words q reading texts = items_of (box_word q.plan (naming_of q.station) log.Sent) reading texts
+
+-- the logs have these words, and a time in common; this is the recording of them
+pub record IsRecording (q : Proposed) (i : BoxFiles (List ℕ)) (reading : Reading) (r : Recording) : Type 0 where
+  pub heard : List BoxWord
+  pub sent : List BoxWord
+  pub heard_are : heard_words q reading i.heard ≡ Ok heard
+  pub sent_are : sent_words q (sent_reading reading i.heard) i.sent ≡ Ok sent
+  pub common : overlap heard sent ≡ true
+  pub recorded : r ≡ recording_of q.station heard sent
+
+-- a line of what came in is faulty
+abbrev pub IsHeardFault : Proposed → BoxFiles (List ℕ) → Reading → CommandRefusal → Type 0
+IsHeardFault q i reading refusal = IsItemFault (box_word q.plan (naming_of q.station) log.Heard) reading i.heard refusal
+
+-- none is, but a line of what was sent
+abbrev pub IsSentFault : Proposed → BoxFiles (List ℕ) → Reading → CommandRefusal → Type 0
+IsSentFault q i reading refusal =
+    (heard : List BoxWord) × (heard_words q reading i.heard ≡ Ok heard)
+    × IsItemFault (box_word q.plan (naming_of q.station) log.Sent) (sent_reading reading i.heard) i.sent refusal
+
+-- no line is faulty, but the logs have no time in common
+abbrev pub AreApart : Proposed → BoxFiles (List ℕ) → Reading → CommandRefusal → Type 0
+AreApart q i reading refusal =
+    (heard sent : List BoxWord) × (heard_words q reading i.heard ≡ Ok heard) × (sent_words q (sent_reading reading i.heard) i.sent ≡ Ok sent)
+    × (overlap heard sent ≡ false) × (refusal ≡ refused.Apart)
+
+abbrev pub IsNoRecording : Proposed → BoxFiles (List ℕ) → Reading → CommandRefusal → Type 0
+IsNoRecording q i reading refusal = IsHeardFault q i reading refusal ⊎ (IsSentFault q i reading refusal ⊎ AreApart q i reading refusal)
+
+-- what reading logs gives
+abbrev pub IsRecorded : Proposed → BoxFiles (List ℕ) → Reading → Result Recording CommandRefusal → Type 0
+IsRecorded q i reading result = MatchResult result (IsRecording q i reading) (OrMemory (IsNoRecording q i reading))
+
+-- ---- what is printed
+
+-- the sheet of a recording in a form, by whether there is a row for each finding
+abbrev pub judge_text : Bool → SheetForm → Proposed → Option ℕ → Recording → List ℕ
+judge_text false form q tolerance r = sheet_text form judge_columns (judged_rows q tolerance r)
+judge_text true form q tolerance r = sheet_text form event_columns (judge_events q tolerance r)
+
+-- whether something is found: an output is bad or a word foreign, or there is a finding
+abbrev pub judge_finds : Bool → Proposed → Option ℕ → Recording → Bool
+judge_finds false q tolerance r = is_found q tolerance r
+judge_finds true q tolerance r = not (length (judge_events q tolerance r) == 0)
+
+-- the logs are a recording, and this is printed of it
+pub record ArePrinted (q : Proposed) (i : BoxFiles (List ℕ)) (f : JudgeForm) (found : Bool) (bytes : List ℕ) : Type 0 where
+  pub recording : Recording
+  pub recorded : IsRecording q i f.reading recording
+  pub text : bytes ≡ judge_text f.events f.form q f.tolerance recording
+  pub finds : found ≡ judge_finds f.events q f.tolerance recording
+
+-- a plan is judged: the tolerance is not too great, and the logs are a recording
+abbrev pub IsJudgedOf : Proposed → BoxFiles (List ℕ) → JudgeForm → Bool → List ℕ → Type 0
+IsJudgedOf q i f found bytes = (is_any_wide q f.tolerance ≡ false) × ArePrinted q i f found bytes
+
+-- it is not: the tolerance is too great, or the logs are none
+abbrev pub IsUnjudgedOf : Proposed → BoxFiles (List ℕ) → JudgeForm → CommandRefusal → Type 0
+IsUnjudgedOf q i f refusal =
+    ((is_any_wide q f.tolerance ≡ true) × (refusal ≡ refused.Tolerance)) ⊎ ((is_any_wide q f.tolerance ≡ false) × IsNoRecording q i f.reading refusal)
+
+-- what `judge` prints of these bytes, and whether something is found
+abbrev pub IsJudged : BoxFiles (List ℕ) → JudgeForm → Bool → List ℕ → Type 0
+IsJudged i f found bytes = (q : Proposed) × IsProposedBy i.table q × IsJudgedOf q i f found bytes
+
+-- why it prints nothing: the table or its plan; or the tolerance or the logs
+abbrev pub IsUnjudged : BoxFiles (List ℕ) → JudgeForm → CommandRefusal → Type 0
+IsUnjudged i f refusal = IsTableRefusal i.table refusal ⊎ ((q : Proposed) × IsProposedBy i.table q × IsUnjudgedOf q i f refusal)
+
+-- what it prints of the files of these names, which are all read before any is looked at
+abbrev pub IsJudgedBy : (List ℕ → Option (List ℕ)) → BoxFiles (List ℕ) → JudgeForm → Bool → List ℕ → Type 0
+IsJudgedBy file names f found bytes = (i : BoxFiles (List ℕ)) × AreBoxFiles file names i × IsJudged i f found bytes
+
+abbrev pub IsUnjudgedBy : (List ℕ → Option (List ℕ)) → BoxFiles (List ℕ) → JudgeForm → CommandRefusal → Type 0
+IsUnjudgedBy file names f refusal = IsUnreadBoxFile file names refusal ⊎ ((i : BoxFiles (List ℕ)) × AreBoxFiles file names i × IsUnjudged i f refusal)
+
+-- ---- by the values of the program
+
+abbrev pub names_of : JudgeNames → BoxFiles (List ℕ)
+names_of n = record { table = n.table.now; heard = n.heard.now ∷ texts_of n.more_heard.now; sent = n.sent.now ∷ texts_of n.more_sent.now }
+
+abbrev pub files_of : JudgeInput → BoxFiles (List ℕ)
+files_of i = record { table = i.table.items; heard = bytes_of i.heard.items; sent = bytes_of i.sent.items }
+
+-- what reading the files gives
+abbrev pub IsBoxReading : (List ℕ → Option (List ℕ)) → BoxFiles (List ℕ) → Result JudgeInput CommandRefusal → Type 0
+IsBoxReading file names result = MatchResult result (λ i. AreBoxFiles file names (files_of i)) (OrMemory (IsUnreadBoxFile file names))
+
+-- the sheet of some words, and whether something is found
+abbrev pub IsJudgeSheet : Bool → Judging → SheetForm → Judged → Type 0
+IsJudgeSheet events j form result =
+    (result.text.items ≡ judge_text events form j.proposal.now j.tolerance j.judge.now) × (result.found ≡ judge_finds events j.proposal.now j.tolerance j.judge.now)
+
+-- what judging logs gives
+abbrev pub IsPrinting : Proposed → BoxFiles (List ℕ) → JudgeForm → Result Judged CommandRefusal → Type 0
+IsPrinting q i f result = MatchResult result (λ j. ArePrinted q i f j.found j.text.items) (OrMemory (IsNoRecording q i f.reading))
+
+-- what judging a plan gives
+abbrev pub IsJudgingOf : Proposed → BoxFiles (List ℕ) → JudgeForm → Result Judged CommandRefusal → Type 0
+IsJudgingOf q i f result = MatchResult result (λ j. IsJudgedOf q i f j.found j.text.items) (OrMemory (IsUnjudgedOf q i f))
+
+-- what judging their bytes gives
+abbrev pub IsJudging : BoxFiles (List ℕ) → JudgeForm → Result Judged CommandRefusal → Type 0
+IsJudging i f result = MatchResult result (λ j. IsJudged i f j.found j.text.items) (OrMemory (IsUnjudged i f))
+
+-- and what the call answers
+abbrev pub IsJudgeAnswer : (List ℕ → Option (List ℕ)) → BoxFiles (List ℕ) → JudgeForm → Result Judged CommandRefusal → Type 0
+IsJudgeAnswer file names f result = MatchResult result (λ j. IsJudgedBy file names f j.found j.text.items) (OrMemory (IsUnjudgedBy file names f))

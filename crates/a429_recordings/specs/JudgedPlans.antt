@@ -1,0 +1,172 @@
+-- The outputs of a plan as they are judged, and the rows of that.
+use Rattle.std.specs.Prelude.{◌==◌, ◌*◌, ◌^◌, ◌||◌, ◌++◌, ◌∷◌, [], ℕ, Bool, true, false, List, Option, Some, None, codes, flat_map, if◌then◌else◌, length, map, nat_lt, option_and_then, slice_get, unwrap_or}
+use Rattle.std.specs.List.{list_any, range_with_len}
+use Rattle.std.specs.Option.{option_map_or}
+use Rattle.a429_word.specs.Hexadecimal.{hex}
+use Rattle.a429_text.specs.Fields.{Absent, Field, Number, Text}
+use Rattle.a429_equipment.specs.TableRecord.{TableRecord, outputs_in}
+use Rattle.a429_equipment.specs.declared.rows.OutputRow.{OutputRow}
+use Rattle.a429_slots.specs.Proposed.{Proposed}
+use Rattle.a429_slots.specs.Tables.{groups_of, outputs_of, placed_at}
+use Rattle.a429_console.specs.Names.{group_name, output_name}
+use Rattle.a429_judge.specs.Judgements.{found_at, judgement_of, sent_by}
+use Rattle.a429_judge.specs.Recordings.{Recording, foreign_of}
+use Rattle.a429_judge.specs.Rows.{foreign_row, output_row}
+use Rattle.a429_judge.specs.Tolerance.{two_slots}
+use Rattle.a429_judge.specs.declared.duties.Duty.{Duty}
+use Rattle.a429_judge.specs.declared.facts.Mark.{Mark}
+use Rattle.a429_judge.specs.declared.findings.Finding.{Finding}
+use Rattle.a429_judge.specs.declared.findings.Kind.{Kind}
+use Rattle.a429_judge.specs.declared.findings.Kind.TheVariants as kind
+use Rattle.a429_judge.specs.declared.judgements.Judgement.{Judgement}
+use Rattle.a429_judge.specs.declared.judgements.Verdict.{Verdict}
+use Rattle.a429_judge.specs.declared.judgements.Verdict.TheVariants as verdict
+use Rattle.a429_recordings.specs.Timeline.{rate_of, table_of}
+
+-- ---- outputs
+
+-- the row of an output that there is not
+abbrev pub no_row : OutputRow
+no_row = record { source = 0; min_us = 0; max_us = 0; hold = None }
+
+abbrev pub row_of : TableRecord → ℕ → ℕ → OutputRow
+row_of t g o = unwrap_or (slice_get (outputs_in t g) o) no_row
+
+-- the label and the SDI of a source
+abbrev pub label_of : TableRecord → ℕ → ℕ
+label_of t source = option_map_or (λ row. row.label) (slice_get t.sources source) 0
+
+abbrev pub sdi_of : TableRecord → ℕ → Option ℕ
+sdi_of t source = option_and_then (λ row. row.sdi) (slice_get t.sources source)
+
+-- the tolerance that is given, otherwise two slots
+abbrev pub tolerance_of : Option ℕ → ℕ → ℕ
+tolerance_of None rate = two_slots rate
+tolerance_of (Some tolerance) rate = tolerance
+
+-- output o of group g: its interval and its hold are those of the table, its bus and its period those of the plan
+unfoldable pub duty_of : Proposed → Option ℕ → ℕ → ℕ → Duty
+duty_of q tolerance g o =
+    let row = row_of q.station g o in
+    let place = (placed_at (table_of q g) o).place in
+    record {
+      group = g;
+      source = row.source;
+      label = label_of q.station row.source;
+      sdi = sdi_of q.station row.source;
+      bus = place.bus;
+      facts = record {
+        rate = rate_of q g;
+        period = 2 ^ place.period;
+        least = row.min_us;
+        greatest = row.max_us;
+        hold = row.hold;
+        tolerance = tolerance_of tolerance (rate_of q g);
+      };
+    }
+
+-- the numbers of the outputs of a group, and of the groups
+abbrev pub outputs_at : Proposed → ℕ → List ℕ
+outputs_at q g = range_with_len 0 (length (outputs_of (table_of q g)))
+
+abbrev pub groups_at : Proposed → List ℕ
+groups_at q = range_with_len 0 (length (groups_of q.plan))
+
+-- the outputs of a group
+abbrev pub duties_of : Proposed → Option ℕ → ℕ → List Duty
+duties_of q tolerance g = map (duty_of q tolerance g) (outputs_at q g)
+
+-- the tolerance is more than half the period of an output
+abbrev pub is_wide : Duty → Bool
+is_wide d = nat_lt (36000000 * d.facts.period) (2 * (d.facts.tolerance * d.facts.rate))
+
+abbrev pub is_wide_in : Proposed → Option ℕ → ℕ → Bool
+is_wide_in q tolerance g = list_any is_wide (duties_of q tolerance g)
+
+-- and that of any output of the plan
+abbrev pub is_any_wide : Proposed → Option ℕ → Bool
+is_any_wide q tolerance = list_any (is_wide_in q tolerance) (groups_at q)
+
+-- ---- a row for each output
+
+abbrev pub judged : Proposed → Option ℕ → Recording → ℕ → ℕ → Judgement
+judged q tolerance r g o = judgement_of (duties_of q tolerance g) (duty_of q tolerance g o) r
+
+abbrev pub judged_row : Proposed → Option ℕ → Recording → ℕ → ℕ → List Field
+judged_row q tolerance r g o = output_row (group_name q.station g) (output_name q.station g o) (judged q tolerance r g o)
+
+-- how many words of a group are of none of its outputs
+abbrev pub foreign_in : Proposed → Option ℕ → Recording → ℕ → List Mark
+foreign_in q tolerance r g = foreign_of (duties_of q tolerance g) g r.sent
+
+-- those of a group, and then the row of its foreign words
+abbrev pub judged_group : Proposed → Option ℕ → Recording → ℕ → List (List Field)
+judged_group q tolerance r g =
+    map (judged_row q tolerance r g) (outputs_at q g) ++ foreign_row (group_name q.station g) (length (foreign_in q tolerance r g)) ∷ []
+
+abbrev pub judged_rows : Proposed → Option ℕ → Recording → List (List Field)
+judged_rows q tolerance r = flat_map (judged_group q tolerance r) (groups_at q)
+
+abbrev pub judge_columns : List (List ℕ)
+judge_columns =
+    codes "group" ∷ codes "source" ∷ codes "sent" ∷ codes "least_us" ∷ codes "greatest_us" ∷ codes "late_us" ∷ codes "wrong" ∷ codes "stale"
+    ∷ codes "soon" ∷ codes "late" ∷ codes "missed" ∷ codes "again" ∷ codes "verdict" ∷ []
+
+abbrev pub is_bad : Verdict → Bool
+is_bad verdict.Bad = true
+is_bad _ = false
+
+abbrev pub is_bad_at : Proposed → Option ℕ → Recording → ℕ → ℕ → Bool
+is_bad_at q tolerance r g o = is_bad (judged q tolerance r g o).verdict
+
+-- an output of a group is bad, or a word of the group is of none of its outputs
+abbrev pub is_found_in : Proposed → Option ℕ → Recording → ℕ → Bool
+is_found_in q tolerance r g = list_any (is_bad_at q tolerance r g) (outputs_at q g) || nat_lt 0 (length (foreign_in q tolerance r g))
+
+-- something is found
+abbrev pub is_found : Proposed → Option ℕ → Recording → Bool
+is_found q tolerance r = list_any (is_found_in q tolerance r) (groups_at q)
+
+-- ---- a row for each finding
+
+abbrev pub kind_text : Kind → List ℕ
+kind_text kind.Wrong = codes "wrong"
+kind_text kind.Stale = codes "stale"
+kind_text kind.Soon = codes "soon"
+kind_text kind.Late = codes "late"
+kind_text kind.Again = codes "again"
+kind_text kind.Missed = codes "missed"
+
+-- the row of a word, by the names of its group and source and that of the finding
+abbrev pub event_row : List ℕ → Field → List ℕ → Mark → List Field
+event_row group source finding m = Number m.time ∷ Text group ∷ source ∷ Text finding ∷ Text (hex m.raw) ∷ []
+
+abbrev pub finding_row : List ℕ → List ℕ → Finding → List Field
+finding_row group source x = event_row group (Text source) (kind_text x.kind) x.mark
+
+-- what is found at an output, unless it sent nothing
+abbrev pub found_if_sent : List Duty → Duty → Recording → List Finding
+found_if_sent duties d r = if length (sent_by d r) == 0 then [] else found_at duties d r
+
+abbrev pub output_events : Proposed → Option ℕ → Recording → ℕ → ℕ → List (List Field)
+output_events q tolerance r g o =
+    map (finding_row (group_name q.station g) (output_name q.station g o)) (found_if_sent (duties_of q tolerance g) (duty_of q tolerance g o) r)
+
+-- the rows of foreign words
+abbrev pub foreign_event : List ℕ → Mark → List Field
+foreign_event group m = event_row group Absent (codes "foreign") m
+
+abbrev pub foreign_rows : List ℕ → List Mark → List (List Field)
+foreign_rows group marks = map (foreign_event group) marks
+
+-- the findings at the outputs of a group in order, and then its foreign words
+abbrev pub group_events : Proposed → Option ℕ → Recording → ℕ → List (List Field)
+group_events q tolerance r g =
+    flat_map (output_events q tolerance r g) (outputs_at q g)
+    ++ foreign_rows (group_name q.station g) (foreign_in q tolerance r g)
+
+abbrev pub judge_events : Proposed → Option ℕ → Recording → List (List Field)
+judge_events q tolerance r = flat_map (group_events q tolerance r) (groups_at q)
+
+abbrev pub event_columns : List (List ℕ)
+event_columns = codes "time_us" ∷ codes "group" ∷ codes "source" ∷ codes "finding" ∷ codes "word" ∷ []

@@ -1,0 +1,253 @@
+//! The command `judge`.
+ghost use Rattle.std.specs.Prelude.{◌≡◌, IfOk};
+ghost use Rattle.a429_console.specs.Files.{bytes_of};
+ghost use Rattle.a429_console.specs.Names.{naming_of};
+ghost use Rattle.a429_console.specs.Readings.{HasRead};
+ghost use Rattle.a429_recordings.specs.BoxLogs.{AreOrdered, IsLogsReading, IsNoting, box_word, restarted};
+ghost use Rattle.a429_recordings.specs.JudgeReplies.{IsBoxReading, IsJudgeAnswer, IsJudging, IsJudgingOf, IsPrinting, IsRecorded, files_of, names_of};
+ghost use Rattle.a429_recordings.specs.declared.judge.words.BoxLog.TheVariants.{Sent};
+
+mod duties;
+mod events;
+mod noting;
+mod rows;
+mod sheets;
+mod words;
+
+use crate::judge::duties::{Judging, is_any_wide};
+use crate::judge::noting::{notes_of, overlap};
+pub use crate::judge::sheets::Judged;
+use crate::judge::sheets::judge_sheet;
+use crate::judge::words::{BoxLog, BoxWord, BoxWords, read_words};
+use crate::logs::reading_for;
+use a429_console::arguments::requests::Options;
+use a429_console::files::FileReader;
+use a429_console::files::reading::{read_file, read_logs};
+use a429_console::hints::Seen;
+use a429_console::refusals::CommandRefusal;
+use a429_console::refusals::tables::propose;
+use a429_equipment::Equipment;
+use a429_judge::Judge;
+use a429_logs::{Clock, Reading};
+use a429_replay::Names;
+use a429_slots::{OUTPUTS, Plan, Proposal};
+use a429_text::SheetForm;
+use std::alloc::Global;
+
+/// How words are judged, and what is printed of it.
+#[derive(Clone, Copy)]
+pub struct JudgeForm {
+    /// How far recorded times may be wrong, in microseconds. `None`: two slots of the group.
+    pub tolerance: Option<u32>,
+    /// There is a row for each finding, instead of one for each output.
+    pub events: bool,
+    pub form: SheetForm,
+    /// How the first line of the first log is read.
+    pub reading: Reading,
+}
+
+impl JudgeForm {
+    ghost use Rattle.std.specs.Prelude.{◌≡◌};
+    ghost use Rattle.a429_console.specs.Requests.{given_of};
+    ghost use Rattle.a429_recordings.specs.JudgeReplies.{judge_form};
+
+    /// The form that these options ask for.
+    pub fn of(options: &Options) -> JudgeForm
+        ensures { result ≡ judge_form (given_of options.now) }
+    {
+        JudgeForm {
+            tolerance: options.tolerance,
+            events: options.events,
+            form: options.form,
+            reading: reading_for(options),
+        }
+    }
+}
+
+/// The names of the files that are judged.
+#[derive(Clone, Copy)]
+pub struct JudgeNames<'a> {
+    pub table: &'a str,
+    /// The first log of what came in, and the others.
+    pub heard: &'a str,
+    pub more_heard: &'a [&'a str],
+    /// The first log of what was sent, and the others.
+    pub sent: &'a str,
+    pub more_sent: &'a [&'a str],
+}
+
+/// The bytes of those files.
+#[derive(Drop)]
+struct JudgeInput {
+    table: Vec<u8>,
+    heard: Vec<Vec<u8>>,
+    sent: Vec<Vec<u8>>,
+}
+
+/// Reads the files of these names.
+fn read_input<'a, F: FileReader>(
+    alloc: Global,
+    files: &mut F,
+    names: JudgeNames<'a>,
+    seen: &mut Seen,
+) -> Result<JudgeInput, CommandRefusal>
+    ensures { HasRead F.answers (λ file. IsBoxReading file (names_of names.entry) result) files.old files.new }
+{
+    let table = read_file(alloc, files, names.table, seen)?;
+    let heard = read_logs(alloc, files, names.heard, names.more_heard, seen)?;
+    let sent = read_logs(alloc, files, names.sent, names.more_sent, seen)?;
+    Ok(JudgeInput { table, heard, sent })
+}
+
+/// How the first line of the logs of what was sent is read, after those of what came in: on the same clock, from its
+/// beginning.
+fn restarted(reading: Reading) -> Reading
+    ensures { result ≡ restarted reading }
+{
+    Reading {
+        unit: reading.unit,
+        shape: None,
+        clock: Clock {
+            base: reading.clock.base,
+            last: 0,
+        },
+    }
+}
+
+/// Counts the log with the faulty line, if there is one, after this number of other logs.
+fn count_logs(before: usize, seen: &mut Seen) {
+    if let Some(log) = &mut seen.log {
+        log.number = log.number.saturating_add(before);
+    }
+}
+
+/// Reads the logs of what was sent. Error: the first faulty line.
+fn read_sent(
+    alloc: Global,
+    plan: &Plan<OUTPUTS>,
+    names: &Names,
+    reading: Reading,
+    input: &JudgeInput,
+    seen: &mut Seen,
+) -> Result<BoxWords, CommandRefusal>
+    ensures read { IsLogsReading (box_word plan.now names.now Sent) reading (bytes_of input.now.sent.items) result }
+    ensures ordered { IfOk result (λ read. AreOrdered read.words.items) }
+{
+    let sent = read_words(alloc, plan, names, BoxLog::Sent, reading, &input.sent, seen);
+    count_logs(input.heard.len(), seen);
+    sent
+}
+
+/// The words of both logs, noted. Error: the two have no time in common.
+fn note_words(
+    alloc: Global,
+    equipment: &Equipment,
+    heard: &[BoxWord],
+    sent: &[BoxWord],
+) -> Result<Judge, CommandRefusal>
+    requires heard { AreOrdered heard.now }
+    requires sent { AreOrdered sent.now }
+    ensures { IsNoting equipment.now heard.now sent.now result }
+{
+    if !overlap(heard, sent) {
+        return Err(CommandRefusal::Apart);
+    }
+    Ok(notes_of(alloc, equipment, heard, sent)?)
+}
+
+/// The words of the logs, noted. Errors: the first faulty line; the two logs have no time in common.
+fn read_notes(
+    alloc: Global,
+    proposal: &Proposal<OUTPUTS>,
+    names: &Names,
+    input: &JudgeInput,
+    reading: Reading,
+    seen: &mut Seen,
+) -> Result<Judge, CommandRefusal>
+    requires { names.now ≡ naming_of proposal.now.station }
+    ensures { IsRecorded proposal.now (files_of input.now) reading result }
+{
+    let tables = proposal.plan();
+    let heard = read_words(
+        alloc,
+        tables,
+        names,
+        BoxLog::Heard,
+        reading,
+        &input.heard,
+        seen,
+    )?;
+    let next = restarted(heard.next);
+    let sent = read_sent(alloc, tables, names, next, input, seen)?;
+    note_words(alloc, proposal.equipment(), &heard.words, &sent.words)
+}
+
+/// What is said of the words of the logs. Error: a log is refused.
+fn judge_words(
+    alloc: Global,
+    proposal: &Proposal<OUTPUTS>,
+    input: &JudgeInput,
+    form: JudgeForm,
+    seen: &mut Seen,
+) -> Result<Judged, CommandRefusal>
+    ensures { IsPrinting proposal.now (files_of input.now) form result }
+{
+    let names = Names::of(alloc, proposal.equipment())?;
+    let judge = read_notes(alloc, proposal, &names, input, form.reading, seen)?;
+    let judging = Judging {
+        proposal,
+        judge: &judge,
+        tolerance: form.tolerance,
+    };
+    Ok(judge_sheet(alloc, &judging, form.events, form.form)?)
+}
+
+/// What is said of a box with this plan. Errors: the tolerance is too great; a log is refused.
+fn judge_box(
+    alloc: Global,
+    proposal: &Proposal<OUTPUTS>,
+    input: &JudgeInput,
+    form: JudgeForm,
+    seen: &mut Seen,
+) -> Result<Judged, CommandRefusal>
+    ensures { IsJudgingOf proposal.now (files_of input.now) form result }
+{
+    let wide = is_any_wide(alloc, proposal, form.tolerance)?;
+    if wide {
+        return Err(CommandRefusal::Tolerance);
+    }
+    judge_words(alloc, proposal, input, form, seen)
+}
+
+/// What is said of a box, by the bytes of the files. The plan is kept for a hint. Errors: the table or its plan; those of
+/// `judge_box`.
+fn judge_input(
+    alloc: Global,
+    input: &JudgeInput,
+    form: JudgeForm,
+    seen: &mut Seen,
+) -> Result<Judged, CommandRefusal>
+    ensures { IsJudging (files_of input.now) form result }
+{
+    let proposal = propose(alloc, &input.table, &mut seen.table)?;
+    let judged = judge_box(alloc, &proposal, input, form, seen);
+    seen.proposal = Some(proposal);
+    judged
+}
+
+/// Whether what a box sent is right, as a sheet, by a log of what came in and one of what was sent. Each has further logs
+/// that are read after it. Errors, in this order: a file cannot be read; the table, or its plan; the tolerance is more
+/// than half the period of an output; the first faulty line of what came in, and then of what was sent; the two have no
+/// time in common.
+pub fn judge_logs<'a, F: FileReader>(
+    alloc: Global,
+    files: &mut F,
+    names: JudgeNames<'a>,
+    form: JudgeForm,
+    seen: &mut Seen,
+) -> Result<Judged, CommandRefusal>
+    ensures { HasRead F.answers (λ file. IsJudgeAnswer file (names_of names.entry) form result) files.old files.new }
+{
+    let input = read_input(alloc, files, names, seen)?;
+    judge_input(alloc, &input, form, seen)
+}

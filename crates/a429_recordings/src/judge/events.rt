@@ -1,0 +1,265 @@
+//! A row for each finding.
+ghost use Rattle.std.specs.Prelude.{◌≡◌, ◌<◌, ◌++◌, ◌∷◌, [], flat_map, length, map, string_bytes, IfOk, OnOk};
+ghost use Rattle.a429_word.specs.Hexadecimal.{hex};
+ghost use Rattle.a429_text.specs.Fields.{Text};
+ghost use Rattle.a429_text.specs.Sheets.{field_of};
+ghost use Rattle.a429_slots.specs.Tables.{outputs_of};
+ghost use Rattle.a429_recordings.specs.JudgedPlans.{duties_of, event_row, finding_row, foreign_event, foreign_in, foreign_rows, found_if_sent, group_events, judge_events, kind_text, output_events, outputs_at};
+ghost use Rattle.a429_console.specs.Names.{group_name, output_name};
+ghost use Rattle.a429_recordings.specs.SimulationRuns.{HasPlannedGroup};
+ghost use Rattle.a429_recordings.specs.Timeline.{table_of};
+
+use crate::judge::duties::{Judging, duties_of, duty_of};
+use a429_console::refusals::names::{group_name, source_name};
+use a429_equipment::Equipment;
+use a429_judge::{Duty, Finding, Judge, Kind, Mark};
+use a429_text::{Cell, Gathered, Rows};
+use std::alloc::{AllocError, Global};
+
+/// The names of the columns.
+pub const EVENT_COLUMNS: &[&str] = &["time_us", "group", "source", "finding", "word"];
+
+/// The name of a finding.
+fn kind_text(kind: Kind) -> &'static str
+    ensures { result.now ≡ kind_text kind }
+{
+    match kind {
+        Kind::Wrong => "wrong",
+        Kind::Stale => "stale",
+        Kind::Soon => "soon",
+        Kind::Late => "late",
+        Kind::Again => "again",
+        Kind::Missed => "missed",
+    }
+}
+
+/// Eight hexadecimal digits in lower case. Error: an allocation failed.
+#[tactic(auto, unfolding(a429_word::specs::Hexadecimal::hex))]
+fn hex_text(alloc: Global, raw: u32) -> Result<String, AllocError>
+    ensures { IfOk result (λ text. string_bytes text ≡ hex raw) }
+{
+    format!(in alloc; "{raw:08x}")
+}
+
+/// The cells of the row of a word.
+fn event_cells<'a>(
+    group: &'a str,
+    source: Cell<'a>,
+    finding: &'a str,
+    mark: Mark,
+    word: &'a str,
+) -> [Cell<'a>; 5]
+    requires { word.now ≡ hex mark.raw }
+    ensures { map field_of result ≡ event_row group.now (field_of source.entry) finding.now mark }
+{
+    [
+        Cell::Number(mark.time),
+        Cell::Text(group),
+        source,
+        Cell::Text(finding),
+        Cell::Text(word),
+    ]
+}
+
+/// Adds the row of a word. Error: an allocation failed.
+fn add_event(
+    rows: &mut Rows,
+    alloc: Global,
+    group: &str,
+    source: Cell<'_>,
+    finding: &str,
+    mark: Mark,
+) -> Result<(), AllocError>
+    ensures { OnOk result (rows.new ≡ rows.old ++ event_row group.now (field_of source.entry) finding.now mark ∷ []) }
+{
+    let word = hex_text(alloc, mark.raw)?;
+    rows.add(&event_cells(group, source, finding, mark, word.as_str()));
+    Ok(())
+}
+
+/// Adds the rows of an output's findings. Error: an allocation failed.
+fn add_findings(
+    rows: &mut Rows,
+    alloc: Global,
+    group: &str,
+    source: &str,
+    found: &[Finding],
+) -> Result<(), AllocError>
+    ensures { OnOk result (rows.new ≡ rows.old ++ map (finding_row group.now source.now) found.now) }
+{
+    for finding in found {
+        let source = Cell::Text(source);
+        add_event(
+            rows,
+            alloc,
+            group,
+            source,
+            kind_text(finding.kind),
+            finding.mark,
+        )?;
+    }
+    Ok(())
+}
+
+/// What is found at an output: nothing if it sent nothing. Error: an allocation failed.
+fn found_if_sent(
+    alloc: Global,
+    judge: &Judge,
+    duties: &[Duty],
+    duty: &Duty,
+) -> Result<Gathered<Finding>, AllocError>
+    ensures { IfOk result (λ found. found ≡ found_if_sent duties.now duty.now judge.now) }
+{
+    let sends = judge.sends(alloc, duty);
+    if sends.as_slice()?.is_empty() {
+        return Ok(Gathered::new(alloc));
+    }
+    judge.found(alloc, duties, duty)
+}
+
+/// Adds the rows of these findings at an output. Error: an allocation failed.
+fn add_found(
+    rows: &mut Rows,
+    alloc: Global,
+    equipment: &Equipment,
+    group: usize,
+    output: usize,
+    found: &[Finding],
+) -> Result<(), AllocError>
+    ensures { OnOk result (rows.new ≡ rows.old
+        ++ map (finding_row (group_name equipment.now group) (output_name equipment.now group output)) found.now) }
+{
+    let name = group_name(equipment, group);
+    add_findings(
+        rows,
+        alloc,
+        name,
+        source_name(equipment, group, output),
+        found,
+    )
+}
+
+/// Adds the rows of the findings at an output. Error: an allocation failed.
+fn add_output(
+    rows: &mut Rows,
+    alloc: Global,
+    judging: &Judging<'_>,
+    group: usize,
+    duties: &[Duty],
+    output: usize,
+) -> Result<(), AllocError>
+    requires known { HasPlannedGroup judging.now.proposal.now group }
+    requires output { output < length (outputs_of (table_of judging.now.proposal.now group)) }
+    requires duties { duties.now ≡ duties_of judging.now.proposal.now judging.now.tolerance group }
+    ensures { OnOk result (rows.new ≡ rows.old
+        ++ output_events judging.now.proposal.now judging.now.tolerance judging.now.judge.now group output) }
+{
+    let duty = duty_of(judging.proposal, judging.tolerance, group, output);
+    let found = found_if_sent(alloc, judging.judge, duties, &duty)?;
+    let found = found.as_slice()?;
+    add_found(
+        rows,
+        alloc,
+        judging.proposal.equipment(),
+        group,
+        output,
+        found,
+    )
+}
+
+/// Adds the rows of the findings at a group's outputs. Error: an allocation failed.
+fn add_outputs(
+    rows: &mut Rows,
+    alloc: Global,
+    judging: &Judging<'_>,
+    group: usize,
+    duties: &[Duty],
+) -> Result<(), AllocError>
+    requires known { HasPlannedGroup judging.now.proposal.now group }
+    requires duties { duties.now ≡ duties_of judging.now.proposal.now judging.now.tolerance group }
+    ensures { OnOk result (rows.new ≡ rows.old
+        ++ flat_map (output_events judging.now.proposal.now judging.now.tolerance judging.now.judge.now group)
+        (outputs_at judging.now.proposal.now group)) }
+{
+    for output in 0..judging.proposal.plan().group(group).outputs() {
+        add_output(rows, alloc, judging, group, duties, output)?;
+    }
+    Ok(())
+}
+
+/// Adds the row of a foreign word. Error: an allocation failed.
+fn add_foreign_event(
+    rows: &mut Rows,
+    alloc: Global,
+    group: &str,
+    mark: Mark,
+) -> Result<(), AllocError>
+    ensures { OnOk result (rows.new ≡ rows.old ++ foreign_event group.now mark ∷ []) }
+{
+    add_event(rows, alloc, group, Cell::Absent, "foreign", mark)
+}
+
+/// Adds the rows of foreign words. Error: an allocation failed.
+fn add_foreign(
+    rows: &mut Rows,
+    alloc: Global,
+    group: &str,
+    foreign: &[Mark],
+) -> Result<(), AllocError>
+    ensures { OnOk result (rows.new ≡ rows.old ++ map (foreign_event group.now) foreign.now) }
+{
+    for mark in foreign {
+        add_foreign_event(rows, alloc, group, *mark)?;
+    }
+    Ok(())
+}
+
+/// Adds the rows of a group's foreign words. Error: an allocation failed.
+fn add_foreign_of(
+    rows: &mut Rows,
+    alloc: Global,
+    judging: &Judging<'_>,
+    group: usize,
+    duties: &[Duty],
+) -> Result<(), AllocError>
+    requires { duties.now ≡ duties_of judging.now.proposal.now judging.now.tolerance group }
+    ensures { OnOk result (rows.new ≡ rows.old ++ foreign_rows (group_name judging.now.proposal.now.station group)
+        (foreign_in judging.now.proposal.now judging.now.tolerance judging.now.judge.now group)) }
+{
+    let foreign = judging.judge.foreign(alloc, duties, group);
+    let marks = foreign.as_slice()?;
+    add_foreign(
+        rows,
+        alloc,
+        group_name(judging.proposal.equipment(), group),
+        marks,
+    )
+}
+
+/// Adds the rows of a group. Error: an allocation failed.
+fn add_group(
+    rows: &mut Rows,
+    alloc: Global,
+    judging: &Judging<'_>,
+    group: usize,
+) -> Result<(), AllocError>
+    requires { HasPlannedGroup judging.now.proposal.now group }
+    ensures { OnOk result (rows.new ≡ rows.old
+        ++ group_events judging.now.proposal.now judging.now.tolerance judging.now.judge.now group) }
+{
+    let duties = duties_of(alloc, judging.proposal, judging.tolerance, group)?;
+    add_outputs(rows, alloc, judging, group, &duties)?;
+    add_foreign_of(rows, alloc, judging, group, &duties)?;
+    Ok(())
+}
+
+/// Adds the rows of all groups. Error: an allocation failed.
+pub fn add_events(rows: &mut Rows, alloc: Global, judging: &Judging<'_>) -> Result<(), AllocError>
+    ensures { OnOk result (rows.new ≡ rows.old
+        ++ judge_events judging.now.proposal.now judging.now.tolerance judging.now.judge.now) }
+{
+    for group in 0..judging.proposal.plan().groups() {
+        add_group(rows, alloc, judging, group)?;
+    }
+    Ok(())
+}

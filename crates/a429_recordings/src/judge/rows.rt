@@ -1,0 +1,113 @@
+//! A row for each output, and for the foreign words of each group.
+ghost use Rattle.std.specs.Prelude.{◌≡◌, ◌<◌, ◌++◌, ◌∷◌, [], length, map, IfOk, OnOk};
+ghost use Rattle.std.specs.List.{flat_map, list_any, range_with_len};
+ghost use Rattle.a429_slots.specs.Tables.{groups_of, outputs_of};
+ghost use Rattle.a429_recordings.specs.JudgedPlans.{duties_of, is_bad, is_bad_at, is_found, is_found_in, judged_group, judged_row, judged_rows, outputs_at};
+ghost use Rattle.a429_recordings.specs.SimulationRuns.{HasPlannedGroup};
+ghost use Rattle.a429_recordings.specs.Timeline.{table_of};
+
+use crate::judge::duties::{Judging, duties_of, duty_of, either};
+use a429_console::refusals::names::{group_name, source_name};
+use a429_judge::{Duty, Verdict, add_foreign_row, add_output_row};
+use a429_text::Rows;
+use std::alloc::{AllocError, Global};
+
+/// Whether something is found at an output.
+fn is_bad(verdict: Verdict) -> bool
+    ensures { result ≡ is_bad verdict }
+{
+    match verdict {
+        Verdict::Bad => true,
+        _ => false,
+    }
+}
+
+/// Adds the row of an output of a group, and answers whether something is found at it. Error: an allocation failed.
+fn add_output(
+    rows: &mut Rows,
+    alloc: Global,
+    judging: &Judging<'_>,
+    group: usize,
+    duties: &[Duty],
+    output: usize,
+) -> Result<bool, AllocError>
+    requires known { HasPlannedGroup judging.now.proposal.now group }
+    requires output { output < length (outputs_of (table_of judging.now.proposal.now group)) }
+    requires duties { duties.now ≡ duties_of judging.now.proposal.now judging.now.tolerance group }
+    ensures row { OnOk result (rows.new ≡ rows.old
+        ++ judged_row judging.now.proposal.now judging.now.tolerance judging.now.judge.now group output ∷ []) }
+    ensures bad { IfOk result (λ bad. bad ≡ is_bad_at judging.now.proposal.now judging.now.tolerance judging.now.judge.now group output) }
+{
+    let duty = duty_of(judging.proposal, judging.tolerance, group, output);
+    let judgement = judging.judge.judgement(alloc, duties, &duty)?;
+    let equipment = judging.proposal.equipment();
+    let name = group_name(equipment, group);
+    add_output_row(
+        rows,
+        name,
+        source_name(equipment, group, output),
+        &judgement,
+    );
+    Ok(is_bad(judgement.verdict))
+}
+
+/// Adds the rows of a group's outputs, and answers whether something is found at one of them. Error: an allocation failed.
+fn add_outputs(
+    rows: &mut Rows,
+    alloc: Global,
+    judging: &Judging<'_>,
+    group: usize,
+    duties: &[Duty],
+) -> Result<bool, AllocError>
+    requires known { HasPlannedGroup judging.now.proposal.now group }
+    requires duties { duties.now ≡ duties_of judging.now.proposal.now judging.now.tolerance group }
+    ensures rows { OnOk result (rows.new ≡ rows.old ++ map (judged_row judging.now.proposal.now judging.now.tolerance judging.now.judge.now group)
+        (outputs_at judging.now.proposal.now group)) }
+    ensures bad { IfOk result (λ bad. bad ≡ list_any (is_bad_at judging.now.proposal.now judging.now.tolerance judging.now.judge.now group)
+        (outputs_at judging.now.proposal.now group)) }
+{
+    let mut found = false;
+    for output in 0..judging.proposal.plan().group(group).outputs() {
+        let bad = add_output(rows, alloc, judging, group, duties, output)?;
+        found = either(found, bad);
+    }
+    Ok(found)
+}
+
+/// Adds the rows of a group, and answers whether something is found. Error: an allocation failed.
+fn add_group(
+    rows: &mut Rows,
+    alloc: Global,
+    judging: &Judging<'_>,
+    group: usize,
+) -> Result<bool, AllocError>
+    requires { HasPlannedGroup judging.now.proposal.now group }
+    ensures rows { OnOk result (rows.new ≡ rows.old
+        ++ judged_group judging.now.proposal.now judging.now.tolerance judging.now.judge.now group) }
+    ensures found { IfOk result (λ found. found ≡ is_found_in judging.now.proposal.now judging.now.tolerance judging.now.judge.now group) }
+{
+    let duties = duties_of(alloc, judging.proposal, judging.tolerance, group)?;
+    let found = add_outputs(rows, alloc, judging, group, &duties)?;
+    let foreign = judging.judge.foreign(alloc, &duties, group);
+    let count = foreign.as_slice()?.len();
+    add_foreign_row(
+        rows,
+        group_name(judging.proposal.equipment(), group),
+        count as u64,
+    );
+    Ok(either(found, count > 0))
+}
+
+/// Adds the rows of all groups, and answers whether something is found. Error: an allocation failed.
+pub fn add_groups(rows: &mut Rows, alloc: Global, judging: &Judging<'_>) -> Result<bool, AllocError>
+    ensures rows { OnOk result (rows.new ≡ rows.old
+        ++ judged_rows judging.now.proposal.now judging.now.tolerance judging.now.judge.now) }
+    ensures found { IfOk result (λ found. found ≡ is_found judging.now.proposal.now judging.now.tolerance judging.now.judge.now) }
+{
+    let mut found = false;
+    for group in 0..judging.proposal.plan().groups() {
+        let more = add_group(rows, alloc, judging, group)?;
+        found = either(found, more);
+    }
+    Ok(found)
+}

@@ -1,0 +1,79 @@
+//! The sheets of `judge`.
+ghost use Rattle.std.specs.Prelude.{false, true, IfOk};
+ghost use Rattle.a429_recordings.specs.JudgeReplies.{IsJudgeSheet};
+
+use crate::judge::JudgeForm;
+use crate::judge::duties::Judging;
+use crate::judge::events::{EVENT_COLUMNS, add_events};
+use crate::judge::rows::add_groups;
+use a429_text::{Rows, Sheet, SheetForm};
+use std::alloc::{AllocError, Global};
+
+/// The names of the columns of rows.
+const COLUMNS: &[&str] = &[
+    "group",
+    "source",
+    "sent",
+    "least_us",
+    "greatest_us",
+    "late_us",
+    "wrong",
+    "stale",
+    "soon",
+    "late",
+    "missed",
+    "again",
+    "verdict",
+];
+
+/// What is printed, and whether something was found.
+#[derive(Drop)]
+pub struct Judged {
+    pub text: Vec<u8>,
+    pub found: bool,
+}
+
+/// A row for each output and each group. Error: an allocation failed.
+fn row_sheet(alloc: Global, judging: &Judging<'_>, form: SheetForm) -> Result<Judged, AllocError>
+    ensures { IfOk result (IsJudgeSheet false judging.now form) }
+{
+    let mut rows = Rows::new(alloc);
+    let found = add_groups(&mut rows, alloc, judging)?;
+    let sheet = Sheet {
+        columns: COLUMNS,
+        rows,
+    };
+    let text = sheet.render(alloc, form)?;
+    Ok(Judged { text, found })
+}
+
+/// A row for each finding. Error: an allocation failed.
+fn event_sheet(alloc: Global, judging: &Judging<'_>, form: SheetForm) -> Result<Judged, AllocError>
+    ensures { IfOk result (IsJudgeSheet true judging.now form) }
+{
+    let mut rows = Rows::new(alloc);
+    add_events(&mut rows, alloc, judging)?;
+    let found = !rows.is_empty()?;
+    let sheet = Sheet {
+        columns: EVENT_COLUMNS,
+        rows,
+    };
+    let text = sheet.render(alloc, form)?;
+    Ok(Judged { text, found })
+}
+
+/// The sheet that is asked for. Error: an allocation failed.
+pub fn judge_sheet(
+    alloc: Global,
+    judging: &Judging<'_>,
+    events: bool,
+    form: SheetForm,
+) -> Result<Judged, AllocError>
+    ensures { IfOk result (IsJudgeSheet events judging.now form) }
+{
+    if events {
+        event_sheet(alloc, judging, form)
+    } else {
+        row_sheet(alloc, judging, form)
+    }
+}
