@@ -195,7 +195,8 @@ fn main() -> Result<(), Box<dyn Error>> {
             found |= judge(&mut out, group, output, &accepted[output.source], last, tolerance)?;
         }
         found |= group.foreign > 0;
-        writeln!(out, "{},,{},,,,,,,,,,foreign", group.name, group.foreign)?;
+        let verdict = if group.foreign > 0 { "bad" } else { "ok" };
+        writeln!(out, "{},foreign,{},,,,,,,,,,{verdict}", group.name, group.foreign)?;
     }
     out.flush()?;
     std::process::exit(i32::from(found));

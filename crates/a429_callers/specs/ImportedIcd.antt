@@ -1,5 +1,5 @@
 -- What is imported from the interface control document of a plan: a table of the same outputs, with the same plan (profile: import).
-use Rattle.std.specs.Prelude.{◌≡◌, ◌<◌, ℕ, true, List, None, Some, Result, Ok, Err, Vec, length, slice_get}
+use Rattle.std.specs.Prelude.{◌≡◌, ◌<◌, ℕ, true, false, List, [], None, Some, Result, Ok, Err, Vec, length, slice_get}
 use Rattle.std.specs.declared.alloc.Global.{Global}
 use Rattle.std.specs.List.{AllByRecursion, AllZip}
 use Rattle.a429_equipment.specs.declared.rows.OutputRow.{OutputRow}
@@ -80,10 +80,10 @@ ImportsPlan a (Err _) = ⊥
 
 -- an interface control document as comma-separated values
 abbrev pub icd_csv : Proposed → List ℕ
-icd_csv a = sheet_text Csv icd_columns (icd_rows a.station a.plan)
+icd_csv a = sheet_text Csv icd_columns (icd_rows false a.station a.plan)
 
 -- importing it gives the same plan
 abbrev pub ImportedIcdIsSamePlan : Type 0
 ImportedIcdIsSamePlan =
     (bytes : List ℕ) (a : Proposed) (result : Result (Vec ℕ Global) ImportFault) → IsWholeInIcd bytes a
-    → IsImport (icd_csv a) result → ImportsPlan a result
+    → IsImport [] (icd_csv a) result → ImportsPlan a result

@@ -1,5 +1,5 @@
 -- The outputs of a planned group are those that are due for it.
-use Rattle.std.proofs.Common.{◌≡◌, ◌≢◌, ℕ, zero, suc, ◌/◌, ◌^◌, ◌<◌, ◌≤◌, max, Bool, true, false, List, [], ◌∷◌, length, get_or, map, Option, Some, None, refl, sym, ap, ◌∙◌, arith, inl, inr}
+use Rattle.std.proofs.Common.{◌≡◌, ◌≢◌, ℕ, zero, suc, ◌/◌, ◌^◌, ◌<◌, ◌≤◌, max, Bool, true, false, List, [], ◌∷◌, length, get_or, map, Option, Some, None, refl, sym, ap, subst, ◌∙◌, arith, inl, inr}
 use Rattle.std.specs.Prelude.{slice_get, option_map, option_and_then, sum}
 use Rattle.std.specs.List.{AllZip, find, fold, sum_by}
 use Rattle.std.specs.Option.{option_map_or}
@@ -8,7 +8,7 @@ use Rattle.std.proofs.Math.Nat.{pow-le-pow_right}
 use Rattle.std.proofs.lemmas.Bool.{cases_lt}
 use Rattle.std.proofs.lemmas.List.Folds.{fold-map}
 use Rattle.std.proofs.lemmas.List.Sums.{sum-map}
-use Rattle.std.proofs.lemmas.Option.{slice_get-get_or}
+use Rattle.std.proofs.lemmas.Option.{get_or_from_slice_get, slice_get-get_or, slice_get_within}
 use Rattle.std.proofs.lemmas.Simd.{map-map}
 use Rattle.std.proofs.lemmas.Slice.Zip.{AllZip-long}
 use Rattle.a429_word.proofs.Lists.{zipped_at}
@@ -33,8 +33,11 @@ use Rattle.a429_slots.proofs.Rows.{blank}
 abbrev pub row_at : List OutputRow → ℕ → OutputRow
 row_at rows i = get_or rows i blank
 
+abbrev pub nothing_due : DueOutput
+nothing_due = record { source = []; period = 0; hold = None }
+
 abbrev pub due_at : DueGroup → ℕ → DueOutput
-due_at g i = get_or g.outputs.items i (record { source = []; period = 0; hold = None })
+due_at g i = get_or g.outputs.items i nothing_due
 
 -- the periods of a table's outputs, as exponents, by their numbers
 abbrev pub exponents_of : SlotTable → List ℕ
@@ -97,6 +100,19 @@ demand_is g ks some same =
 
 -- ---- the outputs by their numbers
 
+-- no two of them have one source
+pub own_sources : (e : TableRecord) (rate : ℕ) (rows : List OutputRow) (os : List DueOutput) → HaveOwn (λ s. s.name) e.sources → HaveOwnSources rows
+    → AllZip (IsDueOutput e rate) rows os → HaveOwn (λ o. o.source) os
+own_sources e rate rows os names own due = λ i j x y at-i at-j same.
+    let long : length os ≡ length rows = AllZip-long (IsDueOutput e rate) rows os due in
+    let low-i : i < length rows = omega (arith, long, slice_get_within os i x at-i) in
+    let low-j : j < length rows = omega (arith, long, slice_get_within os j y at-j) in
+    let a = subst (IsDueOutput e rate (row_at rows i)) (get_or_from_slice_get os i x nothing_due at-i) (zipped_at (IsDueOutput e rate) rows os i blank nothing_due low-i due) in
+    let b = subst (IsDueOutput e rate (row_at rows j)) (get_or_from_slice_get os j y nothing_due at-j) (zipped_at (IsDueOutput e rate) rows os j blank nothing_due low-j due) in
+    let named : a.source.name ≡ b.source.name = sym a.name ∙ same ∙ b.name in
+    let one : (row_at rows i).source ≡ (row_at rows j).source = names (row_at rows i).source (row_at rows j).source a.source b.source a.there b.there named in
+    own i j (row_at rows i) (row_at rows j) (slice_get-get_or rows i blank low-i) (slice_get-get_or rows j blank low-j) one
+
 -- the outputs of a planned group, and those that are due for it
 pub record AreSame (e : TableRecord) (rate : ℕ) (rows : List OutputRow) (t : SlotTable) (g : DueGroup) : Type 0 where
   pub served : AllZip (IsServed rate) rows (outputs_of t)
@@ -112,7 +128,7 @@ served_at : (e : TableRecord) (rate : ℕ) (rows : List OutputRow) (t : SlotTabl
 served_at e rate rows t g s i below = zipped_at (IsServed rate) rows (outputs_of t) i blank unplaced below s.served
 
 pub due_here : (e : TableRecord) (rate : ℕ) (rows : List OutputRow) (t : SlotTable) (g : DueGroup) → AreSame e rate rows t g → (i : ℕ) → i < length rows → IsDueOutput e rate (row_at rows i) (due_at g i)
-due_here e rate rows t g s i below = zipped_at (IsDueOutput e rate) rows g.outputs.items i blank (record { source = []; period = 0; hold = None }) below s.due
+due_here e rate rows t g s i below = zipped_at (IsDueOutput e rate) rows g.outputs.items i blank nothing_due below s.due
 
 pub source_there : (e : TableRecord) (rate : ℕ) (rows : List OutputRow) (t : SlotTable) (g : DueGroup) (s : AreSame e rate rows t g) (i : ℕ) (below : i < length rows)
     → slice_get e.sources (placed_at t i).source ≡ Some (due_here e rate rows t g s i below).source
@@ -130,11 +146,9 @@ period_same e rate rows t g s i below =
 
 pub name_own : (e : TableRecord) (rate : ℕ) (rows : List OutputRow) (t : SlotTable) (g : DueGroup) → AreSame e rate rows t g → (i j : ℕ) → i < length rows → j < length rows → (due_at g i).source ≡ (due_at g j).source → i ≡ j
 name_own e rate rows t g s i j low-i low-j same =
-    let a = due_here e rate rows t g s i low-i in
-    let b = due_here e rate rows t g s j low-j in
-    let named : a.source.name ≡ b.source.name = sym a.name ∙ same ∙ b.name in
-    let one : (row_at rows i).source ≡ (row_at rows j).source = s.names (row_at rows i).source (row_at rows j).source a.source b.source a.there b.there named in
-    s.own i j (row_at rows i) (row_at rows j) (slice_get-get_or rows i blank low-i) (slice_get-get_or rows j blank low-j) one
+    let many = (counts e rate rows t g s).1 in
+    own_sources e rate rows g.outputs.items s.names s.own s.due i j (due_at g i) (due_at g j)
+    (slice_get-get_or g.outputs.items i nothing_due (omega (arith, low-i, many))) (slice_get-get_or g.outputs.items j nothing_due (omega (arith, low-j, many))) same
 
 -- ---- the output that is due for a name
 
@@ -155,7 +169,7 @@ output_due : (e : TableRecord) (rate : ℕ) (rows : List OutputRow) (t : SlotTab
 output_due e rate rows t g s i below =
     let many = (counts e rate rows t g s).1 in
     let named = name_same e rate rows t g s i below in
-    found (source_name e.sources (placed_at t i).source) g.outputs.items i (record { source = []; period = 0; hold = None }) (omega arith) named
+    found (source_name e.sources (placed_at t i).source) g.outputs.items i nothing_due (omega arith) named
     (λ j less same. name_own e rate rows t g s j i (omega arith) below (same ∙ sym named))
 
 pub period_due : (e : TableRecord) (rate : ℕ) (rows : List OutputRow) (t : SlotTable) (g : DueGroup) → AreSame e rate rows t g → (i : ℕ) → i < length rows

@@ -5,6 +5,8 @@ pub mod LineLaws
 pub mod TextLines
 pub mod Listed
 pub mod Walk
+pub mod Noted
+pub mod Classes
 pub mod Groups
 pub mod DuePlans
 pub mod CheckedPlans

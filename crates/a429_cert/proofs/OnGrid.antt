@@ -13,7 +13,7 @@ use Rattle.std.proofs.Math.Nat.{div-le_self}
 use Rattle.a429_grid.specs.Grid.{IsPeriod}
 use Rattle.a429_pack.specs.Demanded.{AreFewestBuses, IsBusCount}
 use Rattle.a429_equipment.specs.TableRecord.{TableRecord}
-use Rattle.a429_equipment.specs.Sound.{IsSound}
+use Rattle.a429_equipment.specs.Sound.{HaveOwn, HaveOwnSources, IsSound}
 use Rattle.a429_equipment.specs.declared.rows.GroupRow.{GroupRow}
 use Rattle.a429_equipment.specs.declared.rows.OutputRow.{OutputRow}
 use Rattle.a429_slots.specs.Planned.{rated_outputs}
@@ -22,6 +22,7 @@ use Rattle.a429_cert.specs.declared.due.DueGroup.{DueGroup}
 use Rattle.a429_cert.specs.declared.due.DueTable.{DueTable}
 use Rattle.a429_cert.specs.Due.{IsDueOutput, IsDueGroup, IsDue}
 use Rattle.a429_cert.specs.Faults.{IsModest, frame, demand, due}
+use Rattle.a429_cert.proofs.DueOutputs.{own_sources}
 use Rattle.a429_cert.proofs.DuePlans.{PeriodsNest}
 use Rattle.a429_grid.proofs.Reversing.{pow_few}
 
@@ -61,6 +62,20 @@ groups_on_grid e (n ∷ ns) (r ∷ rs) (g ∷ gs) short d = (group_on_grid e n r
 pub on_grid : (e : TableRecord) (t : DueTable) → IsSound e → IsDue e t → AllByRecursion IsOnGrid t.groups.items
 on_grid e t sound d = groups_on_grid e (map (λ (g : GroupRow). g.rate) e.groups) e.outputs t.groups.items sound.some_outputs d.groups
 
+-- ---- no two outputs of a group have one source
+
+abbrev pub HasOwnSources : DueGroup → Type 0
+HasOwnSources g = HaveOwn (λ o. o.source) g.outputs.items
+
+groups_own : (e : TableRecord) (rates : List ℕ) (rows : List (List OutputRow)) (gs : List DueGroup) → HaveOwn (λ s. s.name) e.sources → AllByRecursion HaveOwnSources rows
+    → AllZip (IsDueGroup e) (zip rates rows) gs → AllByRecursion HasOwnSources gs
+groups_own e [] rs [] names own d = tt
+groups_own e [] rs (g ∷ gs) names own d = absurd d
+groups_own e (n ∷ ns) [] [] names own d = tt
+groups_own e (n ∷ ns) [] (g ∷ gs) names own d = absurd d
+groups_own e (n ∷ ns) (r ∷ rs) [] names own d = absurd d
+groups_own e (n ∷ ns) (r ∷ rs) (g ∷ gs) names own d = (own_sources e n r g.outputs.items names own.0 d.0.outputs, groups_own e ns rs gs names own.1 d.1)
+
 -- ---- no sum of a check leaves 64 bits
 
 period_few : (p : ℕ) → IsPeriod p → p ≤ 8192
@@ -84,23 +99,26 @@ shares_few h (o ∷ os) few = (omega (arith, div-le_self h o.period), shares_few
 few_cells : (s n : ℕ) → s ≤ n * 8192 → n ≤ 128 → s < 2 ^ 64
 few_cells s n cells few = omega arith
 
-modest : (g : DueGroup) → IsOnGrid g → IsModest g
-modest g on =
+modest : (g : DueGroup) → HasOwnSources g → IsOnGrid g → IsModest g
+modest g own on =
     let os : List DueOutput = g.outputs.items in
     let top : frame g ≤ 8192 = fold_few os 0 (omega arith) on.periods in
     let cells : demand g ≤ length os * 8192 = sum_by-le (λ o. frame g / o.period) 8192 os (All-from_recursion (λ o. frame g / o.period ≤ 8192) os (shares_few (frame g) os top)) in
     record {
+      own = own;
       periods = All-from_recursion (λ o. 0 < o.period) os (all_some os on.periods);
       frame_fits = omega (arith, top);
       demand_fits = few_cells (demand g) (length os) cells on.few;
     }
 
-all_modest_by : (gs : List DueGroup) → AllByRecursion IsOnGrid gs → AllByRecursion IsModest gs
-all_modest_by [] on = tt
-all_modest_by (g ∷ gs) on = (modest g on.0, all_modest_by gs on.1)
+all_modest_by : (gs : List DueGroup) → AllByRecursion HasOwnSources gs → AllByRecursion IsOnGrid gs → AllByRecursion IsModest gs
+all_modest_by [] own on = tt
+all_modest_by (g ∷ gs) own on = (modest g own.0 on.0, all_modest_by gs own.1 on.1)
 
 pub all_modest : (e : TableRecord) (t : DueTable) → IsSound e → IsDue e t → All IsModest t.groups.items
-all_modest e t sound d = All-from_recursion IsModest t.groups.items (all_modest_by t.groups.items (on_grid e t sound d))
+all_modest e t sound d =
+    let own = groups_own e (map (λ (g : GroupRow). g.rate) e.groups) e.outputs t.groups.items sound.own_names sound.own_sources d.groups in
+    All-from_recursion IsModest t.groups.items (all_modest_by t.groups.items own (on_grid e t sound d))
 
 lines_few : (gs : List DueGroup) → AllByRecursion IsOnGrid gs → AllByRecursion (λ g. length g.outputs.items + 2 ≤ 130) gs
 lines_few [] on = tt

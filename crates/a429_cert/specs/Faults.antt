@@ -1,7 +1,8 @@
 -- Why the lines of a plan text are refused.
-use Rattle.std.specs.Prelude.{◌≡◌, ℕ, zero, suc, ◌+◌, ◌-◌, ◌*◌, ◌/◌, ◌%◌, ◌^◌, ◌<◌, min, max, List, [], ◌∷◌, ◌++◌, take, drop, length, Option, Some, None, option_map, option_and_then, unwrap_or, is_none, Bool, true, false, not, ◌==◌, ◌&&◌, ◌||◌, nat_lt, nat_le, if◌then◌else◌, find, fold, Result, Ok, Err, MatchResult}
+use Rattle.std.specs.Prelude.{◌≡◌, ℕ, zero, suc, ◌+◌, ◌-◌, ◌*◌, ◌/◌, ◌%◌, ◌^◌, ◌<◌, min, max, List, [], ◌∷◌, ◌++◌, take, drop, length, Option, Some, None, option_map, option_and_then, unwrap_or, is_none, Bool, true, false, not, ◌==◌, ◌&&◌, ◌||◌, nat_lt, nat_le, if◌then◌else◌, find, fold, position, Result, Ok, Err, MatchResult}
 use Rattle.std.specs.List.{list_any, sum_by, filter_map, All}
 use Rattle.std.specs.Str.{bytes_eq}
+use Rattle.a429_equipment.specs.Sound.{HaveOwn}
 use Rattle.a429_cert.specs.declared.verdicts.Reason.{Reason}
 use Rattle.a429_cert.specs.declared.verdicts.Reason.TheVariants as reasons
 use Rattle.a429_cert.specs.declared.verdicts.No.{No}
@@ -27,8 +28,9 @@ frame g = fold (λ a o. max a o.period) 0 g.outputs.items
 abbrev pub demand : DueGroup → ℕ
 demand g = sum_by (λ o. frame g / o.period) g.outputs.items
 
--- no sum of the check leaves 64 bits
+-- no sum of the check leaves 64 bits, and no two outputs have one source
 pub record IsModest (g : DueGroup) : Type 0 where
+  pub own : HaveOwn (λ o. o.source) g.outputs.items
   pub periods : HasPeriods g
   pub frame_fits : frame g < 2 ^ 32
   pub demand_fits : demand g < 2 ^ 64
@@ -36,6 +38,10 @@ pub record IsModest (g : DueGroup) : Type 0 where
 -- the output with this source
 abbrev pub output_of : DueGroup → List ℕ → Option DueOutput
 output_of g source = find (λ o. bytes_eq o.source source) g.outputs.items
+
+-- the place of the first output with this source
+abbrev pub place_of : List ℕ → List DueOutput → Option ℕ
+place_of source os = position (λ o. bytes_eq o.source source) os
 
 -- its grid period
 abbrev pub period_of : DueGroup → List ℕ → Option ℕ
@@ -87,6 +93,10 @@ is_listed earlier source = list_any (λ l. bytes_eq l.source source) earlier
 -- the same bus, and offsets that are equal modulo the smaller period
 abbrev pub shares : Listing → Listing → Bool
 shares l e = (l.bus == e.bus) && (l.offset % min l.period e.period == e.offset % min l.period e.period)
+
+-- both periods are multiples of 16, and the offsets differ modulo 16
+abbrev pub differ_by_class : Listing → Listing → Bool
+differ_by_class l e = (l.period % 16 == 0) && (e.period % 16 == 0) && not (l.offset % 16 == e.offset % 16)
 
 abbrev pub has_bad_place : ℕ → Listing → Bool
 has_bad_place buses l = nat_le buses l.bus || nat_le l.period l.offset

@@ -3,6 +3,7 @@ pub mod Reading
 pub mod Views
 pub mod Lines
 pub mod Due
+pub mod Earlier
 pub mod Faults
 pub mod Verdicts
 pub mod Checked

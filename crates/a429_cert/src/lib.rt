@@ -29,6 +29,7 @@
 
 mod checking;
 mod due;
+mod earlier;
 mod group_lines;
 mod judging;
 pub mod laws;

@@ -1,35 +1,26 @@
 //! The lines of a group's outputs.
 
-ghost use Rattle.std.specs.Prelude.{◌≡◌, ◌<◌, ◌+◌, ◌^◌, map, drop, length, Some, MatchResult, OnOk, All};
-ghost use Rattle.std.specs.Option.{option_copied};
+ghost use Rattle.std.specs.Prelude.{◌≡◌, ◌<◌, ◌+◌, ◌^◌, map, drop, length, MatchResult, OnOk, All};
 ghost use Rattle.std.specs.List.{list_any};
 ghost use Rattle.a429_cert.specs.Views.{listing};
-ghost use Rattle.a429_cert.specs.Reading.{output_line};
 ghost use Rattle.a429_cert.specs.Lines.{lines_of};
-ghost use Rattle.a429_cert.specs.Faults.{output_of, shares, same_limit, says_other_hold, output_fault, is_listed, HasPeriods, EndsCheckBy, GivesReason, all_output_faults, first_no};
+ghost use Rattle.a429_cert.specs.Earlier.{AreNoted, IsNextLine};
+ghost use Rattle.a429_cert.specs.Faults.{shares, differ_by_class, same_limit, says_other_hold, output_fault, IsModest, EndsCheckBy, GivesReason, all_output_faults, first_no};
 
-use crate::due::{DueGroup, DueOutput};
+use crate::due::DueGroup;
+use crate::earlier::Earlier;
 use crate::line::{OutputLine, output_line};
 use crate::lines::Lines;
 use crate::stops::CheckStop;
 use crate::verdicts::{No, Reason};
 use std::alloc::Global;
 
-/// The output with this source; `None` if the group has no such output.
-fn output_of<'a>(group: &'a DueGroup, source: &[u8]) -> Option<&'a DueOutput>
-    ensures { option_copied result ≡ output_of group.now source.now }
+/// Whether two outputs share no cell because their periods are multiples of 16 and their offsets differ modulo 16. This is
+/// quicker to see than whether the offsets are equal modulo a period.
+fn differ_by_class(first: &OutputLine<'_>, second: &OutputLine<'_>) -> bool
+    ensures { result ≡ differ_by_class (listing first.now) (listing second.now) }
 {
-    group
-        .outputs
-        .iter()
-        .find(|output| output.source.as_str().as_bytes() == source)
-}
-
-/// Whether an earlier line lists this source.
-fn is_listed(earlier: &[OutputLine<'_>], source: &[u8]) -> bool
-    ensures { result ≡ is_listed (map listing earlier.now) source.now }
-{
-    earlier.iter().any(|line| line.source == source)
+    first.period % 16 == 0 && second.period % 16 == 0 && first.offset % 16 != second.offset % 16
 }
 
 /// Whether two outputs have the same bus and offsets that are equal modulo the smaller period.
@@ -38,8 +29,14 @@ fn shares(first: &OutputLine<'_>, second: &OutputLine<'_>) -> bool
     requires second { 0 < second.now.period }
     ensures { result ≡ shares (listing first.now) (listing second.now) }
 {
+    if first.bus != second.bus {
+        return false;
+    }
+    if differ_by_class(first, second) {
+        return false;
+    }
     let period = first.period.min(second.period);
-    first.bus == second.bus && first.offset % period == second.offset % period
+    first.offset % period == second.offset % period
 }
 
 /// Whether an output shares its cells with an earlier one.
@@ -69,42 +66,52 @@ fn says_other_hold(said: Option<Option<u64>>, hold: Option<u64>) -> bool
     said.is_some_and(|said| !same_limit(said, hold))
 }
 
+/// What the line of an output says, with the output's place in table order.
+#[derive(Clone, Copy)]
+pub struct CheckedLine<'a> {
+    said: OutputLine<'a>,
+    place: usize,
+}
+
 /// What the line of an output says, or the first reason against it.
 #[tactic(auto, unfolding(crate::specs::Faults::output_fault))]
 fn checked_output<'a>(
     version: u32,
     group: &DueGroup,
     buses: u64,
-    earlier: &[OutputLine<'a>],
+    earlier: &Earlier<'_>,
     line: &'a [u8],
-) -> Result<OutputLine<'a>, Reason>
-    requires periods { HasPeriods group.now }
-    requires earlier { All (λ l. 0 < l.period) earlier.now }
-    ensures fault { GivesReason result (output_fault version group.now buses (map listing earlier.now) line.now) }
-    ensures says { MatchResult result (λ l. (output_line version line.now ≡ Some (listing l)) × (0 < l.period)) (λ _. Unit {0}) }
+) -> Result<CheckedLine<'a>, Reason>
+    requires modest { IsModest group.now }
+    requires noted { AreNoted group.now.outputs.items earlier.now }
+    ensures fault { GivesReason result (output_fault version group.now buses (map listing earlier.now.lines.items) line.now) }
+    ensures says { MatchResult result (IsNextLine version group.now line.now) (λ _. Unit {0}) }
 {
     let Some(said) = output_line(version, line) else {
         return Err(Reason::Form);
     };
-    let Some(due) = output_of(group, said.source) else {
+    let Some(output) = earlier.output_of(group, said.source) else {
         return Err(Reason::Output);
     };
-    if is_listed(earlier, said.source) {
+    if output.is_listed {
         return Err(Reason::Output);
     }
-    if said.period != due.period {
+    if said.period != output.due.period {
         return Err(Reason::Period);
     }
     if buses <= said.bus || said.period <= said.offset {
         return Err(Reason::Place);
     }
-    if shares_any(&said, earlier) {
+    if shares_any(&said, &earlier.lines) {
         return Err(Reason::Shared);
     }
-    if says_other_hold(said.hold, due.hold) {
+    if says_other_hold(said.hold, output.due.hold) {
         return Err(Reason::Hold);
     }
-    Ok(said)
+    Ok(CheckedLine {
+        said,
+        place: output.place,
+    })
 }
 
 /// Checks the lines of a group's outputs, the first of which has this number. Error: the first line that fails, with
@@ -117,16 +124,16 @@ pub fn check_outputs(
     number: usize,
     lines: &mut Lines<'_>,
 ) -> Result<(), CheckStop>
-    requires periods { HasPeriods group.now }
+    requires modest { IsModest group.now }
     requires fits { number + length group.now.outputs.items < 2 ^ 64 }
     ensures answer { EndsCheckBy result (first_no number (all_output_faults version group.now buses (lines_of lines.old.rest.now))) }
     ensures rest { OnOk result (lines_of lines.new.rest.now ≡ drop (length group.now.outputs.items) (lines_of lines.old.rest.now)) }
 {
-    let mut earlier = Vec::new(alloc);
+    let mut earlier = Earlier::none(alloc, &group.outputs)?;
     for place in 0..group.outputs.len() {
         let line = lines.next_line();
         match checked_output(version, group, buses, &earlier, line) {
-            Ok(said) => earlier.push(said)?,
+            Ok(checked) => earlier.add(checked.said, checked.place)?,
             Err(reason) => {
                 return Err(CheckStop::Refused(No {
                     reason,

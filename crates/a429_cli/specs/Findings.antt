@@ -1,5 +1,5 @@
 -- The commands that look for something, `lint` and `diff`: what they write, and their status (profile: output).
-use Rattle.std.specs.Prelude.{◌≡◌, ◌==◌, ◌∷◌, [], ◌⊎◌, ℕ, Bool, List, Option, Ok, Some, if◌then◌else◌, length, map}
+use Rattle.std.specs.Prelude.{◌≡◌, ◌==◌, ◌∷◌, [], ◌⊎◌, ℕ, Bool, List, Option, Result, Ok, Some, if◌then◌else◌, length, map}
 use Rattle.a429_text.specs.Fields.{Field}
 use Rattle.a429_text.specs.Sheets.{sheet_text}
 use Rattle.a429_text.specs.declared.sheets.Sheet.{Sheet}
@@ -12,6 +12,8 @@ use Rattle.a429_documents.specs.Lint.{AreFindings, lint_columns}
 use Rattle.a429_console.specs.FileReadings.{AreRead, IsFileRefusal, IsFirstUnread, readable}
 use Rattle.a429_console.specs.Tables.{IsProposedBy, IsTableFault, IsTableRefusal}
 use Rattle.a429_console.specs.declared.refusals.CommandRefusal.{CommandRefusal}
+use Rattle.a429_cli.specs.WholeReplies.{Replies}
+use Rattle.a429_cli.specs.declared.replies.reply.Reply.{Reply}
 
 -- the names of a sheet's columns
 abbrev pub names_of : Sheet → List (List ℕ)
@@ -61,3 +63,7 @@ abbrev pub IsNoDiff : (List ℕ → Option (List ℕ)) → List ℕ → List ℕ
 IsNoDiff file name other refusal =
     IsFirstUnread file (name ∷ other ∷ []) refusal
     ⊎ ((a : List ℕ) × (b : List ℕ) × AreRead file (name ∷ other ∷ []) (a ∷ b ∷ []) × IsNoDiffBetween a b refusal)
+
+-- the answer of `diff` on two files, or why there is none
+abbrev pub AnswersDiff : (List ℕ → Option (List ℕ)) → Bool → SheetForm → List ℕ → List ℕ → Result Reply CommandRefusal → Type 0
+AnswersDiff file all form name other result = Replies (IsDiffOf file all form name other) (IsNoDiff file name other) result

@@ -9,8 +9,10 @@ use Rattle.a429_text.specs.Fields.{Field}
 use Rattle.a429_text.specs.Sheets.{sheet_text}
 use Rattle.a429_documents.specs.Document.{icd_columns, icd_rows}
 use Rattle.a429_documents.specs.Margins.{IsMargin, margin_columns}
+use Rattle.a429_cli.specs.WholeReplies.{Replies}
 use Rattle.a429_cli.specs.declared.plan_texts.PlanText.{PlanText}
 use Rattle.a429_cli.specs.declared.plan_texts.PlanText.TheVariants.{Plan, Document, Margin}
+use Rattle.a429_cli.specs.declared.replies.reply.Reply.{Reply}
 use Rattle.a429_cert.specs.Due.{IsFirstUnfitOf}
 use Rattle.a429_cert.specs.Judged.{IsVerdictOnBytes}
 use Rattle.a429_cert.specs.Printed.{verdict_text}
@@ -28,7 +30,7 @@ use Rattle.a429_console.specs.declared.refusals.CommandRefusal.TheVariants as re
 -- the text has this of a station's plan
 abbrev pub IsTextOf : PlanText → TableRecord → PlanTable → List ℕ → Type 0
 IsTextOf Plan e p text = text ≡ plan_text_of e p
-IsTextOf (Document form) e p text = text ≡ sheet_text form icd_columns (icd_rows e p)
+IsTextOf (Document form keeps_zeros) e p text = text ≡ sheet_text form icd_columns (icd_rows keeps_zeros e p)
 IsTextOf (Margin form) e p text = (rows : List (List Field)) × IsMargin e p rows × (text ≡ sheet_text form margin_columns rows)
 
 -- it is this text about the plan of the table in a file, and the status is 0
@@ -74,3 +76,7 @@ IsVerdictReply v status bytes = (status ≡ verdict_status v) × (bytes ≡ verd
 -- the line of the verdict on the text in a file by the table in another, and its status
 abbrev pub IsCheckOf : (List ℕ → Option (List ℕ)) → List ℕ → List ℕ → ℕ → List ℕ → Type 0
 IsCheckOf file name plan status bytes = (v : Verdict) × IsVerdictOf file name plan v × IsVerdictReply v status bytes
+
+-- the answer of `check` on two files, or why there is none
+abbrev pub AnswersCheck : (List ℕ → Option (List ℕ)) → List ℕ → List ℕ → Result Reply CommandRefusal → Type 0
+AnswersCheck file name plan result = Replies (IsCheckOf file name plan) (IsNoCheck file name plan) result

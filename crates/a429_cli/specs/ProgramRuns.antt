@@ -6,7 +6,7 @@ use Rattle.a429_console.specs.GivenWords.{AreAllWords, HasNoText}
 use Rattle.a429_console.specs.RequestRows.{AsksFor}
 use Rattle.a429_console.specs.Requests.{AskedBytes}
 use Rattle.a429_console.specs.Usage.{is_run, kinds_of_words, live_kinds_of_words}
-use Rattle.a429_cli.specs.Replies.{IsReplyOrMemory, TakesEach, trouble_of}
+use Rattle.a429_cli.specs.Replies.{IsReplyOrMemory, IsSilent, trouble_of}
 
 -- what files a reader has, and whether they are known
 pub record Reader : Type 0 where
@@ -23,7 +23,7 @@ is_live (word ∷ words) = bytes_eq word (codes "live")
 pub record IsCallDone {X Y : Type 0} (live : Bool) (words : List (List ℕ)) (reader : Reader) (Reads : ((List ℕ → Option (List ℕ)) → Type 0) → Type 0) (out : Writing X) (err : Writing Y) (status : ℕ) : Type 0 where
   pub answered : (r : AskedBytes) → is_run r.verb ≡ live → AsksFor words r → (status ≤ trouble_of r.verb) × (IsTrue reader.tells → IsWhole out → IsPutTo (IsReplyOrMemory reader.file r) out status)
   pub read : (r : AskedBytes) → is_run r.verb ≡ live → AsksFor words r → IsWhole out → Reads (λ file. IsPutTo (IsReplyOrMemory file r) out status)
-  pub quiet : (r : AskedBytes) → is_run r.verb ≡ live → AsksFor words r → Reads (λ file. TakesEach file r → status ≡ 0 → IsLeft err)
+  pub quiet : (r : AskedBytes) → is_run r.verb ≡ live → AsksFor words r → Reads (λ file. IsSilent file r → status ≡ 0 → IsLeft err)
   pub ends : EndsBy (if live then live_kinds_of_words words else kinds_of_words words) out err status
 
 -- the arguments went to the call that does the command which the first of them names

@@ -1,8 +1,10 @@
 -- What is answered to what is asked for.
-use Rattle.std.specs.Prelude.{◌∷◌, ⊤, ℕ, List, Bool, true, false, Option, Result}
+use Rattle.std.specs.Prelude.{◌≡◌, ◌≤◌, ◌∷◌, ⊤, ℕ, List, Bool, true, false, IfOk, Option, Result}
 use Rattle.a429_console.specs.Outputs.{FailedCalls, OrNoMemory}
 use Rattle.a429_console.specs.Replying.{RepliesByReader, RepliesToWords}
+use Rattle.a429_console.specs.RequestRows.{AsksFor}
 use Rattle.a429_console.specs.Requests.{AskedBytes}
+use Rattle.a429_console.specs.Usage.{is_run}
 use Rattle.a429_console.specs.declared.arguments.forms.Verb.{Verb}
 use Rattle.a429_console.specs.declared.arguments.forms.Verb.TheVariants as verb
 use Rattle.a429_console.specs.declared.files.FileFault.{FileFault}
@@ -18,10 +20,9 @@ use Rattle.a429_cli.specs.Findings.{IsDiffOf, IsLinted, IsNoDiff, IsNoLint}
 use Rattle.a429_cli.specs.Importing.{IsImported, IsNoImport}
 use Rattle.a429_live.specs.LiveReplies.{IsLiveReply, TakesLive}
 use Rattle.a429_replay.specs.Replaying.{IsReplay, TakesFurther}
-use Rattle.a429_recordings.specs.SimulationReplies.{IsSimulation, simulation_form}
-use Rattle.a429_recordings.specs.Surveys.{IsNoSurvey, survey_form}
+use Rattle.a429_recordings.specs.SimulationReplies.{IsSimulation, SimulatesSpacedWords, simulation_form}
 use Rattle.a429_cli.specs.JudgeAnswers.{IsJudgement, IsUnjudged}
-use Rattle.a429_cli.specs.SurveyReplies.{IsSurveyed}
+use Rattle.a429_cli.specs.SurveyReplies.{IsSurveyed, IsUnsurveyed}
 use Rattle.a429_cli.specs.WholeReplies.{IsReplyBy}
 use Rattle.a429_cli.specs.declared.plan_texts.PlanText.TheVariants as told
 
@@ -41,21 +42,25 @@ trouble_of verb.Diff = 2
 trouble_of verb.Judge = 2
 trouble_of _ = 1
 
+-- a request for another command than `live` ends with at most the status of its refusals
+abbrev pub HasStatusOf : {E : Type 0} → List (List ℕ) → Result ℕ E → Type 0
+HasStatusOf words result = (r : AskedBytes) → is_run r.verb ≡ false → AsksFor words r → IfOk result (λ status. status ≤ trouble_of r.verb)
+
 -- the status and the bytes of such an answer, by these files and by what the command is given
 abbrev pub IsAnswerOf : Verb → (List ℕ → Option (List ℕ)) → AskedBytes → ℕ → List ℕ → Type 0
 IsAnswerOf verb.Word file r = IsWordOf r.first
 IsAnswerOf verb.Encode file r = IsEncoded r.first r.options.fields
-IsAnswerOf verb.Import file r = IsImported file r.first
+IsAnswerOf verb.Import file r = IsImported file r.maps r.first
 IsAnswerOf verb.Plan file r = IsPlanTextOf file told.Plan r.first
 IsAnswerOf verb.Check file r = IsCheckOf file r.first r.second
-IsAnswerOf verb.Icd file r = IsPlanTextOf file (told.Document r.options.form) r.first
+IsAnswerOf verb.Icd file r = IsPlanTextOf file (told.Document r.options.form r.options.text) r.first
 IsAnswerOf verb.Margin file r = IsPlanTextOf file (told.Margin r.options.form) r.first
 IsAnswerOf verb.Load file r = IsLoadOf file r.options.limit r.options.form r.first
 IsAnswerOf verb.Slots file r = IsSlotsOf file (slots_form r.options) r.first r.options.group
 IsAnswerOf verb.Lint file r = IsLinted file r.options.form r.first
 IsAnswerOf verb.Diff file r = IsDiffOf file r.options.all r.options.form r.first r.second
 IsAnswerOf verb.Draw file r = IsImageOf file r.first r.options.group (picture_of r.options)
-IsAnswerOf verb.Survey file r = IsSurveyed file (r.first ∷ r.more) (survey_form r.options)
+IsAnswerOf verb.Survey file r = IsSurveyed file r
 IsAnswerOf verb.Judge file r = IsJudgement file r
 IsAnswerOf _ file r = λ status bytes. ⊥
 
@@ -63,13 +68,13 @@ IsAnswerOf _ file r = λ status bytes. ⊥
 abbrev pub IsNoAnswer : Verb → (List ℕ → Option (List ℕ)) → AskedBytes → CommandRefusal → Type 0
 IsNoAnswer verb.Word file r = IsNoWord r.first
 IsNoAnswer verb.Encode file r = IsNotEncoded r.first r.options.fields
-IsNoAnswer verb.Import file r = IsNoImport file r.first
+IsNoAnswer verb.Import file r = IsNoImport file r.maps r.first
 IsNoAnswer verb.Check file r = IsNoCheck file r.first r.second
 IsNoAnswer verb.Slots file r = IsNoSlots file r.first r.options.group
 IsNoAnswer verb.Lint file r = IsNoLint file r.first
 IsNoAnswer verb.Diff file r = IsNoDiff file r.first r.second
 IsNoAnswer verb.Draw file r = IsNoImage file r.first r.options.group (picture_of r.options)
-IsNoAnswer verb.Survey file r = IsNoSurvey file (r.first ∷ r.more) (survey_form r.options)
+IsNoAnswer verb.Survey file r = IsUnsurveyed file r
 IsNoAnswer verb.Judge file r = IsUnjudged file r
 IsNoAnswer _ file r = IsNoPlan file r.first
 
@@ -77,18 +82,20 @@ IsNoAnswer _ file r = IsNoPlan file r.first
 abbrev pub IsReplyOf : Verb → (List ℕ → Option (List ℕ)) → AskedBytes → ℕ → List ℕ → Type 0
 IsReplyOf verb.Lines file r = IsLinesReply file r.first r.more
 IsReplyOf verb.Replay file r = IsReplay file r.first r.second r.more
-IsReplyOf verb.Simulate file r = IsSimulation file r.first (r.second ∷ r.more) (simulation_form r.options)
+IsReplyOf verb.Simulate file r = IsSimulation file r.first (r.second ∷ r.more) r.channels (simulation_form r.options)
 IsReplyOf verb.Live file r = IsLiveReply file r
 IsReplyOf v file r = IsReplyBy (trouble_of v) (IsAnswerOf v file r) (IsNoAnswer v file r)
 
--- the station takes the plans of all further tables
-abbrev pub TakesTables : Verb → (List ℕ → Option (List ℕ)) → AskedBytes → Type 0
-TakesTables verb.Replay file r = TakesFurther file r.first r.second r.more
-TakesTables verb.Live file r = TakesLive file r
-TakesTables _ file r = ⊤
+-- a command has nothing to warn of: the station takes the plans of all further tables, and the words of the log are apart
+abbrev pub HasNoWarning : Verb → (List ℕ → Option (List ℕ)) → AskedBytes → Type 0
+HasNoWarning verb.Replay file r = TakesFurther file r.first r.second r.more
+HasNoWarning verb.Simulate file r = SimulatesSpacedWords file r.first (r.second ∷ r.more) r.channels (simulation_form r.options)
+HasNoWarning verb.Live file r = TakesLive file r
+HasNoWarning _ file r = ⊤
 
-abbrev pub TakesEach : (List ℕ → Option (List ℕ)) → AskedBytes → Type 0
-TakesEach file r = TakesTables r.verb file r
+-- what answers a request with status 0 writes nothing to standard error
+abbrev pub IsSilent : (List ℕ → Option (List ℕ)) → AskedBytes → Type 0
+IsSilent file r = HasNoWarning r.verb file r
 
 -- what answers a request, or that an allocation failed before anything was written
 abbrev pub IsReplyOrMemory : (List ℕ → Option (List ℕ)) → AskedBytes → ℕ → List ℕ → Type 0

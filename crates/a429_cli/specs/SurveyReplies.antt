@@ -1,8 +1,13 @@
 -- The command `survey`: its answer and its status.
-use Rattle.std.specs.Prelude.{◌≡◌, ℕ, List, Option}
-use Rattle.a429_recordings.specs.Surveys.{IsSurvey}
-use Rattle.a429_recordings.specs.declared.survey.SurveyForm.{SurveyForm}
+use Rattle.std.specs.Prelude.{◌≡◌, ◌∷◌, ℕ, List, Option}
+use Rattle.a429_console.specs.Requests.{AskedBytes}
+use Rattle.a429_console.specs.declared.refusals.CommandRefusal.{CommandRefusal}
+use Rattle.a429_recordings.specs.Surveys.{IsNoSurvey, IsSurvey, survey_form}
 
--- the sheet of the logs of these names, with status 0
-abbrev pub IsSurveyed : (List ℕ → Option (List ℕ)) → List (List ℕ) → SurveyForm → ℕ → List ℕ → Type 0
-IsSurveyed file names form status bytes = IsSurvey file names form bytes × (status ≡ 0)
+-- the sheet of the logs that a request names, with status 0
+abbrev pub IsSurveyed : (List ℕ → Option (List ℕ)) → AskedBytes → ℕ → List ℕ → Type 0
+IsSurveyed file r status bytes = IsSurvey file (r.first ∷ r.more) r.channels (survey_form r.options) bytes × (status ≡ 0)
+
+-- why there is none
+abbrev pub IsUnsurveyed : (List ℕ → Option (List ℕ)) → AskedBytes → CommandRefusal → Type 0
+IsUnsurveyed file r refusal = IsNoSurvey file (r.first ∷ r.more) r.channels (survey_form r.options) refusal

@@ -1,12 +1,13 @@
 //! Commands, from arguments and files to bytes.
-ghost use Rattle.std.specs.Prelude.{[], ◌≡◌, ◌≤◌, ◌+◌, ◌⊎◌, false, true, IfOk, IsTrue, OnErr, OnOk};
+ghost use Rattle.std.specs.Prelude.{[], ◌∷◌, ◌≡◌, ◌≤◌, ◌+◌, ◌⊎◌, false, true, IfOk, IsTrue, OnErr, OnOk};
 ghost use Rattle.a429_console.specs.Ends.{EndsBy, EndsOrFails, writing};
 ghost use Rattle.a429_console.specs.Files.{texts_of};
 ghost use Rattle.a429_console.specs.Outputs.{CountsFault, IsPut};
 ghost use Rattle.a429_console.specs.Readings.{HasRead, HasReadFrom};
 ghost use Rattle.a429_console.specs.RequestRows.{AsksFor};
 ghost use Rattle.a429_console.specs.Requests.{AskedBytes, asked_of};
-ghost use Rattle.a429_cli.specs.Replies.{IsAnswerOf, IsNoAnswer, IsReplyOrMemory, RepliesToCommand, RepliesToCommandByReader, TakesEach, is_whole, trouble_of};
+ghost use Rattle.a429_recordings.specs.LogItems.{channels_named, logs_named};
+ghost use Rattle.a429_cli.specs.Replies.{HasStatusOf, IsAnswerOf, IsNoAnswer, IsReplyOrMemory, RepliesToCommand, RepliesToCommandByReader, IsSilent, is_whole, trouble_of};
 ghost use Rattle.a429_cli.specs.WholeReplies.{Replies};
 ghost use Rattle.a429_console.specs.Usage.{elsewhere, is_run, kinds_of_words};
 
@@ -28,20 +29,20 @@ use a429_console::arguments::forms::Verb;
 use a429_console::arguments::replies::explain;
 use a429_console::arguments::requests::{Asked, other_call_error, parse};
 use a429_console::files::FileReader;
-use a429_console::hints::{FurtherFault, Hints, Seen, tell_hints};
+use a429_console::hints::warnings::Warning;
+use a429_console::hints::{Hints, Seen, tell_hints};
 use a429_console::output::endings::tell_fault;
 use a429_console::output::{Output, OutputFault};
 use a429_console::refusals::CommandRefusal;
-use a429_recordings::simulate::{SimulationForm, simulate};
-use a429_recordings::survey::SurveyForm;
+use a429_recordings::simulate::{LogNames, SimulationForm, simulate};
 use a429_replay::replay::replay;
 use std::alloc::Global;
 
 /// Runs a command: `words` are the arguments without the program's name. Answers, refusals and help that is asked for
-/// go to `out`. The text of a usage error, and what `hints` says about a refusal, go to `err`. The status is 0 if the
-/// command was done, 1 if it was refused, and 2 after a usage error. The command `live` is a usage error here. The
-/// status of `load`, `lint`, `diff` and `judge` is 1 if something was found, and 2 after a refusal. If the output or `err` fails, the
-/// status is 1 and nothing more is written there.
+/// go to `out`. The text of a usage error, what `hints` says about a refusal, and warnings go to `err`. The status is 0
+/// if the command was done, 1 if it was refused, and 2 after a usage error. The command `live` is a usage error here.
+/// The status of `load`, `lint`, `diff` and `judge` is 1 if something was found, and 2 after a refusal. If the output or
+/// `err` fails, the status is 1 and nothing more is written there.
 pub fn command<'a, H: Hints, F: FileReader, O: Output, V: Output>(
     alloc: Global,
     words: &'a [&'a str],
@@ -54,9 +55,9 @@ pub fn command<'a, H: Hints, F: FileReader, O: Output, V: Output>(
     ensures replied { RepliesToCommand F.tells F.file O.contents O.failures (texts_of words.entry.now) files.old out.old out.new result }
     // The same of a reader of any files: the answer is that of files which give what the reader answered in this call.
     ensures read { RepliesToCommandByReader F.answers O.contents O.failures (texts_of words.entry.now) files.old out.old out.new result }
-    // With status 0 nothing is written to `err`, if each further table was taken: that of any files which give what the reader answered.
+    // With status 0 nothing is written to `err`, if there is nothing to warn of in any files which give what the reader answered.
     ensures quiet { (r : AskedBytes) → is_run r.verb ≡ false → AsksFor (texts_of words.entry.now) r
-        → HasReadFrom F.answers (λ file. TakesEach file r → result ≡ 0 → err.new ≡ err.old) files.old }
+        → HasReadFrom F.answers (λ file. IsSilent file r → result ≡ 0 → err.new ≡ err.old) files.old }
     // The status is at most 1, or at most 2 of a command whose status 1 says that it found something.
     ensures asked { (r : AskedBytes) → is_run r.verb ≡ false → AsksFor (texts_of words.entry.now) r → result ≤ trouble_of r.verb }
     // How it ends: help, usage errors, failures of `out` or `err`, and what was passed on.
@@ -84,8 +85,8 @@ fn answer_words<'a, H: Hints, F: FileReader, O: Output, V: Output>(
     ensures read { (r : AskedBytes) → is_run r.verb ≡ false → AsksFor (texts_of words.entry.now) r
         → HasReadFrom F.answers (λ file. IfOk result (IsPut (IsReplyOrMemory file r) (O.contents out.old) (O.contents out.new))) files.old }
     ensures quiet { (r : AskedBytes) → is_run r.verb ≡ false → AsksFor (texts_of words.entry.now) r
-        → HasReadFrom F.answers (λ file. TakesEach file r → IfOk result (λ status. status ≡ 0 → err.new ≡ err.old)) files.old }
-    ensures asked { (r : AskedBytes) → is_run r.verb ≡ false → AsksFor (texts_of words.entry.now) r → IfOk result (λ status. status ≤ trouble_of r.verb) }
+        → HasReadFrom F.answers (λ file. IsSilent file r → IfOk result (λ status. status ≡ 0 → err.new ≡ err.old)) files.old }
+    ensures asked { HasStatusOf (texts_of words.entry.now) result }
     ensures ends { EndsOrFails (kinds_of_words (texts_of words.entry.now)) (writing O.contents O.failures O.is_flushed out.old out.new)
         (writing V.contents V.failures V.is_flushed err.old err.new) result }
 {
@@ -106,7 +107,7 @@ fn answer_here<H: Hints, F: FileReader, O: Output, V: Output>(
 ) -> Result<u8, OutputFault>
     ensures read { is_run asked.now.verb ≡ false → HasReadFrom F.answers (λ file. IfOk result
         (IsPut (IsReplyOrMemory file (asked_of asked.now)) (O.contents out.old) (O.contents out.new))) files.old }
-    ensures quiet { is_run asked.now.verb ≡ false → HasReadFrom F.answers (λ file. TakesEach file (asked_of asked.now)
+    ensures quiet { is_run asked.now.verb ≡ false → HasReadFrom F.answers (λ file. IsSilent file (asked_of asked.now)
         → IfOk result (λ status. status ≡ 0 → err.new ≡ err.old)) files.old }
     ensures asked { is_run asked.now.verb ≡ false → IfOk result (λ status. status ≤ trouble_of asked.now.verb) }
     ensures ends { EndsOrFails (elsewhere (is_run asked.now.verb)) (writing O.contents O.failures O.is_flushed out.old out.new)
@@ -120,27 +121,26 @@ fn answer_here<H: Hints, F: FileReader, O: Output, V: Output>(
     }
 }
 
-/// Writes to `err` what can be done about a refusal, or about that of a further table, if the output took the answer.
+/// Writes to `err` what can be done about a refusal, or warnings, if the output took the answer.
 fn tell_result<H: Hints, V: Output>(
     alloc: Global,
     asked: &Asked,
     answered: Result<u8, OutputFault>,
     seen: &Seen,
-    faults: &[FurtherFault],
+    warnings: &[Warning],
     hints: &H,
     err: &mut V,
 )
-    ensures quiet { faults.now ≡ [] → IfOk answered (λ status. status ≡ 0 → err.new ≡ err.old) }
+    ensures quiet { warnings.now ≡ [] → IfOk answered (λ status. status ≡ 0 → err.new ≡ err.old) }
     ensures left { OnErr answered (err.new ≡ err.old) }
     ensures once { (V.failures err.new).count ≤ (V.failures err.old).count + 1 }
 {
     if let Ok(status) = answered {
-        tell_hints(alloc, asked, status, seen, faults, hints, err);
+        tell_hints(alloc, asked, status, seen, warnings, hints, err);
     }
 }
 
-/// Answers what `command` is asked for. After a refusal, or that of a further table, it writes to `err` what can be
-/// done about it.
+/// Answers what `command` is asked for. After a refusal it writes to `err` what can be done about it, otherwise warnings.
 fn answer_with_hint<H: Hints, F: FileReader, O: Output, V: Output>(
     alloc: Global,
     asked: &Asked,
@@ -156,18 +156,18 @@ fn answer_with_hint<H: Hints, F: FileReader, O: Output, V: Output>(
     ensures few { IfOk result (λ status. status ≤ 2) }
     ensures flushed { OnOk result (IsTrue (O.is_flushed out.new)) }
     ensures faults { CountsFault result (O.failures out.old) (O.failures out.new) }
-    ensures quiet { HasReadFrom F.answers (λ file. TakesEach file (asked_of asked.now)
+    ensures quiet { HasReadFrom F.answers (λ file. IsSilent file (asked_of asked.now)
         → IfOk result (λ status. status ≡ 0 → err.new ≡ err.old)) files.old }
     ensures left { OnErr result (err.new ≡ err.old) }
     ensures once { (V.failures err.new).count ≤ (V.failures err.old).count + 1 }
 {
-    let mut seen = Seen::nothing(alloc);
-    let mut faults = Vec::new(alloc);
-    let result = answer(alloc, asked, files, &mut seen, &mut faults, out);
-    tell_result(alloc, asked, result, &seen, &faults, hints, err);
+    let mut seen = Seen::nothing();
+    let mut warnings = Vec::new(alloc);
+    let result = answer(alloc, asked, files, &mut seen, &mut warnings, out);
+    tell_result(alloc, asked, result, &seen, &warnings, hints, err);
     // `drop` keeps the proof short: a drop in place goes through all parts.
     drop(seen);
-    drop(faults);
+    drop(warnings);
     result
 }
 
@@ -185,7 +185,7 @@ fn reply_to<F: FileReader>(
     let Asked {
         first,
         second,
-        more,
+        maps,
         options,
         ..
     } = asked;
@@ -193,10 +193,13 @@ fn reply_to<F: FileReader>(
     match asked.verb {
         Verb::Word => word_reply(alloc, first),
         Verb::Encode => encode_reply(alloc, first, &options.fields),
-        Verb::Import => import_reply(alloc, files, first, seen),
+        Verb::Import => import_reply(alloc, files, first, maps, seen),
         Verb::Plan => plan_reply(alloc, files, first, PlanText::Plan, seen),
         Verb::Check => check_reply(alloc, files, first, second, seen),
-        Verb::Icd => plan_reply(alloc, files, first, PlanText::Document(form), seen),
+        Verb::Icd => {
+            let kind = PlanText::Document(form, options.text);
+            plan_reply(alloc, files, first, kind, seen)
+        }
         Verb::Margin => plan_reply(alloc, files, first, PlanText::Margin(form), seen),
         Verb::Load => load_reply(alloc, files, first, options.limit, form, seen),
         Verb::Slots => {
@@ -209,10 +212,7 @@ fn reply_to<F: FileReader>(
             let picture = Picture::of(options);
             drawing_reply(alloc, files, first, options.group, picture, seen)
         }
-        Verb::Survey => {
-            let survey = SurveyForm::of(options);
-            survey_reply(alloc, files, first, more, survey, seen)
-        }
+        Verb::Survey => survey_reply(alloc, files, asked, seen),
         Verb::Judge => judge_reply(alloc, files, asked, seen),
         Verb::Lines | Verb::Replay | Verb::Simulate | Verb::Live => unreachable!(),
     }
@@ -238,21 +238,33 @@ fn answer_whole<F: FileReader, O: Output>(
     put_reply(alloc, reply, trouble_of(asked.verb), seen, out)
 }
 
+/// The names of the logs that a request has after its table.
+fn simulated_logs<'a>(asked: &'a Asked) -> LogNames<'a>
+    ensures logs { logs_named result ≡ (asked_of asked.now).second ∷ (asked_of asked.now).more }
+    ensures channels { channels_named result ≡ (asked_of asked.now).channels }
+{
+    LogNames {
+        first: asked.second,
+        more: &asked.more,
+        channels: &asked.channels,
+    }
+}
+
 /// Answers by a command that prints line by line.
 fn answer_by_lines<F: FileReader, O: Output>(
     alloc: Global,
     asked: &Asked,
     files: &mut F,
     seen: &mut Seen,
-    faults: &mut Vec<FurtherFault>,
+    warnings: &mut Vec<Warning>,
     out: &mut O,
 ) -> Result<u8, OutputFault>
     requires run { is_run asked.now.verb ≡ false }
     requires whole { is_whole asked.now.verb ≡ false }
     ensures read { HasRead F.answers (λ file. IfOk result
         (IsPut (IsReplyOrMemory file (asked_of asked.now)) (O.contents out.old) (O.contents out.new))) files.old files.new }
-    ensures taken { HasRead F.answers (λ file. TakesEach file (asked_of asked.now)
-        → faults.new.items ≡ faults.old.items) files.old files.new }
+    ensures silent { HasRead F.answers (λ file. IsSilent file (asked_of asked.now)
+        → warnings.new.items ≡ warnings.old.items) files.old files.new }
     ensures status { IfOk result (λ status. status ≤ 1) }
     ensures flushed { OnOk result (IsTrue (O.is_flushed out.new)) }
     ensures faults { CountsFault result (O.failures out.old) (O.failures out.new) }
@@ -266,10 +278,19 @@ fn answer_by_lines<F: FileReader, O: Output>(
     } = asked;
     match asked.verb {
         Verb::Lines => tell_lines(alloc, files, first, more, seen, out),
-        Verb::Replay => replay(alloc, files, first, second, more, seen, faults, out),
+        Verb::Replay => replay(alloc, files, first, second, more, seen, warnings, out),
         Verb::Simulate => {
             let form = SimulationForm::of(options);
-            simulate(alloc, files, first, second, more, form, seen, out)
+            simulate(
+                alloc,
+                files,
+                first,
+                simulated_logs(asked),
+                form,
+                seen,
+                warnings,
+                out,
+            )
         }
         _ => unreachable!(),
     }
@@ -281,14 +302,14 @@ fn answer<F: FileReader, O: Output>(
     asked: &Asked,
     files: &mut F,
     seen: &mut Seen,
-    faults: &mut Vec<FurtherFault>,
+    warnings: &mut Vec<Warning>,
     out: &mut O,
 ) -> Result<u8, OutputFault>
     requires { is_run asked.now.verb ≡ false }
     ensures read { HasRead F.answers (λ file. IfOk result
         (IsPut (IsReplyOrMemory file (asked_of asked.now)) (O.contents out.old) (O.contents out.new))) files.old files.new }
-    ensures taken { HasRead F.answers (λ file. TakesEach file (asked_of asked.now)
-        → faults.new.items ≡ faults.old.items) files.old files.new }
+    ensures silent { HasRead F.answers (λ file. IsSilent file (asked_of asked.now)
+        → warnings.new.items ≡ warnings.old.items) files.old files.new }
     ensures status { IfOk result (λ status. status ≤ trouble_of asked.now.verb) }
     ensures few { IfOk result (λ status. status ≤ 2) }
     ensures flushed { OnOk result (IsTrue (O.is_flushed out.new)) }
@@ -297,6 +318,6 @@ fn answer<F: FileReader, O: Output>(
     if is_whole(asked.verb) {
         answer_whole(alloc, asked, files, seen, out)
     } else {
-        answer_by_lines(alloc, asked, files, seen, faults, out)
+        answer_by_lines(alloc, asked, files, seen, warnings, out)
     }
 }

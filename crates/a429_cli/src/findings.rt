@@ -2,7 +2,7 @@
 ghost use Rattle.std.specs.Prelude.{◌≡◌, ◌≤◌, IfOk, MatchResult};
 ghost use Rattle.a429_console.specs.Readings.{HasRead};
 ghost use Rattle.a429_console.specs.RefusalText.{OrMemory};
-ghost use Rattle.a429_cli.specs.Findings.{IsDiffBetween, IsDiffOf, IsFound, IsLint, IsLinted, IsNoDiff, IsNoDiffBetween, IsNoLint, found_status, names_of};
+ghost use Rattle.a429_cli.specs.Findings.{AnswersDiff, IsDiffBetween, IsFound, IsLint, IsLinted, IsNoDiffBetween, IsNoLint, found_status, names_of};
 ghost use Rattle.a429_cli.specs.WholeReplies.{Replies};
 
 use crate::replies::reply::Reply;
@@ -96,7 +96,7 @@ pub fn diff_reply<F: FileReader>(
     form: SheetForm,
     seen: &mut Seen,
 ) -> Result<Reply, CommandRefusal>
-    ensures { HasRead F.answers (λ file. Replies (IsDiffOf file all form table.now other.now) (IsNoDiff file table.now other.now) result) files.old files.new }
+    ensures { HasRead F.answers (λ file. AnswersDiff file all form table.now other.now result) files.old files.new }
 {
     let table = read_file(alloc, files, table, seen)?;
     let other = read_file(alloc, files, other, seen)?;

@@ -1,8 +1,8 @@
 //! The command `import`: an equipment table from rows of comma-separated values.
 ghost use Rattle.std.specs.Prelude.{◌≡◌};
 ghost use Rattle.a429_console.specs.Readings.{HasRead};
-ghost use Rattle.a429_cli.specs.Importing.{IsImported, IsNoImport, csv_kind, import_refusal};
-ghost use Rattle.a429_cli.specs.WholeReplies.{Replies};
+ghost use Rattle.a429_cli.specs.Importing.{IsImportReply, csv_kind, import_refusal};
+ghost use Rattle.a429_import.specs.ImportMaps.{given_texts};
 
 use crate::replies::reply::Reply;
 use a429_console::files::FileReader;
@@ -34,6 +34,10 @@ fn import_refusal(fault: &ImportFault) -> CommandRefusal
             line: *line,
             kind: csv_kind(*kind),
         },
+        ImportFault::Wide { line } => CommandRefusal::Csv {
+            line: *line,
+            kind: CsvKind::Wide,
+        },
         ImportFault::Table(TableFault::NoMemory) => CommandRefusal::Memory,
         ImportFault::Table(TableFault::At(kind, place)) => CommandRefusal::Table(*kind, *place),
     }
@@ -51,18 +55,19 @@ fn seen_rows(bytes: Vec<u8>, fault: &ImportFault) -> SeenRows {
     }
 }
 
-/// The table that the rows in a file state, with status 0. The file is refused first, then the first of the rows that has a
+/// The table that the rows in a file state, with status 0. Their heading is read by texts HEADING=COLUMN. The file is refused first, then the first of the rows that has a
 /// fault, then the table.
 pub fn import_reply<F: FileReader>(
     alloc: Global,
     files: &mut F,
     name: &str,
+    maps: &[&str],
     seen: &mut Seen,
 ) -> Result<Reply, CommandRefusal>
-    ensures { HasRead F.answers (λ file. Replies (IsImported file name.now) (IsNoImport file name.now) result) files.old files.new }
+    ensures { HasRead F.answers (λ file. IsImportReply file (given_texts maps.now) name.now result) files.old files.new }
 {
     let bytes = read_file(alloc, files, name, seen)?;
-    match import_table(alloc, &bytes) {
+    match import_table(alloc, maps, &bytes) {
         Ok(text) => Ok(Reply::done(text)),
         Err(fault) => {
             seen.rows = Some(seen_rows(bytes, &fault));

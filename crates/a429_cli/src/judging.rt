@@ -31,6 +31,7 @@ fn names_in<'a>(asked: &'a Asked) -> JudgeNames<'a>
         more_heard: &asked.inputs,
         sent: asked.third,
         more_sent: &asked.more,
+        channels: &asked.channels,
     }
 }
 

@@ -7,7 +7,7 @@ ghost use Rattle.a429_console.specs.Readings.{HasReadFrom};
 ghost use Rattle.a429_console.specs.RequestRows.{AsksFor};
 ghost use Rattle.a429_console.specs.Requests.{AskedBytes, asked_of};
 ghost use Rattle.a429_live.specs.LiveReplies.{IsLiveReply, TakesLive};
-ghost use Rattle.a429_cli.specs.Replies.{IsReplyOrMemory, RepliesToLive, RepliesToLiveByReader, TakesEach};
+ghost use Rattle.a429_cli.specs.Replies.{IsReplyOrMemory, RepliesToLive, RepliesToLiveByReader, IsSilent};
 ghost use Rattle.a429_console.specs.Usage.{elsewhere, is_run, live_kinds_of_words};
 
 use crate::runs::is_run;
@@ -46,9 +46,9 @@ pub fn command_live<
     ensures replied { RepliesToLive F.tells F.file O.contents O.failures (texts_of words.entry.now) files.old out.old out.new result }
     // The same of a reader of any files: the answer is that of files which give what the reader answered in this call.
     ensures read { RepliesToLiveByReader F.answers O.contents O.failures (texts_of words.entry.now) files.old out.old out.new result }
-    // With status 0 nothing is written to `err`, if each further table was taken: that of any files which give what the reader answered.
+    // With status 0 nothing is written to `err`, if there is nothing to warn of in any files which give what the reader answered.
     ensures quiet { (r : AskedBytes) → is_run r.verb ≡ true → AsksFor (texts_of words.entry.now) r
-        → HasReadFrom F.answers (λ file. TakesEach file r → result ≡ 0 → err.new ≡ err.old) files.old }
+        → HasReadFrom F.answers (λ file. IsSilent file r → result ≡ 0 → err.new ≡ err.old) files.old }
     ensures asked { (r : AskedBytes) → is_run r.verb ≡ true → AsksFor (texts_of words.entry.now) r → result ≤ 1 }
     // How it ends: help, usage errors, failures of `out` or `err`, and what was passed on.
     ensures ends { EndsBy (live_kinds_of_words (texts_of words.entry.now)) (writing O.contents O.failures O.is_flushed out.old out.new)
@@ -85,7 +85,7 @@ fn run_words<
     ensures read { (r : AskedBytes) → is_run r.verb ≡ true → AsksFor (texts_of words.entry.now) r
         → HasReadFrom F.answers (λ file. IfOk result (IsPut (IsReplyOrMemory file r) (O.contents out.old) (O.contents out.new))) files.old }
     ensures quiet { (r : AskedBytes) → is_run r.verb ≡ true → AsksFor (texts_of words.entry.now) r
-        → HasReadFrom F.answers (λ file. TakesEach file r → IfOk result (λ status. status ≡ 0 → err.new ≡ err.old)) files.old }
+        → HasReadFrom F.answers (λ file. IsSilent file r → IfOk result (λ status. status ≡ 0 → err.new ≡ err.old)) files.old }
     ensures asked { (r : AskedBytes) → is_run r.verb ≡ true → AsksFor (texts_of words.entry.now) r → IfOk result (λ status. status ≤ 1) }
     ensures ends { EndsOrFails (live_kinds_of_words (texts_of words.entry.now)) (writing O.contents O.failures O.is_flushed out.old out.new)
         (writing V.contents V.failures V.is_flushed err.old err.new) result }
@@ -152,23 +152,23 @@ fn run_with_hint<
     ensures left { OnErr result (err.new ≡ err.old) }
     ensures once { (V.failures err.new).count ≤ (V.failures err.old).count + 1 }
 {
-    let mut seen = Seen::nothing(alloc);
-    let mut faults = Vec::new(alloc);
+    let mut seen = Seen::nothing();
+    let mut warnings = Vec::new(alloc);
     let result = run_station(
         rt,
         alloc,
         files,
         asked,
         &mut seen,
-        &mut faults,
+        &mut warnings,
         out,
         progress,
     );
     if let Ok(status) = result {
-        tell_hints(alloc, asked, status, &seen, &faults, hints, err);
+        tell_hints(alloc, asked, status, &seen, &warnings, hints, err);
     }
     // `drop` keeps the proof short: a drop in place goes through all parts.
     drop(seen);
-    drop(faults);
+    drop(warnings);
     result
 }

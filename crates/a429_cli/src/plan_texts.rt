@@ -4,7 +4,7 @@ ghost use Rattle.std.specs.Io.KnownBytes.{Appends};
 ghost use Rattle.a429_cert.specs.Judged.{IsVerdictOnBytes};
 ghost use Rattle.a429_cert.specs.Printed.{verdict_text};
 ghost use Rattle.a429_console.specs.Readings.{HasRead};
-ghost use Rattle.a429_cli.specs.PlanReplies.{IsCheckOf, IsJudging, IsNoCheck, IsNoPlan, IsPlanTextOf, IsTextOf, IsUnjudged, IsVerdictReply, verdict_status};
+ghost use Rattle.a429_cli.specs.PlanReplies.{AnswersCheck, IsJudging, IsNoPlan, IsPlanTextOf, IsTextOf, IsUnjudged, IsVerdictReply, verdict_status};
 ghost use Rattle.a429_cli.specs.WholeReplies.{Replies};
 ghost use Rattle.a429_console.specs.RefusalText.{OrMemory};
 ghost use Rattle.a429_console.specs.Tables.{IsUnfitNamed};
@@ -29,8 +29,8 @@ use std::io::Write;
 pub enum PlanText {
     /// The plan itself, with its bounds.
     Plan,
-    /// The data of each output for an interface control document.
-    Document(SheetForm),
+    /// The data of each output for an interface control document, and whether a spreadsheet is to keep the zeros of labels.
+    Document(SheetForm, bool),
     /// What would save a bus in each group.
     Margin(SheetForm),
 }
@@ -45,7 +45,9 @@ fn text_of(
 {
     match kind {
         PlanText::Plan => plan_text(alloc, proposal),
-        PlanText::Document(form) => icd_sheet(alloc, proposal).render(alloc, form),
+        PlanText::Document(form, keeps_zeros) => {
+            icd_sheet(alloc, proposal, keeps_zeros).render(alloc, form)
+        }
         PlanText::Margin(form) => margin_sheet(alloc, proposal)?.render(alloc, form),
     }
 }
@@ -173,7 +175,7 @@ pub fn check_reply<F: FileReader>(
     plan: &str,
     seen: &mut Seen,
 ) -> Result<Reply, CommandRefusal>
-    ensures { HasRead F.answers (λ file. Replies (IsCheckOf file table.now plan.now) (IsNoCheck file table.now plan.now) result) files.old files.new }
+    ensures { HasRead F.answers (λ file. AnswersCheck file table.now plan.now result) files.old files.new }
 {
     let verdict = verdict_on_files(alloc, files, table, plan, seen)?;
     seen.objection = objection_to(verdict);

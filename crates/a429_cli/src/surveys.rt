@@ -1,32 +1,44 @@
 //! The command `survey`.
 ghost use Rattle.std.specs.Prelude.{◌≡◌, ◌∷◌};
-ghost use Rattle.a429_console.specs.Files.{texts_of};
 ghost use Rattle.a429_console.specs.Readings.{HasRead};
-ghost use Rattle.a429_recordings.specs.Surveys.{IsNoSurvey};
-ghost use Rattle.a429_cli.specs.SurveyReplies.{IsSurveyed};
+ghost use Rattle.a429_console.specs.Requests.{asked_of};
+ghost use Rattle.a429_recordings.specs.LogItems.{channels_named, logs_named};
+ghost use Rattle.a429_cli.specs.SurveyReplies.{IsSurveyed, IsUnsurveyed};
 ghost use Rattle.a429_cli.specs.WholeReplies.{Replies};
 
 use crate::replies::reply::Reply;
+use a429_console::arguments::requests::Asked;
 use a429_console::files::FileReader;
 use a429_console::hints::Seen;
 use a429_console::refusals::CommandRefusal;
-use a429_recordings::survey::{SurveyForm, survey_logs};
+use a429_recordings::survey::{LogNames, SurveyForm, survey_logs};
 use std::alloc::Global;
+
+/// The names of the logs that a request has.
+fn names_in<'a>(asked: &'a Asked) -> LogNames<'a>
+    ensures logs { logs_named result ≡ (asked_of asked.now).first ∷ (asked_of asked.now).more }
+    ensures channels { channels_named result ≡ (asked_of asked.now).channels }
+{
+    LogNames {
+        first: asked.first,
+        more: &asked.more,
+        channels: &asked.channels,
+    }
+}
 
 /// What is on the lines of a log and of those that follow it, with status 0. The files are refused first, then the first
 /// faulty line.
-pub fn survey_reply<'a, F: FileReader>(
+pub fn survey_reply<F: FileReader>(
     alloc: Global,
     files: &mut F,
-    log: &'a str,
-    more: &'a [&'a str],
-    form: SurveyForm,
+    asked: &Asked,
     seen: &mut Seen,
 ) -> Result<Reply, CommandRefusal>
-    ensures { HasRead F.answers (λ file. Replies (IsSurveyed file (log.now ∷ texts_of more.now) form)
-        (IsNoSurvey file (log.now ∷ texts_of more.now) form) result) files.old files.new }
+    ensures { HasRead F.answers (λ file. Replies (IsSurveyed file (asked_of asked.now))
+        (IsUnsurveyed file (asked_of asked.now)) result) files.old files.new }
 {
-    match survey_logs(alloc, files, log, more, form, seen) {
+    let form = SurveyForm::of(&asked.options);
+    match survey_logs(alloc, files, names_in(asked), form, seen) {
         Ok(text) => Ok(Reply::done(text)),
         Err(refusal) => Err(refusal),
     }

@@ -35,10 +35,13 @@ replay_has_words table script a b = record {
   number = refl;
   more = tt;
   inputs = refl;
+  channels = refl;
+  maps = refl;
   options = can_give_nothing;
   summarized = λ _ json. absurd (false≢true json);
   coded = λ code. absurd (false≢true code);
   widened = λ given. absurd (false≢true given);
+  separated = λ text. absurd (false≢true text);
   encoded = λ made. absurd (cc made);
   others = λ name none. nothing_given name;
 }

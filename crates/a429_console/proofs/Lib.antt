@@ -22,6 +22,8 @@ pub mod OptionWords
 pub mod FoundRows
 pub mod CommandFacts
 pub mod PassingOptions
+pub mod WordRows
+pub mod FoundOptions
 pub mod AskedWords
 pub mod NoOptions
 pub mod MetCommands

@@ -59,7 +59,7 @@ kinds_met found name rows choices is_elsewhere is given = rw (is, given) refl
 -- options have the choices that their rows give
 pub choices_are : (name : Text) (rows : List Row) (o : OptionBytes) → AreOptions name rows o → choices_given name rows ≡ Some (record { width = o.width; time = o.time; from = o.from; form = o.form })
 unfolding choices_given
-choices_are name rows o are = rw (are.value, are.width, are.time, are.from, are.form) refl
+choices_are name rows o are = rw (are.taken, are.width, are.time, are.from, are.form) refl
 
 pub are_chosen : (name : Text) (rows : List Row) (o : OptionBytes) (choices : Choices) → choices_given name rows ≡ Some choices → AreOptions name rows o → IsChosen choices o
 are_chosen name rows o choices given are =

@@ -8,7 +8,7 @@ use Rattle.clap.specs.Simple.{filled}
 use Rattle.clap.specs.Takes.{value_passes}
 use Rattle.clap.specs.Walk.{Held, Waiting, arg_by_id, arg_by_long, has_row, idle}
 use Rattle.clap.proofs.OnLiterals.{clap_on_literals}
-use Rattle.a429_console.specs.CommandLine.{All, Bcd, Bits, Bnr, Code, Csv, Data, Events, From, Group, Html, Inputs, Json, Limit, OptionName, Rate, Rows, Sdi, Slack, Slots, Ssm, Summary, Time, Tolerance, Until, Width, option_rule}
+use Rattle.a429_console.specs.CommandLine.{All, AsText, Bcd, Bits, Bnr, Channels, Code, Csv, Data, Events, From, Group, Html, Inputs, Json, Limit, Maps, OptionName, Rate, Rows, Sdi, Slack, Slots, Ssm, Summary, Time, Tolerance, Until, Width, option_rule}
 use Rattle.a429_console.specs.Requests.{OptionBytes, flag_word, is_csv, is_flag, is_json, option_words, word_given, words_of_options}
 use Rattle.a429_console.proofs.CommandWords.{row}
 use Rattle.a429_console.proofs.PlainWords.{IsPlainWord, TakesValues, at_word, for_none}
@@ -27,30 +27,7 @@ built_option name = filled (option_rule name)
 is_option : (name : OptionName) → IsOption (built_option name)
 unfolding clap_on_literals
 is_option Csv = record { no_end = refl; long = refl }
-is_option Json = record { no_end = refl; long = refl }
-is_option All = record { no_end = refl; long = refl }
-is_option Group = record { no_end = refl; long = refl }
-is_option Slots = record { no_end = refl; long = refl }
-is_option Width = record { no_end = refl; long = refl }
-is_option Html = record { no_end = refl; long = refl }
-is_option Time = record { no_end = refl; long = refl }
-is_option From = record { no_end = refl; long = refl }
-is_option Until = record { no_end = refl; long = refl }
-is_option Summary = record { no_end = refl; long = refl }
-is_option Code = record { no_end = refl; long = refl }
-is_option Limit = record { no_end = refl; long = refl }
-is_option Rate = record { no_end = refl; long = refl }
-is_option Rows = record { no_end = refl; long = refl }
-is_option Slack = record { no_end = refl; long = refl }
-is_option Inputs = record { no_end = refl; long = refl }
-is_option Tolerance = record { no_end = refl; long = refl }
-is_option Events = record { no_end = refl; long = refl }
-is_option Sdi = record { no_end = refl; long = refl }
-is_option Ssm = record { no_end = refl; long = refl }
-is_option Data = record { no_end = refl; long = refl }
-is_option Bnr = record { no_end = refl; long = refl }
-is_option Bits = record { no_end = refl; long = refl }
-is_option Bcd = record { no_end = refl; long = refl }
+is_option _ = record { no_end = refl; long = refl }
 
 -- an option has a value or none, as its rule says
 abbrev pub KindOf : Rule → Bool → Type 0
@@ -61,6 +38,8 @@ KindOf a false = IsSingle a
 kind_of_option : (o : OptionBytes) (name : OptionName) (word : Text) → word_given o name ≡ Some word → KindOf (built_option name) (is_flag name)
 unfolding clap_on_literals
 kind_of_option o Inputs word given = absurd (cc given)
+kind_of_option o Channels word given = absurd (cc given)
+kind_of_option o Maps word given = absurd (cc given)
 kind_of_option o Csv word given = record { range = refl; action = refl; reading = refl; missing = refl; passes = refl }
 kind_of_option o Json word given = record { range = refl; action = refl; reading = refl; missing = refl; passes = refl }
 kind_of_option o All word given = record { range = refl; action = refl; reading = refl; missing = refl; passes = refl }
@@ -69,6 +48,7 @@ kind_of_option o Summary word given = record { range = refl; action = refl; read
 kind_of_option o Code word given = record { range = refl; action = refl; reading = refl; missing = refl; passes = refl }
 kind_of_option o Rows word given = record { range = refl; action = refl; reading = refl; missing = refl; passes = refl }
 kind_of_option o Events word given = record { range = refl; action = refl; reading = refl; missing = refl; passes = refl }
+kind_of_option o AsText word given = record { range = refl; action = refl; reading = refl; missing = refl; passes = refl }
 kind_of_option o _ word given = record { range = refl; action = refl; reading = refl; trailing = refl }
 
 -- no two have one name
@@ -92,6 +72,9 @@ same_option Slack Slack is = refl
 same_option Inputs Inputs is = refl
 same_option Tolerance Tolerance is = refl
 same_option Events Events is = refl
+same_option Channels Channels is = refl
+same_option Maps Maps is = refl
+same_option AsText AsText is = refl
 same_option Sdi Sdi is = refl
 same_option Ssm Ssm is = refl
 same_option Data Data is = refl
@@ -113,6 +96,7 @@ flag_is_true Summary o word flag given = flag_text o.summary word given
 flag_is_true Code o word flag given = flag_text o.code word given
 flag_is_true Rows o word flag given = flag_text o.rows word given
 flag_is_true Events o word flag given = flag_text o.events word given
+flag_is_true AsText o word flag given = flag_text o.text word given
 flag_is_true _ o word flag given = absurd (cc flag)
 
 -- ---- the words of several

@@ -6,6 +6,8 @@ use Rattle.clap.specs.declared.builder.action.ArgAction.TheVariants.{Append, Set
 use Rattle.clap.specs.declared.builder.value_parser.ValueParser.TheVariants as reads
 use Rattle.a429_equipment.specs.Limits.{most_frames}
 use Rattle.a429_console.specs.declared.arguments.forms.CommandForm.{CommandForm}
+use Rattle.a429_console.specs.declared.arguments.forms.NameForm.{NameForm}
+use Rattle.a429_console.specs.declared.arguments.forms.NumberForm.{NumberForm}
 use Rattle.a429_console.specs.declared.arguments.forms.OptionForm.{OptionForm}
 use Rattle.a429_console.specs.declared.arguments.forms.OptionKind.{OptionKind}
 use Rattle.a429_console.specs.declared.arguments.forms.OptionKind.TheVariants as given
@@ -96,6 +98,9 @@ pub data OptionName : Type 0 where
   Rows : OptionName
   Slack : OptionName
   Inputs : OptionName
+  Channels : OptionName
+  Maps : OptionName
+  AsText : OptionName
   Tolerance : OptionName
   Events : OptionName
   Sdi : OptionName
@@ -123,6 +128,9 @@ option_rule Rate = number_value_rule (codes "rate") least_rate most_rate
 option_rule Rows = flag_rule (codes "rows")
 option_rule Slack = number_value_rule (codes "slack") 0 most_slack
 option_rule Inputs = values_rule (codes "in")
+option_rule Channels = values_rule (codes "channel")
+option_rule Maps = values_rule (codes "map")
+option_rule AsText = flag_rule (codes "text")
 option_rule Tolerance = number_value_rule (codes "tolerance") 0 most_tolerance
 option_rule Events = flag_rule (codes "events")
 option_rule Sdi = number_value_rule (codes "sdi") 0 most_pair
@@ -137,16 +145,17 @@ option_rule Bcd = value_rule (codes "bcd")
 -- the options of a command, in the order in which help lists them
 abbrev pub options_of : Verb → List OptionName
 options_of verb.Encode = Sdi ∷ Ssm ∷ Data ∷ Bnr ∷ Bits ∷ Bcd ∷ []
-options_of verb.Icd = Csv ∷ Json ∷ []
+options_of verb.Import = Maps ∷ []
+options_of verb.Icd = Csv ∷ AsText ∷ Json ∷ []
 options_of verb.Margin = Csv ∷ Json ∷ []
 options_of verb.Load = Limit ∷ Csv ∷ Json ∷ []
 options_of verb.Slots = Group ∷ All ∷ Code ∷ Csv ∷ Json ∷ []
 options_of verb.Lint = Csv ∷ Json ∷ []
 options_of verb.Diff = All ∷ Csv ∷ Json ∷ []
 options_of verb.Draw = Group ∷ Slots ∷ Width ∷ Html ∷ []
-options_of verb.Simulate = Time ∷ From ∷ Until ∷ Summary ∷ Csv ∷ Json ∷ []
-options_of verb.Survey = Time ∷ From ∷ Rate ∷ Rows ∷ Slack ∷ Csv ∷ Json ∷ []
-options_of verb.Judge = Inputs ∷ Tolerance ∷ Events ∷ Time ∷ From ∷ Csv ∷ Json ∷ []
+options_of verb.Simulate = Time ∷ From ∷ Channels ∷ Until ∷ Summary ∷ Csv ∷ Json ∷ []
+options_of verb.Survey = Time ∷ From ∷ Channels ∷ Rate ∷ Rows ∷ Slack ∷ Csv ∷ Json ∷ []
+options_of verb.Judge = Inputs ∷ Tolerance ∷ Events ∷ Time ∷ From ∷ Channels ∷ Csv ∷ Json ∷ []
 options_of _ = []
 
 -- what a command is given: one to three names, perhaps a number up to the most, perhaps as many names as one likes, and options
@@ -242,14 +251,21 @@ kind_rule id (given.Number value least most) = number_value_rule id least most
 abbrev pub form_rule : OptionForm → Rule
 form_rule form = kind_rule form.id.now form.kind
 
+-- the name of an argument, if there is one, and that of a number with the most that it may be
+abbrev pub name_id : Option NameForm → Option Text
+name_id form = option_map (λ n. n.id.now) form
+
+abbrev pub number_id : Option NumberForm → Option (Text × ℕ)
+number_id form = option_map (λ n. (n.id.now, n.most)) form
+
 abbrev pub form_row : CommandForm → CommandRow
 form_row form = record {
   name = form.name.now;
   first = form.first.id.now;
-  second = option_map (λ n. n.id.now) form.second;
-  third = option_map (λ n. n.id.now) form.third;
-  number = option_map (λ n. (n.id.now, n.most)) form.number;
-  more = option_map (λ n. n.id.now) form.more;
+  second = name_id form.second;
+  third = name_id form.third;
+  number = number_id form.number;
+  more = name_id form.more;
   options = map form_rule form.options.now;
 }
 

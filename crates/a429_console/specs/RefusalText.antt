@@ -14,6 +14,7 @@ abbrev pub csv_kind_text : CsvKind → List ℕ
 csv_kind_text csv.Form = codes "form"
 csv_kind_text csv.Column = codes "column"
 csv_kind_text csv.Differs = codes "differs"
+csv_kind_text csv.Wide = codes "wide"
 
 abbrev pub refusal_line : CommandRefusal → List ℕ
 refusal_line (refused.File name) = codes "refused file " ++ string_bytes name

@@ -1,5 +1,6 @@
 -- What is asked for by the values that were read of a command's arguments.
 use Rattle.std.specs.Prelude.{◌≡◌, [], ℕ, Bool, List, Option, Some, None, true, false, MatchOption, ◌&&◌, ◌||◌, not, codes, if◌then◌else◌, is_some, option_map, unwrap_or}
+use Rattle.std.specs.List.{list_all}
 use Rattle.std.specs.Str.{bytes_eq}
 use Rattle.std.specs.Str.Parse.{digits_value, without_leading_plus}
 use Rattle.clap.specs.ValueTests.{is_unsigned_in}
@@ -13,6 +14,7 @@ use Rattle.a429_console.specs.declared.arguments.times.LogOrigin.{LogOrigin}
 use Rattle.a429_console.specs.declared.arguments.times.LogOrigin.TheVariants as origin
 use Rattle.a429_logs.specs.declared.times.TimeUnit.{TimeUnit}
 use Rattle.a429_logs.specs.declared.times.TimeUnit.TheVariants as unit
+use Rattle.a429_text.specs.Renames.{has_one_from_twice, is_rename}
 use Rattle.a429_text.specs.declared.sheets.SheetForm.{SheetForm}
 use Rattle.a429_text.specs.declared.sheets.SheetForm.TheVariants as form
 
@@ -82,6 +84,34 @@ lacks_value name rows = bytes_eq name (codes "encode") && not (is_value_given ro
 abbrev pub lacks_rows : List Row → Bool
 lacks_rows rows = is_some (first_of (codes "slack") rows) && not (is_set (one_of (codes "rows") rows))
 
+-- labels as texts are asked for, but no comma-separated values that have them
+abbrev pub lacks_csv : List Row → Bool
+lacks_csv rows = is_set (one_of (codes "text") rows) && not (is_set (one_of (codes "csv") rows))
+
+-- the values of an argument that is given as often as one likes
+abbrev pub values_of : Text → List Row → List Text
+values_of id rows = unwrap_or (all_of id rows) []
+
+-- texts give names other names: each has the form FROM=TO, and no two the same FROM
+abbrev pub are_renames : List Text → Bool
+are_renames texts = list_all is_rename texts && not (has_one_from_twice texts)
+
+-- those of an option do not
+abbrev pub has_wrong_renames : Text → List Row → Bool
+has_wrong_renames id rows = not (are_renames (values_of id rows))
+
+-- an option lacks the one that it needs
+abbrev pub lacks_option : List Row → Bool
+lacks_option rows = lacks_rows rows || lacks_csv rows
+
+-- a text FROM=TO is wrong
+abbrev pub has_wrong_rename : List Row → Bool
+has_wrong_rename rows = has_wrong_renames (codes "channel") rows || has_wrong_renames (codes "map") rows
+
+-- what is given to a command of this name does not go together, or a text FROM=TO is wrong
+abbrev pub are_refused : Text → List Row → Bool
+are_refused name rows = lacks_value name rows || (lacks_option rows || has_wrong_rename rows)
+
 -- the choices, if each of them is there
 abbrev pub choices_of : Option (Option ℕ) → Option TimeUnit → Option LogOrigin → Option SheetForm → Option Choices
 choices_of (Some width) (Some time) (Some from) (Some form) = Some (record { width = width; time = time; from = from; form = form })
@@ -90,7 +120,7 @@ choices_of _ _ _ _ = None
 -- all choices that the rules of the command line do not state; nothing if one of them is none
 unfoldable pub choices_given : Text → List Row → Option Choices
 choices_given name rows =
-    if lacks_value name rows || lacks_rows rows then None
+    if are_refused name rows then None
     else choices_of (width_given (first_of (codes "width") rows)) (unit_given (first_of (codes "time") rows)) (origin_given (first_of (codes "from") rows)) (form_given name rows)
 
 -- an options' record has these choices
@@ -126,22 +156,35 @@ pub record AreOptions (name : Text) (rows : List Row) (o : OptionBytes) : Type 0
   pub tolerance : number_of 0 most_tolerance (one_of (codes "tolerance") rows) ≡ Some o.tolerance
   pub events : is_set (one_of (codes "events") rows) ≡ o.events
   pub fields : AreFields rows o.fields
-  pub value : lacks_value name rows || lacks_rows rows ≡ false
+  pub text : is_set (one_of (codes "text") rows) ≡ o.text
+  pub taken : are_refused name rows ≡ false
+
+-- these options are read: those that a command of any name is given, with these choices
+abbrev pub ReadsOptions : Choices → List Row → OptionBytes → Type 0
+ReadsOptions choices rows read = (o : OptionBytes) (name : Text) → IsChosen choices o → AreOptions name rows o → read ≡ o
 
 -- ---- all that is asked for
 
--- the values of an argument that is given as often as one likes
-abbrev pub values_of : Text → List Row → List Text
-values_of id rows = unwrap_or (all_of id rows) []
+-- a text, a number and texts are what is found of an argument, if there is one; otherwise they are empty, and the number is 0
+abbrev pub IsGivenText : List Row → Option Text → Text → Type 0
+IsGivenText rows argument text = MatchOption argument (text ≡ []) (λ id. first_of id rows ≡ Some text)
+
+abbrev pub IsGivenNumber : List Row → Option (Text × ℕ) → ℕ → Type 0
+IsGivenNumber rows argument n = MatchOption argument (n ≡ 0) (λ number. number_of 0 number.1 (one_of number.0 rows) ≡ Some (Some n))
+
+abbrev pub AreGivenTexts : List Row → Option Text → List Text → Type 0
+AreGivenTexts rows argument texts = MatchOption argument (texts ≡ []) (λ id. values_of id rows ≡ texts)
 
 -- this is asked for by the values of its command; what the command is not given is empty
 pub record IsAskedBy (rows : List Row) (r : AskedBytes) : Type 0 where
   pub first : first_of (row_of r.verb).first rows ≡ Some r.first
-  pub second : MatchOption (row_of r.verb).second (r.second ≡ []) (λ id. first_of id rows ≡ Some r.second)
-  pub third : MatchOption (row_of r.verb).third (r.third ≡ []) (λ id. first_of id rows ≡ Some r.third)
-  pub number : MatchOption (row_of r.verb).number (r.number ≡ 0) (λ number. number_of 0 number.1 (one_of number.0 rows) ≡ Some (Some r.number))
-  pub more : MatchOption (row_of r.verb).more (r.more ≡ []) (λ id. values_of id rows ≡ r.more)
+  pub second : IsGivenText rows (row_of r.verb).second r.second
+  pub third : IsGivenText rows (row_of r.verb).third r.third
+  pub number : IsGivenNumber rows (row_of r.verb).number r.number
+  pub more : AreGivenTexts rows (row_of r.verb).more r.more
   pub inputs : values_of (codes "in") rows ≡ r.inputs
+  pub channels : values_of (codes "channel") rows ≡ r.channels
+  pub maps : values_of (codes "map") rows ≡ r.maps
   pub options : AreOptions (row_of r.verb).name rows r.options
 
 -- by what was found of the arguments: the command's name and its values

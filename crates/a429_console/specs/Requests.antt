@@ -8,7 +8,7 @@ use Rattle.clap.specs.declared.builder.action.ArgAction.{ArgAction}
 use Rattle.clap.specs.declared.builder.action.ArgAction.TheVariants.{SetTrue}
 use Rattle.clap.specs.declared.error.Error.{Error}
 use Rattle.clap.specs.declared.error.kind.ErrorKind.TheVariants.{OutOfMemory}
-use Rattle.a429_console.specs.CommandLine.{All, Bcd, Bits, Bnr, Code, Csv, Data, Events, From, Group, Html, Inputs, Json, Limit, OptionName, Rate, Rows, Sdi, Slack, Slots, Ssm, Summary, Time, Tolerance, Until, Width, last_time, least_rate, most_bits, most_pair, most_percent, most_rate, most_slack, most_slots, most_tolerance, option_rule, options_of, row_of}
+use Rattle.a429_console.specs.CommandLine.{All, AsText, Bcd, Bits, Bnr, Channels, Code, Csv, Data, Events, From, Group, Html, Inputs, Json, Limit, Maps, OptionName, Rate, Rows, Sdi, Slack, Slots, Ssm, Summary, Time, Tolerance, Until, Width, last_time, least_rate, most_bits, most_pair, most_percent, most_rate, most_slack, most_slots, most_tolerance, option_rule, options_of, row_of}
 use Rattle.a429_console.specs.Files.{texts_of}
 use Rattle.a429_text.specs.declared.sheets.SheetForm.{SheetForm}
 use Rattle.a429_text.specs.declared.sheets.SheetForm.TheVariants as form
@@ -65,10 +65,13 @@ pub record OptionBytes : Type 0 where
   pub tolerance : Option ℕ
   -- a row for each finding, instead of one for each output
   pub events : Bool
+  -- labels are written so that a spreadsheet keeps their zeros
+  pub text : Bool
   pub fields : FieldBytes
 
 -- What is asked for, by the bytes of its texts: what contracts see of an `Asked`. A command that is given one name has no second one, and so with the
--- third one, the number (of frames) and further names. The inputs are further logs of what came in.
+-- third one, the number (of frames) and further names. The inputs are further logs of what came in. Texts FROM=TO give the channels of a log names,
+-- and the headings of a file columns.
 pub record AskedBytes : Type 0 where
   pub verb : Verb
   pub first : Text
@@ -77,6 +80,8 @@ pub record AskedBytes : Type 0 where
   pub number : ℕ
   pub more : List Text
   pub inputs : List Text
+  pub channels : List Text
+  pub maps : List Text
   pub options : OptionBytes
 
 abbrev pub no_fields : FieldBytes
@@ -102,12 +107,24 @@ no_options = record {
   slack = None;
   tolerance = None;
   events = false;
+  text = false;
   fields = no_fields;
 }
 
 -- a command with these names, and without a number or options
 abbrev pub asked_by_names : Verb → Text → Text → List Text → AskedBytes
-asked_by_names v first second more = record { verb = v; first = first; second = second; third = []; number = 0; more = more; inputs = []; options = no_options }
+asked_by_names v first second more = record {
+  verb = v;
+  first = first;
+  second = second;
+  third = [];
+  number = 0;
+  more = more;
+  inputs = [];
+  channels = [];
+  maps = [];
+  options = no_options;
+}
 
 -- ---- its arguments
 
@@ -155,6 +172,9 @@ word_given o Rate = option_map decimal o.rate
 word_given o Rows = flag_word o.rows
 word_given o Slack = option_map decimal o.slack
 word_given o Inputs = None
+word_given o Channels = None
+word_given o Maps = None
+word_given o AsText = flag_word o.text
 word_given o Tolerance = option_map decimal o.tolerance
 word_given o Events = flag_word o.events
 word_given o Sdi = option_map decimal o.fields.sdi
@@ -263,6 +283,8 @@ pub record HasWords (r : AskedBytes) : Type 0 where
   pub number : MatchOption (row_of r.verb).number (r.number ≡ 0) (λ number. r.number ≤ number.1)
   pub more : MatchOption (row_of r.verb).more (r.more ≡ []) (λ _. AllByRecursion IsName r.more)
   pub inputs : r.inputs ≡ []
+  pub channels : r.channels ≡ []
+  pub maps : r.maps ≡ []
   pub options : (name : OptionName) → CanBeGiven r.options name
   -- the lines of `simulate` have no form as JSON
   pub summarized : r.verb ≡ verb.Simulate → is_json r.options.form ≡ true → r.options.summary ≡ true
@@ -270,6 +292,8 @@ pub record HasWords (r : AskedBytes) : Type 0 where
   pub coded : r.options.code || r.options.rows ≡ true → r.options.form ≡ form.Columns
   -- only the intervals of rows for `import` are widened
   pub widened : is_some r.options.slack ≡ true → r.options.rows ≡ true
+  -- only comma-separated values have labels as texts
+  pub separated : r.options.text ≡ true → r.options.form ≡ form.Csv
   -- `encode` is given the data of the word
   pub encoded : r.verb ≡ verb.Encode → has_one_value r.options.fields ≡ true
   pub others : (name : OptionName) → has_option (options_of r.verb) name ≡ false → word_given r.options name ≡ None
@@ -305,6 +329,7 @@ given_of o = record {
   slack = o.slack;
   tolerance = o.tolerance;
   events = o.events;
+  text = o.text;
   fields = fields_of o.fields;
 }
 
@@ -317,6 +342,8 @@ asked_of q = record {
   number = q.number;
   more = texts_of q.more.items;
   inputs = texts_of q.inputs.items;
+  channels = texts_of q.channels.items;
+  maps = texts_of q.maps.items;
   options = given_of q.options;
 }
 

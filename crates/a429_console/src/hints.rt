@@ -1,16 +1,18 @@
 //! Hints to a person about a refusal.
-ghost use Rattle.std.specs.Prelude.{◌≡◌, ◌≤◌, ◌+◌, [], IsNone};
-ghost use Rattle.a429_console.specs.declared.refusals.CommandRefusal.TheVariants.{Memory};
+ghost use Rattle.std.specs.Prelude.{◌≡◌, ◌≤◌, ◌+◌, []};
+
+pub mod warnings;
 
 use crate::arguments::requests::Asked;
 use crate::files::FileTrouble;
+use crate::hints::warnings::Warning;
 use crate::output::Output;
 use crate::output::endings::put_whole;
 use crate::refusals::CommandRefusal;
 use a429_equipment::Equipment;
 use a429_logs::{LineFault, Shape, TimeUnit};
 use a429_slots::{OUTPUTS, Proposal};
-use a429_table::{FaultKind, RefusedTable};
+use a429_table::RefusedTable;
 use a429_text::Sheet;
 use std::alloc::{AllocError, Global};
 use std::io;
@@ -186,81 +188,6 @@ pub struct SeenRows {
     pub column: Option<&'static str>,
 }
 
-/// Why the plan of a further table cannot be published.
-#[derive(Drop)]
-pub enum FurtherCause {
-    /// The table has a fault of this kind.
-    Fault(FaultKind),
-    /// The table has outputs without a period.
-    Unfit,
-    /// The group needs this number of buses, which is more than 16.
-    TooManyBuses {
-        group: String,
-        needed: usize,
-    },
-    /// The table is of another station than the one that runs.
-    OtherStation {
-        running: Equipment,
-        other: Equipment,
-    },
-}
-
-impl FurtherCause {
-    /// The cause by the refusal of the table. `None` if an allocation fails.
-    pub fn of(alloc: Global, refusal: &CommandRefusal) -> Option<FurtherCause>
-        ensures { refusal.now ≡ Memory → IsNone result }
-    {
-        match refusal {
-            CommandRefusal::Table(kind, _) => Some(FurtherCause::Fault(*kind)),
-            CommandRefusal::Unfit { .. } => Some(FurtherCause::Unfit),
-            CommandRefusal::TooManyBuses { group, needed } => {
-                let group = String::from_str(alloc, group.as_str()).ok()?;
-                Some(FurtherCause::TooManyBuses {
-                    group,
-                    needed: *needed,
-                })
-            }
-            _ => None,
-        }
-    }
-
-    /// The cause of a table of another station than the one that runs. `None` if an allocation fails.
-    pub fn of_stations(
-        alloc: Global,
-        running: &Equipment,
-        other: &Equipment,
-    ) -> Option<FurtherCause> {
-        let running = running.copied(alloc).ok()?;
-        let other = other.copied(alloc).ok()?;
-        Some(FurtherCause::OtherStation { running, other })
-    }
-}
-
-/// A further table whose plan cannot be published.
-#[derive(Drop)]
-pub struct FurtherFault {
-    /// Its number among the further tables, from 1.
-    pub number: usize,
-    pub cause: FurtherCause,
-    pub table: SeenTable,
-}
-
-impl FurtherFault {
-    /// Notes a further table whose plan cannot be published, unless an allocation fails.
-    pub fn note(
-        faults: &mut Vec<FurtherFault>,
-        number: usize,
-        cause: FurtherCause,
-        table: SeenTable,
-    ) {
-        let _ = faults.push(FurtherFault {
-            number,
-            cause,
-            table,
-        });
-    }
-}
-
 /// What a command refused and what it read before, as far as a hint needs it. A command fills it in while it works; no
 /// contract rests on it.
 #[derive(Drop)]
@@ -271,8 +198,6 @@ pub struct Seen {
     pub trouble: FileTrouble,
     /// The refused table.
     pub table: SeenTable,
-    /// The further tables of a script, in order.
-    pub further: Vec<SeenTable>,
     /// The plan of a table without the group that was asked for.
     pub proposal: Option<Proposal<OUTPUTS>>,
     /// What `check` found in a plan's text.
@@ -287,7 +212,7 @@ pub struct Seen {
     pub text: Option<Vec<u8>>,
     /// The rows of comma-separated values that are refused.
     pub rows: Option<SeenRows>,
-    /// What `lint` found of a table.
+    /// What `lint` found of a table, or the rows of `judge`.
     pub findings: Option<Sheet>,
     /// Whether the table is the second of two.
     pub is_second: bool,
@@ -297,12 +222,11 @@ pub struct Seen {
 
 impl Seen {
     /// What is kept before anything was read or refused.
-    pub fn nothing(alloc: Global) -> Seen {
+    pub fn nothing() -> Seen {
         Seen {
             refusal: None,
             trouble: FileTrouble::Unknown,
             table: SeenTable::nothing(),
-            further: Vec::new(alloc),
             proposal: None,
             objection: None,
             line: None,
@@ -333,12 +257,12 @@ pub trait Hints {
     /// fails.
     fn tell_mistake<V: Write>(&self, alloc: Global, words: &[&str], err: &mut V) -> io::Result<()>;
 
-    /// Writes why further tables of a request cannot be published. Error: the writer's, or an allocation fails.
-    fn tell_further<V: Write>(
+    /// Writes warnings about an answer that is no refusal. Error: the writer's, or an allocation fails.
+    fn tell_warnings<V: Write>(
         &self,
         alloc: Global,
         asked: &Asked,
-        faults: &[FurtherFault],
+        warnings: &[Warning],
         err: &mut V,
     ) -> io::Result<()>;
 }
@@ -355,44 +279,47 @@ fn tell_hint<H: Hints, V: Output>(alloc: Global, asked: &Asked, seen: &Seen, hin
     }
 }
 
-/// Writes to `err` why further tables of a request cannot be published; nothing if there is none. If memory does not
-/// suffice for the hint, nothing is written; if `err` fails, that changes nothing else.
-fn tell_further<H: Hints, V: Output>(
+/// Writes warnings to `err`; nothing if there is none. If memory does not suffice for their text, nothing is written; if
+/// `err` fails, that changes nothing else.
+fn tell_warnings<H: Hints, V: Output>(
     alloc: Global,
     asked: &Asked,
-    faults: &[FurtherFault],
+    warnings: &[Warning],
     hints: &H,
     err: &mut V,
 )
     ensures once { (V.failures err.new).count ≤ (V.failures err.old).count + 1 }
-    ensures quiet { faults.now ≡ [] → err.new ≡ err.old }
+    ensures quiet { warnings.now ≡ [] → err.new ≡ err.old }
 {
-    if faults.is_empty() {
+    if warnings.is_empty() {
         return;
     }
     let mut text = Vec::new(alloc);
-    if hints.tell_further(alloc, asked, faults, &mut text).is_ok() {
+    if hints
+        .tell_warnings(alloc, asked, warnings, &mut text)
+        .is_ok()
+    {
         let _ = put_whole(&text, err);
     }
 }
 
 /// Writes to `err` what can be done about a request that was answered with this status: if it was refused, the hint
-/// about that; otherwise why further tables cannot be published, if there are such. If memory does not suffice for the
-/// hint, nothing is written. If `err` fails, that changes nothing else.
+/// about that; otherwise the warnings, if there are such. If memory does not suffice for the hint, nothing is written.
+/// If `err` fails, that changes nothing else.
 pub fn tell_hints<H: Hints, V: Output>(
     alloc: Global,
     asked: &Asked,
     status: u8,
     seen: &Seen,
-    faults: &[FurtherFault],
+    warnings: &[Warning],
     hints: &H,
     err: &mut V,
 )
     ensures once { (V.failures err.new).count ≤ (V.failures err.old).count + 1 }
-    ensures quiet { faults.now ≡ [] → status ≡ 0 → err.new ≡ err.old }
+    ensures quiet { warnings.now ≡ [] → status ≡ 0 → err.new ≡ err.old }
 {
     if status == 0 {
-        tell_further(alloc, asked, faults, hints, err);
+        tell_warnings(alloc, asked, warnings, hints, err);
     } else {
         tell_hint(alloc, asked, seen, hints, err);
     }

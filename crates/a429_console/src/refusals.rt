@@ -24,6 +24,8 @@ pub enum CsvKind {
     Column,
     /// It contradicts an earlier row about the same source, receiver or group.
     Differs,
+    /// It has more than 100,000 fields.
+    Wide,
 }
 
 impl fmt::Display for CsvKind {
@@ -38,6 +40,7 @@ impl fmt::Display for CsvKind {
             CsvKind::Form => f.write_str("form"),
             CsvKind::Column => f.write_str("column"),
             CsvKind::Differs => f.write_str("differs"),
+            CsvKind::Wide => f.write_str("wide"),
         }
     }
 }
@@ -84,8 +87,8 @@ pub enum CommandRefusal {
     Source,
     /// The sink of a group failed.
     Sink,
-    /// A receiver was given a word after a million, or more than a million frames were asked for, or a group would send more
-    /// than a million in a simulation.
+    /// A receiver was given a word after a million, or more than a million frames were asked for. In a simulation a group
+    /// would send more than a million from the first word on.
     TooMuch,
     /// The tolerance is more than half the period of an output.
     Tolerance,

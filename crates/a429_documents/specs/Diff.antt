@@ -100,6 +100,11 @@ list_rows change name subject rows first second =
     flat_map (place_rows change name subject first second) first
     ++ (flat_map (new_rows change name subject first second) second ++ flat_map (of_both name rows second) first)
 
+-- the same of the lists of two tables, by the receivers of both
+abbrev pub table_rows : {X : Type 0} → List ℕ → (X → List ℕ) → (X → Subject) → (List ReceiverRow → List ReceiverRow → X → X → List (List Field))
+    → (TableRecord → List X) → TableRecord → TableRecord → List (List Field)
+table_rows change name subject rows list a b = list_rows change name subject (rows a.receivers b.receivers) (list a) (list b)
+
 -- ---- the station
 
 -- the number of filters, if there is a list

@@ -1,8 +1,9 @@
 -- The interface control document of a plan: the names of its columns, and a row for each output.
-use Rattle.std.specs.Prelude.{ℕ, ◌+◌, ◌*◌, ◌^◌, List, [], ◌∷◌, ◌++◌, Option, None, Some, codes, slice_get}
+use Rattle.std.specs.Prelude.{ℕ, ◌+◌, ◌*◌, ◌^◌, Bool, true, false, List, [], ◌∷◌, ◌++◌, Option, None, Some, codes, slice_get}
 use Rattle.std.specs.Int.{div_ceil}
 use Rattle.std.specs.Option.{option_map_or}
 use Rattle.a429_text.specs.Fields.{Field, Text, Number, Absent}
+use Rattle.a429_text.specs.Texts.{formula}
 use Rattle.a429_word.specs.Texts.{octal}
 use Rattle.a429_equipment.specs.TableRecord.{TableRecord}
 use Rattle.a429_grid.specs.Grid.{slot_time}
@@ -47,15 +48,20 @@ abbrev pub sdi_field : Option ℕ → Field
 sdi_field None = Text (codes "any")
 sdi_field (Some sdi) = Number sdi
 
+-- a label in octal; as a formula if a spreadsheet is to keep its zeros
+abbrev pub label_field : Bool → ℕ → Field
+label_field false label = Text (octal label)
+label_field true label = Text (formula (octal label))
+
 -- a limit, if there is one
 abbrev pub limit_field : Option ℕ → Field
 limit_field None = Absent
 limit_field (Some limit) = Number limit
 
 -- the source of an output, with its group
-abbrev pub sent_fields : List ReceiverRow → GroupRow → SourceRow → List Field
-sent_fields receivers group source =
-    Text group.name ∷ Number group.rate ∷ Text source.name ∷ Text (receiver_name receivers source.receiver) ∷ Text (octal source.label) ∷ sdi_field source.sdi ∷ []
+abbrev pub sent_fields : Bool → List ReceiverRow → GroupRow → SourceRow → List Field
+sent_fields keeps_zeros receivers group source =
+    Text group.name ∷ Number group.rate ∷ Text source.name ∷ Text (receiver_name receivers source.receiver) ∷ label_field keeps_zeros source.label ∷ sdi_field source.sdi ∷ []
 
 -- how long a number of slots is at a bit rate in bit/s: in microseconds, rounded up. A slot is 36 bit times
 -- (ARINC 429 Part 1: a word has 32 bits, and the inter-word gap is at least 4 bit times).
@@ -80,30 +86,30 @@ abbrev pub latency_fields : ℕ → ℕ → List Field
 latency_fields rate period = Number (latency_us rate period) ∷ []
 
 -- the row of an output of a group, which sends this source
-abbrev pub icd_row : List ReceiverRow → GroupRow → SourceRow → OutputRow → SlotPlace → SendLimits → List Field
-icd_row receivers group source row place limits =
-    sent_fields receivers group source ++ (place_fields group.rate place ++ (limit_fields row limits ++ latency_fields group.rate (2 ^ place.period)))
+abbrev pub icd_row : Bool → List ReceiverRow → GroupRow → SourceRow → OutputRow → SlotPlace → SendLimits → List Field
+icd_row keeps_zeros receivers group source row place limits =
+    sent_fields keeps_zeros receivers group source ++ (place_fields group.rate place ++ (limit_fields row limits ++ latency_fields group.rate (2 ^ place.period)))
 
 -- the same, of the source that the output's row names; empty if there is no such source
-unfoldable pub output_row : TableRecord → GroupRow → OutputRow → Placed → List Field
-output_row e group row placed =
-    option_map_or (λ source. icd_row e.receivers group source row placed.place placed.limits) (slice_get e.sources row.source) []
+unfoldable pub output_row : Bool → TableRecord → GroupRow → OutputRow → Placed → List Field
+output_row keeps_zeros e group row placed =
+    option_map_or (λ source. icd_row keeps_zeros e.receivers group source row placed.place placed.limits) (slice_get e.sources row.source) []
 
 -- ---- the document
 
 -- a row for each output of a group, in table order: from its row of the equipment table, and from its place and limits in the slot table
-unfoldable pub output_rows : TableRecord → GroupRow → List OutputRow → List Placed → List (List Field)
-output_rows e group [] placed = []
-output_rows e group (row ∷ rows) [] = []
-output_rows e group (row ∷ rows) (placed ∷ others) = output_row e group row placed ∷ output_rows e group rows others
+unfoldable pub output_rows : Bool → TableRecord → GroupRow → List OutputRow → List Placed → List (List Field)
+output_rows keeps_zeros e group [] placed = []
+output_rows keeps_zeros e group (row ∷ rows) [] = []
+output_rows keeps_zeros e group (row ∷ rows) (placed ∷ others) = output_row keeps_zeros e group row placed ∷ output_rows keeps_zeros e group rows others
 
 -- the rows of each group, in table order
-unfoldable pub groups_rows : TableRecord → List GroupRow → List (List OutputRow) → List SlotTable → List (List Field)
-groups_rows e [] outputs ts = []
-groups_rows e (group ∷ groups) [] ts = []
-groups_rows e (group ∷ groups) (rows ∷ outputs) [] = []
-groups_rows e (group ∷ groups) (rows ∷ outputs) (t ∷ ts) = output_rows e group rows (outputs_of t) ++ groups_rows e groups outputs ts
+unfoldable pub groups_rows : Bool → TableRecord → List GroupRow → List (List OutputRow) → List SlotTable → List (List Field)
+groups_rows keeps_zeros e [] outputs ts = []
+groups_rows keeps_zeros e (group ∷ groups) [] ts = []
+groups_rows keeps_zeros e (group ∷ groups) (rows ∷ outputs) [] = []
+groups_rows keeps_zeros e (group ∷ groups) (rows ∷ outputs) (t ∷ ts) = output_rows keeps_zeros e group rows (outputs_of t) ++ groups_rows keeps_zeros e groups outputs ts
 
--- the rows of a plan
-abbrev pub icd_rows : TableRecord → PlanTable → List (List Field)
-icd_rows e p = groups_rows e e.groups e.outputs (groups_of p)
+-- the rows of a plan, with labels whose zeros a spreadsheet keeps or loses
+abbrev pub icd_rows : Bool → TableRecord → PlanTable → List (List Field)
+icd_rows keeps_zeros e p = groups_rows keeps_zeros e e.groups e.outputs (groups_of p)

@@ -4,6 +4,8 @@ use Rattle.std.specs.Int.{div_ceil}
 use Rattle.std.specs.List.{AllZip, flat_map, list_all, list_any, range_with_len}
 use Rattle.std.specs.Option.{option_map_or}
 use Rattle.a429_text.specs.Fields.{Field, Text, Number, Absent}
+use Rattle.a429_text.specs.Sheets.{field_of}
+use Rattle.a429_text.specs.declared.cells.Cell.{Cell}
 use Rattle.a429_equipment.specs.TableRecord.{TableRecord, outputs_in}
 use Rattle.a429_equipment.specs.declared.rows.OutputRow.{OutputRow}
 use Rattle.a429_equipment.specs.declared.rows.ReceiverRow.{ReceiverRow}
@@ -34,6 +36,10 @@ lint_columns = codes "finding" ∷ codes "group" ∷ codes "receiver" ∷ codes 
 -- a finding of a group: of one or two of its sources, or with a number
 abbrev pub group_row : List ℕ → List ℕ → Field → Field → Field → List Field
 group_row finding group source other number = Text finding ∷ Text group ∷ Absent ∷ source ∷ other ∷ number ∷ []
+
+-- the same of what is written into the cells
+abbrev pub finding_row : List ℕ → List ℕ → Cell → Cell → Cell → List Field
+finding_row finding group source other number = group_row finding group (field_of source) (field_of other) (field_of number)
 
 -- a finding of a source
 abbrev pub source_row : List ℕ → List ℕ → List Field

@@ -4,13 +4,13 @@ ghost use Rattle.a429_text.specs.Fields.{Number};
 ghost use Rattle.a429_text.specs.Sheets.{field_of};
 ghost use Rattle.a429_slots.specs.Tables.{outputs_of, placed_at};
 ghost use Rattle.a429_slots.specs.Planned.{HaveSources};
-ghost use Rattle.a429_documents.specs.Document.{icd_columns, icd_row, icd_rows, latency_us, limit_field, output_row, output_rows, receiver_name, sdi_field, slots_us};
+ghost use Rattle.a429_documents.specs.Document.{icd_columns, icd_row, icd_rows, label_field, latency_us, limit_field, output_row, output_rows, receiver_name, sdi_field, slots_us};
 
 use a429_equipment::{Equipment, GroupRow, OutputRow, ReceiverRow, SourceRow};
 use a429_grid::{Period, SLOT_TIME};
 use a429_slots::{GroupPlan, OUTPUTS, OutputId, Proposal, SendLimits, SlotPlace};
 use a429_text::{Cell, Rows, Sheet};
-use a429_word::Sdi;
+use a429_word::{Label, Sdi};
 use std::alloc::Global;
 
 /// The names of the columns.
@@ -46,6 +46,17 @@ pub fn sdi_cell(sdi: Option<Sdi>) -> Cell<'static>
     match sdi {
         None => Cell::Text("any"),
         Some(sdi) => Cell::Number(u64::from(sdi.value())),
+    }
+}
+
+/// The cell of a label, in octal; as a formula if a spreadsheet is to keep its zeros.
+fn label_cell(keeps_zeros: bool, label: Label) -> Cell<'static>
+    ensures { field_of result ≡ label_field keeps_zeros label }
+{
+    if keeps_zeros {
+        Cell::OctalFormula(label.value())
+    } else {
+        Cell::Octal(label.value())
     }
 }
 
@@ -88,6 +99,7 @@ pub(crate) fn receiver_name(receivers: &[ReceiverRow], number: usize) -> &str
 /// Adds the row of an output of a group, which sends this source.
 fn add_row<'a>(
     rows: &mut Rows,
+    keeps_zeros: bool,
     receivers: &'a [ReceiverRow],
     group: &'a GroupRow,
     source: &'a SourceRow,
@@ -97,7 +109,7 @@ fn add_row<'a>(
 )
     requires receiver { source.now.receiver < length receivers.now }
     requires rate { 1 ≤ group.now.rate }
-    ensures { rows.new ≡ rows.old ++ icd_row receivers.now group.now source.now output.now place limits ∷ [] }
+    ensures { rows.new ≡ rows.old ++ icd_row keeps_zeros receivers.now group.now source.now output.now place limits ∷ [] }
 {
     let slots = place.period.slots();
     rows.add(&[
@@ -105,7 +117,7 @@ fn add_row<'a>(
         number(group.rate),
         Cell::Text(source.name.as_str()),
         Cell::Text(receiver_name(receivers, source.receiver)),
-        Cell::Octal(source.label.value()),
+        label_cell(keeps_zeros, source.label),
         sdi_cell(source.sdi),
         number(place.bus),
         number(place.offset),
@@ -122,6 +134,7 @@ fn add_row<'a>(
 /// Adds the row of an output of a group, by its number in the group's slot table.
 fn add_output(
     rows: &mut Rows,
+    keeps_zeros: bool,
     equipment: &Equipment,
     group: &GroupRow,
     output: &OutputRow,
@@ -131,7 +144,7 @@ fn add_output(
     requires known { number < length (outputs_of table.now) }
     requires source { output.now.source < length equipment.now.sources }
     requires rate { 1 ≤ group.now.rate }
-    ensures { rows.new ≡ rows.old ++ output_row equipment.now group.now output.now (placed_at table.now number) ∷ [] }
+    ensures { rows.new ≡ rows.old ++ output_row keeps_zeros equipment.now group.now output.now (placed_at table.now number) ∷ [] }
 {
     let sources = equipment.sources();
     let source = &sources[output.source];
@@ -139,6 +152,7 @@ fn add_output(
     let limits = table.limits(number);
     add_row(
         rows,
+        keeps_zeros,
         equipment.receivers(),
         group,
         source,
@@ -151,6 +165,7 @@ fn add_output(
 /// Adds a row for each output of a group, in table order.
 fn add_outputs(
     rows: &mut Rows,
+    keeps_zeros: bool,
     equipment: &Equipment,
     group: &GroupRow,
     outputs: &[OutputRow],
@@ -159,37 +174,40 @@ fn add_outputs(
     requires known { HaveSources equipment.now.sources outputs.now }
     requires planned { length outputs.now ≡ length (outputs_of table.now) }
     requires rate { 1 ≤ group.now.rate }
-    ensures { rows.new ≡ rows.old ++ output_rows equipment.now group.now outputs.now (outputs_of table.now) }
+    ensures { rows.new ≡ rows.old ++ output_rows keeps_zeros equipment.now group.now outputs.now (outputs_of table.now) }
 {
     for number in 0..outputs.len() {
         let output = &outputs[number];
-        add_output(rows, equipment, group, output, table, OutputId::new(number));
+        let id = OutputId::new(number);
+        add_output(rows, keeps_zeros, equipment, group, output, table, id);
     }
 }
 
 /// Adds a row for each output of each group, in table order.
-fn add_groups(rows: &mut Rows, proposal: &Proposal<OUTPUTS>)
-    ensures { rows.new ≡ rows.old ++ icd_rows proposal.now.station proposal.now.plan }
+fn add_groups(rows: &mut Rows, keeps_zeros: bool, proposal: &Proposal<OUTPUTS>)
+    ensures { rows.new ≡ rows.old ++ icd_rows keeps_zeros proposal.now.station proposal.now.plan }
 {
     let equipment = proposal.equipment();
     let groups = equipment.groups();
     for number in 0..groups.len() {
         let outputs = equipment.outputs(number);
         let table = proposal.plan().group(number);
-        add_outputs(rows, equipment, &groups[number], outputs, table);
+        let group = &groups[number];
+        add_outputs(rows, keeps_zeros, equipment, group, outputs, table);
     }
 }
 
 /// The interface control document of a proposal's plan: a row for each output, groups and outputs in table order. The bit
 /// rate is in bit/s. A slot is counted from 0 at the start of the frame, and lasts 36 bit times. A period is in slots, and
 /// in whole microseconds, rounded up. The latency is the longest time, within one plan, from the acceptance of a word until
-/// it, or a later word of its source, was sent completely: a period and one slot, in whole microseconds, rounded up.
-pub fn icd_sheet(alloc: Global, proposal: &Proposal<OUTPUTS>) -> Sheet
+/// it, or a later word of its source, was sent completely: a period and one slot, in whole microseconds, rounded up. A label
+/// is in octal; as a formula, such as `="003"`, if a spreadsheet is to keep its zeros.
+pub fn icd_sheet(alloc: Global, proposal: &Proposal<OUTPUTS>, keeps_zeros: bool) -> Sheet
     ensures columns { map (λ name. name.now) result.columns.now ≡ icd_columns }
-    ensures rows { result.rows ≡ icd_rows proposal.now.station proposal.now.plan }
+    ensures rows { result.rows ≡ icd_rows keeps_zeros proposal.now.station proposal.now.plan }
 {
     let mut rows = Rows::new(alloc);
-    add_groups(&mut rows, proposal);
+    add_groups(&mut rows, keeps_zeros, proposal);
     Sheet {
         columns: COLUMNS,
         rows,

@@ -15,7 +15,9 @@
 //! ```text
 //! match kind {
 //!     ..
-//!     PlanText::Document(form) => icd_sheet(alloc, proposal).render(alloc, form),
+//!     PlanText::Document(form, keeps_zeros) => {
+//!         icd_sheet(alloc, proposal, keeps_zeros).render(alloc, form)
+//!     }
 //!     PlanText::Margin(form) => margin_sheet(alloc, proposal)?.render(alloc, form),
 //! }
 //! ```

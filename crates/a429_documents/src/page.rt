@@ -65,7 +65,7 @@ fn put_documents(
     page: &mut Text,
     proposal: &Proposal<OUTPUTS>,
 ) -> Result<(), AllocError> {
-    put_part(alloc, page, "Outputs", &icd_sheet(alloc, proposal))?;
+    put_part(alloc, page, "Outputs", &icd_sheet(alloc, proposal, false))?;
     put_margin(alloc, page, proposal)?;
     put_findings(alloc, page, proposal.equipment())?;
     page.put("</body>\n</html>\n");

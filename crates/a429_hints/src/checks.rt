@@ -1,5 +1,6 @@
 //! Hints about a line of a plan text: what was found, and what was expected.
 
+use crate::files::REFUSED_OUTPUT;
 use crate::hint::HintText;
 use crate::reasons::meaning;
 use a429_console::hints::Objection;
@@ -37,6 +38,9 @@ pub struct JudgedText<'a> {
 pub fn tell_objection(judged: JudgedText, objection: Objection, hint: &mut HintText) {
     let Objection { line, reason } = objection;
     hint.turn_to_line(line);
+    if judged.text.starts_with(b"refused ") {
+        return hint.say_line(REFUSED_OUTPUT);
+    }
     let due = due_at(judged.equipment, line);
     let found = text_of(judged.text, line);
     match reason {

@@ -3,6 +3,10 @@
 use crate::hint::HintText;
 use a429_console::files::FileTrouble;
 
+/// The hint about a file that begins with the line of a refusal.
+pub const REFUSED_OUTPUT: &str =
+    "this is the output of a command that refused its file; correct that, and run the command again";
+
 /// Says why the file of this name cannot be read.
 pub fn tell_trouble(trouble: FileTrouble, name: &str, hint: &mut HintText) {
     hint.turn_to(name);

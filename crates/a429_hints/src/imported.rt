@@ -59,7 +59,7 @@ fn tell_at_fault(
 
 /// Says what is in a column of a row, and what must be there.
 fn tell_column(sheet: Sheet, row: &CsvLine, column: &str, hint: &mut HintText) {
-    tell_field(row, column, sheet.text(row, column), hint);
+    tell_field(sheet, row, column, sheet.text(row, column), hint);
 }
 
 /// The text that a spreadsheet wrote as `="TEXT"`.
@@ -97,10 +97,10 @@ fn tell_interval(sheet: Sheet, row: &CsvLine, hint: &mut HintText) {
         tell_column(sheet, row, "max_us", hint);
     }
     if min_us > max_us {
-        begin_row(row, ": min_us is ", hint);
-        hint.say_number("", min_us);
-        hint.say_number(" and max_us is ", max_us);
-        hint.end("; min_us must not be greater than max_us");
+        begin_row(row, ": the minimum interval ", hint);
+        hint.say_quoted("", sheet.text(row, "min_us"));
+        hint.say_quoted(" is greater than the maximum ", sheet.text(row, "max_us"));
+        hint.end("");
     }
 }
 
@@ -178,7 +178,7 @@ fn tell_more_outputs(sheet: Sheet, group: usize, hint: &mut HintText) {
 /// Says which row has one receiver, source or group too many, if there is one.
 fn tell_more(sheet: Sheet, column: &str, most: usize, hint: &mut HintText) {
     if let Some(row) = sheet.first_row(column, most, hint) {
-        begin_column(row, column, hint);
+        begin_column(sheet, row, column, hint);
         hint.say_count("this is number ", most.saturating_add(1));
         hint.say_count("; a table can have at most ", most);
         hint.end("");
@@ -193,7 +193,7 @@ fn tell_filters(sheet: Sheet, row: &CsvLine, hint: &mut HintText) {
             count = count.saturating_add(1);
         }
     }
-    begin_column(row, "filters", hint);
+    begin_column(sheet, row, "filters", hint);
     hint.say_count("", count);
     hint.say_count(" filters; a receiver can have at most ", FILTERS);
     hint.end_text(", each ", form_in("filters"));

@@ -10,10 +10,12 @@
 #![tactic(auto)]
 
 mod checks;
+mod clocks;
 mod differences;
 mod faults;
 mod files;
 mod findings;
+mod headings;
 mod hint;
 mod imported;
 mod imports;

@@ -3,6 +3,7 @@
 use crate::hint::HintText;
 use crate::nearest::Nearest;
 use crate::rows::short_text;
+use std::alloc::Global;
 
 /// The maximum number of names that a hint lists.
 pub const LISTED: usize = 16;
@@ -19,12 +20,18 @@ pub fn has_name(names: &[String], name: &str) -> bool {
 
 /// Says that a name is unknown, which name is the nearest, and which names there are.
 pub fn tell_names(kind: &str, name: &str, names: &[String], hint: &mut HintText) {
+    begin_names(kind, name, names, hint);
+    hint.end("");
+}
+
+/// The same, and the line goes on.
+pub fn begin_names(kind: &str, name: &str, names: &[String], hint: &mut HintText) {
     hint.begin(": no ");
     hint.say_text(kind, " has the name ");
     hint.say_quoted("", name);
     say_nearest(name, names, hint);
     if names.is_empty() {
-        return hint.end("; the table has none");
+        return hint.say("; the table has none");
     }
     hint.say_text("; the ", kind);
     hint.say("s are");
@@ -32,17 +39,21 @@ pub fn tell_names(kind: &str, name: &str, names: &[String], hint: &mut HintText)
         hint.say_text(" ", known.as_str());
     }
     say_more(names.len(), hint);
-    hint.end("");
+}
+
+/// Which of these names is the nearest to a text. `None` if none is near.
+pub fn nearest_of<'a>(alloc: Global, text: &'a str, names: &'a [String]) -> Option<&'a str> {
+    let mut nearest = Nearest::to(text);
+    for known in names {
+        nearest = nearest.or(alloc, known.as_str());
+    }
+    nearest.name()
 }
 
 /// Says which of these names is the nearest to a name.
 fn say_nearest(name: &str, names: &[String], hint: &mut HintText) {
     let shown = short_text(name);
-    let mut nearest = Nearest::to(shown.as_str());
-    for known in names {
-        nearest = nearest.or(hint.alloc, known.as_str());
-    }
-    if let Some(near) = nearest.name() {
+    if let Some(near) = nearest_of(hint.alloc, shown.as_str(), names) {
         hint.say_text("; the nearest is ", near);
     }
 }

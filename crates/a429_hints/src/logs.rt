@@ -1,19 +1,24 @@
-//! Hints about lines of logs, and about logs that are too long.
+//! Hints about lines of logs, and about logs that are too long or whose words come too closely.
 
 use crate::files::other_file;
 use crate::hint::HintText;
-use crate::lists::{has_name, tell_names};
+use crate::lists::{begin_names, has_name, nearest_of};
+use crate::rows::short_text;
 use crate::scripts::{NOT_UTF8, is_script_word};
 use a429_console::hints::{LogRefusal, SeenLine, SeenLog};
 use a429_logs::{
     Column, Fields, HeadingFault, LineFault, Mark, Places, RowFault, TimeUnit, WordPlaces,
 };
+use a429_text::renames::renamed;
 
 /// The form of a log's lines without a heading.
 const FORM: &str = "TIME RECEIVER HEX";
 
 /// The maximum number of digits of a time in microseconds.
 const TIME_DIGITS: usize = 18;
+
+/// The maximum number of bytes of a name that a hint shows as part of an argument.
+const ARGUMENT: usize = 48;
 
 /// A line of a log, and how it was read.
 #[derive(Clone, Copy)]
@@ -23,10 +28,17 @@ struct ReadLine<'a> {
     unit: TimeUnit,
     /// The columns; `None` for the first line that states something.
     places: Option<Places>,
+    /// As which names channels are taken.
+    channels: &'a [&'a str],
 }
 
-/// Says what is wrong with a line of a log.
-pub fn tell_log_line(line: &SeenLine, log: &SeenLog, hint: &mut HintText) {
+/// Says what is wrong with a line of a log whose channels are taken as names.
+pub fn tell_log_line<'a>(
+    line: &'a SeenLine,
+    log: &SeenLog,
+    channels: &'a [&'a str],
+    hint: &mut HintText,
+) {
     if let Some(kind) = other_file(&line.bytes) {
         return hint.say_line(kind);
     }
@@ -41,6 +53,7 @@ pub fn tell_log_line(line: &SeenLine, log: &SeenLog, hint: &mut HintText) {
         },
         unit: log.unit,
         places: log.shape.map(|shape| shape.places),
+        channels,
     };
     if tell_first_field(line, &read, hint) {
         return;
@@ -48,7 +61,16 @@ pub fn tell_log_line(line: &SeenLine, log: &SeenLog, hint: &mut HintText) {
     match log.why {
         LogRefusal::Line(LineFault::Heading(fault)) => tell_heading(fault, hint),
         LogRefusal::Line(LineFault::Row(fault)) => tell_row(line, &read, fault, hint),
-        LogRefusal::Receiver => tell_names("receiver", name_in(&read), &line.receivers, hint),
+        LogRefusal::Receiver => {
+            tell_unknown(
+                "receiver",
+                name_in(&read),
+                None,
+                &read,
+                &line.receivers,
+                hint,
+            );
+        }
         LogRefusal::Group => tell_group(line, &read, hint),
         LogRefusal::Name => hint.say_line(NOT_UTF8),
         LogRefusal::Late => hint.say_line(
@@ -85,8 +107,84 @@ fn time_in<'a>(read: &ReadLine<'a>) -> &'a str {
     field(read, read.places.map_or(0, |places| places.time))
 }
 
-fn name_in<'a>(read: &ReadLine<'a>) -> &'a str {
+/// The name that a line has.
+fn channel_in<'a>(read: &ReadLine<'a>) -> &'a str {
     field(read, read.places.map_or(1, |places| places.name))
+}
+
+/// The name as which it is taken.
+fn name_in<'a>(read: &ReadLine<'a>) -> &'a str {
+    str::from_utf8(renamed(read.channels, channel_in(read).as_bytes())).unwrap_or("")
+}
+
+/// Says that no receiver or group has the name of a word, and how to take the channel of the line as one. A group may have
+/// the number of a bus after it.
+fn tell_unknown(
+    kind: &str,
+    name: &str,
+    bus: Option<&str>,
+    read: &ReadLine<'_>,
+    names: &[String],
+    hint: &mut HintText,
+) {
+    begin_names(kind, name, names, hint);
+    let channel = channel_in(read);
+    if channel != name_in(read) {
+        hint.say_quoted("; --channel takes ", channel);
+        hint.say(" as this name");
+    } else if !names.is_empty() && !channel.is_empty() {
+        hint.say("; to take it as one, give --channel ");
+        say_channel(channel, name, bus, names, hint);
+    }
+    hint.end("");
+}
+
+/// Says the name that a channel may have: the nearest of these, or the only one.
+fn say_likely(name: &str, names: &[String], hint: &mut HintText) {
+    let shown = short_text(name);
+    if let Some(near) = nearest_of(hint.alloc, shown.as_str(), names) {
+        return hint.say_text("=", near);
+    }
+    match names.first() {
+        Some(only) if names.len() == 1 => hint.say_text("=", only.as_str()),
+        _ => hint.say("=NAME"),
+    }
+}
+
+/// Says the value of `--channel` that takes a channel as the nearest of these names.
+fn say_channel(
+    channel: &str,
+    name: &str,
+    bus: Option<&str>,
+    names: &[String],
+    hint: &mut HintText,
+) {
+    let Some(quote) = quotes_of(channel) else {
+        return hint.say("FROM=NAME");
+    };
+    hint.say_text(quote, channel);
+    say_likely(name, names, hint);
+    if let Some(bus) = bus {
+        hint.say_text(".", bus);
+    }
+    hint.say(quote);
+}
+
+/// What a shell needs around a text: nothing, or double quotes. `None` if these are not enough, or the text is long.
+fn quotes_of(text: &str) -> Option<&'static str> {
+    if text.len() > ARGUMENT || text.starts_with('-') {
+        return None;
+    }
+    let mut is_quoted = false;
+    for c in text.chars() {
+        if c.is_control() || matches!(c, '"' | '$' | '`' | '\\' | '!') {
+            return None;
+        }
+        if !c.is_ascii_alphanumeric() && !matches!(c, '_' | '-' | '.' | '/' | ':' | '+' | '@') {
+            is_quoted = true;
+        }
+    }
+    Some(if is_quoted { "\"" } else { "" })
 }
 
 /// Says that no group has the name of a word, or that the group has no bus of its number.
@@ -110,7 +208,7 @@ fn tell_group(line: &SeenLine, read: &ReadLine<'_>, hint: &mut HintText) {
             hint.say_quoted(" has no bus ", bus);
             hint.end("; `plan` prints how many it has, and they are numbered from 0");
         }
-        _ => tell_names("group", group, &line.groups, hint),
+        _ => tell_unknown("group", group, bus, read, &line.groups, hint),
     }
 }
 
@@ -230,6 +328,7 @@ fn tell_fall(line: &SeenLine, read: &ReadLine<'_>, hint: &mut HintText) {
         mark: read.mark,
         unit: read.unit,
         places: read.places,
+        channels: read.channels,
     });
     hint.begin(": the time ");
     hint.say_short("", time_in(read));
@@ -262,14 +361,26 @@ fn tell_word(read: &ReadLine<'_>, hint: &mut HintText) {
 pub fn tell_too_long(until: Option<u64>, hint: &mut HintText) {
     match until {
         Some(until) => {
-            hint.begin(": until ");
+            hint.begin(": from the first word until ");
             hint.say_number("", until);
             hint.end(
                 " us a group would send more than 1000000 frames (the limit): give an earlier --until",
             );
         }
         None => hint.say_line(
-            "the log is too long: until one frame after the last word a group would send more than 1000000 frames (the limit); count times from the first word (--from first), or give --until",
+            "the log is too long: from the first word until one frame after the last a group would send more than 1000000 frames (the limit); cut the log, or give --until",
         ),
     }
+}
+
+/// Says that words come more closely than a bus can carry them, and with which unit their times would be longer.
+pub fn tell_close_words(receiver: &str, unit: TimeUnit, hint: &mut HintText) {
+    hint.begin(": more than 100 words in a row come to receiver ");
+    hint.say(receiver);
+    hint.say(" less than 360 us apart, which is too close even for 100 kbit/s");
+    hint.end(match unit {
+        TimeUnit::Microseconds => "; if the times are milliseconds, give --time ms",
+        TimeUnit::Milliseconds => "; if the times are seconds, give --time s",
+        TimeUnit::Seconds => "",
+    });
 }

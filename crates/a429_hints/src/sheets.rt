@@ -1,41 +1,58 @@
 //! Rows of comma-separated values, as a person sees them.
 
 use crate::hint::HintText;
-use a429_import::{CsvLine, IMPORT_COLUMNS, ImportColumn, is_column_in_millis, is_column_named};
+use a429_import::{CsvLine, Heading, IMPORT_COLUMNS, ImportColumn, may_be_thousands};
 use std::alloc::{AllocError, Global};
+
+/// The maximum length of a name.
+const NAME_LEN: usize = 16;
 
 /// The rows of a file below their heading.
 #[derive(Clone, Copy)]
 pub struct Sheet<'a> {
-    pub heading: &'a CsvLine,
+    /// The heading by the names of its columns.
+    pub heading: &'a Heading,
+    /// The heading as it is written.
+    pub titles: &'a CsvLine,
     pub rows: &'a [CsvLine],
 }
 
 impl<'a> Sheet<'a> {
-    /// The place of a column in the heading. `None` if the heading has no such column.
-    fn place(self, column: &str) -> Option<usize> {
-        let column = column_of(column)?;
-        for place in 0..self.heading.len() {
-            if is_column_named(column, self.heading.field(place)) {
-                return Some(place);
-            }
-        }
-        None
-    }
-
     /// The field of a row in a column; an empty one if the heading has no such column.
     pub fn field(self, row: &'a CsvLine, column: &str) -> &'a [u8] {
-        match self.place(column) {
-            Some(place) => row.field(place),
+        match column_of(column) {
+            Some(column) => self.heading.field_of(row, column),
             None => &[],
+        }
+    }
+
+    /// The name of a column as the heading has it; the column's own name if it has none.
+    pub fn title(self, column: &'a str) -> &'a str {
+        match self.text(self.titles, column) {
+            "" => column,
+            title => title,
         }
     }
 
     /// Whether a column is in milliseconds.
     pub fn is_in_millis(self, column: &str) -> bool {
-        match (column_of(column), self.place(column)) {
-            (Some(column), Some(place)) => is_column_in_millis(column, self.heading.field(place)),
+        match column {
+            "min_us" => self.heading.is_min_in_millis,
+            "max_us" => self.heading.is_max_in_millis,
             _ => false,
+        }
+    }
+
+    /// What must be in a column.
+    pub fn form_of(self, column: &str) -> &'static str {
+        match column {
+            "min_us" if self.is_in_millis(column) => {
+                "milliseconds from 0.001 to the maximum, with at most three decimals"
+            }
+            "max_us" if self.is_in_millis(column) => {
+                "milliseconds from the minimum to 30000, with at most three decimals"
+            }
+            _ => form_in(column),
         }
     }
 
@@ -136,11 +153,11 @@ fn thing_in(column: &str) -> &'static str {
 /// What must be in a column.
 pub fn form_in(column: &str) -> &'static str {
     match column {
-        "rate" => "100000 or 12000 to 14500 (bit/s)",
+        "rate" => "HS (100000), LS (12500), or 12000 to 14500 bit/s",
         "label" => "three octal digits, 000 to 377",
         "sdi" => "0 to 3, or `any`",
-        "min_us" => "a whole number of microseconds, from 1 to max_us",
-        "max_us" => "a whole number of microseconds, from min_us to 30000000",
+        "min_us" => "a whole number of microseconds, from 1 to the maximum",
+        "max_us" => "a whole number of microseconds, from the minimum to 30000000",
         "hold" => "a whole number from 1 to 1000000, or nothing for no limit",
         "filters" => "LLL/MMM, label and mask, each three octal digits from 000 to 377",
         _ => "1 to 16 characters of `a` to `z`, `0` to `9`, `-` and `_`",
@@ -168,21 +185,39 @@ pub fn begin_row(row: &CsvLine, words: &str, hint: &mut HintText) {
 }
 
 /// Begins a line about a column of a row.
-pub fn begin_column(row: &CsvLine, column: &str, hint: &mut HintText) {
+pub fn begin_column(sheet: Sheet, row: &CsvLine, column: &str, hint: &mut HintText) {
     begin_row(row, ", column ", hint);
-    hint.say_text(column, ": ");
+    hint.say_short("", sheet.title(column));
+    hint.say(": ");
+}
+
+/// Says that a field is empty, and what must be in it.
+fn tell_empty(sheet: Sheet, column: &str, hint: &mut HintText) {
+    hint.say_text("the field is empty; it must be ", sheet.form_of(column));
+    if is_of_output(column) {
+        hint.say("; if no group sends the source, leave the group empty too");
+    }
+    hint.end("");
 }
 
 /// Says what is in a column, and what must be there.
-pub fn tell_field(row: &CsvLine, column: &str, text: &str, hint: &mut HintText) {
-    let form = form_in(column);
-    begin_column(row, column, hint);
+pub fn tell_field(sheet: Sheet, row: &CsvLine, column: &str, text: &str, hint: &mut HintText) {
+    let form = sheet.form_of(column);
+    begin_column(sheet, row, column, hint);
     if text.is_empty() {
-        hint.end_text("the field is empty; it must be ", form);
-        return;
+        return tell_empty(sheet, column, hint);
     }
     hint.say_quoted("", text);
-    if is_of_output(column) && text.len() > 1 && text.starts_with('0') {
+    if sheet.is_in_millis(column) && may_be_thousands(row.separator, text.as_bytes()) {
+        return hint.end(
+            " may be a thousand times as much; write it without a point, or with fewer or more decimals",
+        );
+    }
+    if is_of_output(column)
+        && !sheet.is_in_millis(column)
+        && text.len() > 1
+        && text.starts_with('0')
+    {
         hint.end_text(" begins with a zero; it must be ", form);
         return;
     }
@@ -191,25 +226,18 @@ pub fn tell_field(row: &CsvLine, column: &str, text: &str, hint: &mut HintText) 
         _ => {
             hint.say_text(" is not ", thing_in(column));
             hint.say_text("; it must be ", form);
-            say_remedy(column, text, hint);
+            say_remedy(sheet, column, text, hint);
             hint.end("");
         }
     }
 }
 
-/// Says what is in a column of milliseconds, and what must be there.
-pub fn tell_millis(row: &CsvLine, column: &str, text: &str, hint: &mut HintText) {
-    begin_column(row, column, hint);
-    hint.say_quoted("", text);
-    hint.end(" is not a time; it must be milliseconds with at most three decimals");
-}
-
 /// Says what is in a column of an output, although the row has no group.
-pub fn tell_no_group(row: &CsvLine, column: &str, text: &str, hint: &mut HintText) {
-    begin_column(row, column, hint);
+pub fn tell_no_group(sheet: Sheet, row: &CsvLine, column: &str, text: &str, hint: &mut HintText) {
+    begin_column(sheet, row, column, hint);
     hint.say_quoted("", text);
     hint.end(
-        " in a row without a group; give the group a name, or leave rate, min_us, max_us and hold empty",
+        " in a row without a group; give the group a name, or leave the bit rate, the intervals and the hold empty",
     );
 }
 
@@ -222,15 +250,15 @@ fn in_millis(column: &str) -> &'static str {
 }
 
 /// Says what to write instead of a text, if it is known.
-fn say_remedy(column: &str, text: &str, hint: &mut HintText) {
+fn say_remedy(sheet: Sheet, column: &str, text: &str, hint: &mut HintText) {
     match column {
-        "min_us" | "max_us" => {
+        "min_us" | "max_us" if !sheet.is_in_millis(column) => {
             if let Some(us) = millis(text) {
                 hint.say_number("; if it is in ms, write ", us);
                 hint.say_text(", or name the column ", in_millis(column));
             }
         }
-        "group" | "source" | "receiver" => match lawful_name(hint.alloc, text) {
+        "group" | "source" | "receiver" => match proposed_name(sheet, column, text, hint.alloc) {
             Ok(name) if !name.is_empty() => hint.say_text("; for example ", name.as_str()),
             _ => {}
         },
@@ -259,23 +287,67 @@ fn millis(text: &str) -> Option<u64> {
     Some(us)
 }
 
-/// A name like a text: its letters in lower case and its digits, `-` between them, at most 16 characters.
+/// The name for a text of a column: like the text, and other than those for earlier texts of the column. It is empty if
+/// nothing of the text is left.
+fn proposed_name(
+    sheet: Sheet,
+    column: &str,
+    text: &str,
+    alloc: Global,
+) -> Result<String, AllocError> {
+    let name = lawful_name(alloc, text)?;
+    let mut texts: Vec<&str> = Vec::new(alloc);
+    for row in sheet.rows {
+        let earlier = sheet.text(row, column);
+        if earlier == text {
+            break;
+        }
+        if !texts.contains(&earlier) && lawful_name(alloc, earlier)?.as_str() == name.as_str() {
+            texts.push(earlier)?;
+        }
+    }
+    if texts.is_empty() || name.is_empty() {
+        Ok(name)
+    } else {
+        numbered_name(alloc, name.as_str(), texts.len().saturating_add(1))
+    }
+}
+
+/// A name with a number at its end, at most 16 characters.
+fn numbered_name(alloc: Global, name: &str, number: usize) -> Result<String, AllocError> {
+    let digits = format!(in alloc; "{number}")?;
+    let kept = NAME_LEN.saturating_sub(digits.len()).saturating_sub(1);
+    let mut numbered = String::new(alloc);
+    numbered.push_str(first_of(name, kept))?;
+    numbered.push('-')?;
+    numbered.push_str(digits.as_str())?;
+    Ok(numbered)
+}
+
+/// The first characters of a name, at most this many, without a `-` at their end.
+fn first_of(name: &str, most: usize) -> &str {
+    let first = match name.as_bytes().get(..most) {
+        Some(bytes) => str::from_utf8(bytes).unwrap_or(name),
+        None => name,
+    };
+    first.trim_end_matches('-')
+}
+
+/// A name like a text: its letters in lower case, its digits and underlines, and one `-` for all others between them. It
+/// has at most 16 characters, and no `-` at its ends.
 fn lawful_name(alloc: Global, text: &str) -> Result<String, AllocError> {
     let mut name = String::new(alloc);
     let mut is_apart = false;
     for c in text.chars() {
-        if name.len() >= 16 {
-            break;
-        }
         if !c.is_ascii_alphanumeric() && c != '_' {
             is_apart = !name.is_empty();
             continue;
         }
-        if is_apart && name.len() < 15 {
+        if is_apart {
             name.push('-')?;
         }
         is_apart = false;
         name.push(c.to_ascii_lowercase())?;
     }
-    Ok(name)
+    String::from_str(alloc, first_of(name.as_str(), NAME_LEN))
 }

@@ -1,13 +1,14 @@
 //! Chooses the hints for what a command read and refused.
 
 use crate::checks::{JudgedText, tell_objection};
+use crate::clocks::tell_clocks;
 use crate::differences::tell_difference;
 use crate::faults::tell_table_fault;
-use crate::files::tell_trouble;
+use crate::files::{REFUSED_OUTPUT, tell_trouble};
 use crate::findings::tell_findings;
 use crate::hint::HintText;
 use crate::imports::tell_rows;
-use crate::logs::{tell_log_line, tell_too_long};
+use crate::logs::{tell_close_words, tell_log_line, tell_too_long};
 use crate::mistakes::{tell_habits, tell_nearest_word};
 use crate::plans::{tell_all_unfit, tell_fewer_buses, tell_groups, tell_half_period};
 use crate::scripts::{tell_script_line, tell_words_line};
@@ -16,9 +17,11 @@ use crate::words::{
 };
 use a429_console::arguments::forms::{CommandForm, Verb, command_of};
 use a429_console::arguments::requests::Asked;
-use a429_console::hints::{FurtherCause, FurtherFault, Hints, Seen, SeenTable, TableLook};
+use a429_console::hints::warnings::{FurtherCause, FurtherFault, Warning};
+use a429_console::hints::{Hints, Seen, SeenTable, TableLook};
 use a429_console::refusals::CommandRefusal;
 use a429_table::FaultKind;
+use a429_text::Sheet;
 use std::alloc::Global;
 use std::io;
 use std::io::Write;
@@ -48,16 +51,16 @@ impl Hints for HintLines {
         hint.put(err)
     }
 
-    fn tell_further<V: Write>(
+    fn tell_warnings<V: Write>(
         &self,
         alloc: Global,
         asked: &Asked,
-        faults: &[FurtherFault],
+        warnings: &[Warning],
         err: &mut V,
     ) -> io::Result<()> {
         let mut hint = HintText::new(alloc);
-        for fault in faults {
-            tell_further_fault(asked, fault, &mut hint);
+        for warning in warnings {
+            tell_warning(asked, warning, &mut hint);
         }
         hint.put(err)?;
         err.flush()
@@ -82,8 +85,29 @@ fn tell_seen(asked: &Asked, seen: &Seen, hint: &mut HintText) {
         tell_objection(judged, objection, hint);
     }
     if let Some(findings) = &seen.findings {
+        tell_found(asked, findings, hint);
+    }
+}
+
+/// Says what to do about what was found.
+fn tell_found(asked: &Asked, found: &Sheet, hint: &mut HintText) {
+    if asked.verb == Verb::Judge {
+        hint.turn_to(asked.third);
+        tell_clocks(asked.second, found, hint);
+    } else {
         hint.turn_to(table_name(asked));
-        tell_findings(&findings.rows, hint);
+        tell_findings(&found.rows, hint);
+    }
+}
+
+/// Says what a warning is about.
+fn tell_warning(asked: &Asked, warning: &Warning, hint: &mut HintText) {
+    match warning {
+        Warning::Further(fault) => tell_further_fault(asked, fault, hint),
+        Warning::CloseWords(receiver) => {
+            hint.turn_to(text_name(asked));
+            tell_close_words(receiver.as_str(), asked.options.time, hint);
+        }
     }
 }
 
@@ -105,7 +129,7 @@ fn tell_further_fault(asked: &Asked, fault: &FurtherFault, hint: &mut HintText) 
 fn tell_refusal(asked: &Asked, refusal: &CommandRefusal, seen: &Seen, hint: &mut HintText) {
     if let Some(rows) = &seen.rows {
         hint.turn_to(text_name(asked));
-        return tell_rows(refusal, rows, hint);
+        return tell_rows(refusal, &asked.maps, rows, hint);
     }
     match refusal {
         CommandRefusal::File(name) => tell_trouble(seen.trouble, name.as_str(), hint),
@@ -150,7 +174,7 @@ fn tell_of_line(asked: &Asked, seen: &Seen, hint: &mut HintText) {
         (Verb::Live, None) => tell_words_line(line, hint),
         (Verb::Simulate | Verb::Survey | Verb::Judge, None) => {
             if let Some(log) = &seen.log {
-                tell_log_line(line, log, hint);
+                tell_log_line(line, log, &asked.channels, hint);
             }
         }
         (_, None) => tell_script_line(line, hint),
@@ -244,9 +268,7 @@ fn tell_order(asked: &Asked, looks: TableLook, hint: &mut HintText) {
         TableLook::Rows => return hint.say_line(
             "these are rows for import; write a429 import FILE >table.toml, and name table.toml here",
         ),
-        TableLook::Refusal => return hint.say_line(
-            "this is the answer of a command that refused its file; correct that, and run the command again",
-        ),
+        TableLook::Refusal => return hint.say_line(REFUSED_OUTPUT),
         TableLook::Other => return,
     };
     hint.begin(": this looks like ");

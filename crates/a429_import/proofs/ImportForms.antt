@@ -19,35 +19,35 @@ pub one_more_separator : {separator : ℕ} (lines : List CsvLine) (line : CsvLin
 one_more_separator [] line all here = (here, tt)
 one_more_separator (l ∷ lines) line all here = (all.0, one_more_separator lines line all.1 here)
 
-pub lines_are : (text : List ℕ) (form : Form) (all lines : List CsvLine) → form.separator ≡ separator_in text → form.text.now ≡ from_heading text
+pub lines_are : (maps : List (List ℕ)) (text : List ℕ) (form : Form) (all lines : List CsvLine) → form.separator ≡ separator_in maps text → form.text.now ≡ from_heading maps text
     → AreRecords (separated form.separator) st.StartRecord (strip_bom form.text.now) (map (λ l. fields_of l.fields) all) → AllByRecursion (λ l. l.separator ≡ form.separator) all
-    → lines ≡ filter (λ l. has_text (fields_of l.fields)) all → AreLines text lines
-lines_are text form all lines separator from records separators filled =
+    → lines ≡ filter (λ l. has_text (fields_of l.fields)) all → AreLines maps text lines
+lines_are maps text form all lines separator from records separators filled =
     let one = subst (λ (s : ℕ). AreRecords (separated s) st.StartRecord (strip_bom form.text.now) (map (λ l. fields_of l.fields) all)) separator records in
     record {
       all = all;
-      records = subst (λ (xs : List ℕ). AreRecords (separated (separator_in text)) st.StartRecord (strip_bom xs) (map (λ l. fields_of l.fields) all)) from one;
+      records = subst (λ (xs : List ℕ). AreRecords (separated (separator_in maps text)) st.StartRecord (strip_bom xs) (map (λ l. fields_of l.fields) all)) from one;
       separators = subst (λ (s : ℕ). AllByRecursion (λ l. l.separator ≡ s) all) separator separators;
       filled = filled;
     }
 
 -- ---- the heading among lines
 
-pub among_here : (lines : ℕ) (text : List ℕ) (separator : ℕ) → 0 < lines → find (is_heading (first_line text)) separators ≡ Some separator → heading_among lines text ≡ Some (separator, text)
+pub among_here : (maps : List (List ℕ)) (lines : ℕ) (text : List ℕ) (separator : ℕ) → 0 < lines → find (is_heading maps (first_line text)) separators ≡ Some separator → heading_among maps lines text ≡ Some (separator, text)
 unfolding heading_among
-among_here zero text separator some found = absurd (omega (arith, some))
-among_here (suc lines) text separator some found = ap (λ (o : Option ℕ). option_or (option_map (λ s. (s, text)) o) (heading_among lines (later_lines text))) found
+among_here maps zero text separator some found = absurd (omega (arith, some))
+among_here maps (suc lines) text separator some found = ap (λ (o : Option ℕ). option_or (option_map (λ s. (s, text)) o) (heading_among maps lines (later_lines text))) found
 
-pub among_later : (lines : ℕ) (text : List ℕ) → 0 < lines → find (is_heading (first_line text)) separators ≡ None → heading_among lines text ≡ heading_among (lines - 1) (later_lines text)
+pub among_later : (maps : List (List ℕ)) (lines : ℕ) (text : List ℕ) → 0 < lines → find (is_heading maps (first_line text)) separators ≡ None → heading_among maps lines text ≡ heading_among maps (lines - 1) (later_lines text)
 unfolding heading_among
-among_later zero text some none = absurd (omega (arith, some))
-among_later (suc lines) text some none =
+among_later maps zero text some none = absurd (omega (arith, some))
+among_later maps (suc lines) text some none =
     let one : lines ≡ suc lines - 1 = omega arith in
-    ap (λ (o : Option ℕ). option_or (option_map (λ s. (s, text)) o) (heading_among lines (later_lines text))) none ∙ ap (λ (n : ℕ). heading_among n (later_lines text)) one
+    ap (λ (o : Option ℕ). option_or (option_map (λ s. (s, text)) o) (heading_among maps lines (later_lines text))) none ∙ ap (λ (n : ℕ). heading_among maps n (later_lines text)) one
 
-pub among_none : (lines : ℕ) (text : List ℕ) → lines ≡ 0 → heading_among lines text ≡ None
+pub among_none : (maps : List (List ℕ)) (lines : ℕ) (text : List ℕ) → lines ≡ 0 → heading_among maps lines text ≡ None
 unfolding heading_among
-among_none lines text none = ap (λ (n : ℕ). heading_among n text) none
+among_none maps lines text none = ap (λ (n : ℕ). heading_among maps n text) none
 
 -- ---- the fields of a line
 

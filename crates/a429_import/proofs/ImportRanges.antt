@@ -16,7 +16,7 @@ use Rattle.a429_import.specs.declared.lines.CsvLine.{CsvLine}
 use Rattle.a429_import.specs.declared.rows.ImportRow.{ImportRow}
 use Rattle.a429_import.specs.declared.rows.RowNumbers.{RowNumbers}
 use Rattle.a429_import.specs.declared.rows.RowTexts.{RowTexts}
-use Rattle.a429_import.specs.ImportFields.{if_group, in_32_bits, interval_in, micros_in, is_any, is_bit, is_high, is_low, is_mark, label_in, millis_in, number_in, padded, parted_millis, rate_in, sdi_digits, sdi_in, hold_in, together}
+use Rattle.a429_import.specs.ImportFields.{if_group, in_32_bits, interval_in, micros_in, is_any, is_bit, is_high, is_low, is_mark, may_be_thousands, label_in, millis_in, number_in, padded, parted_millis, rate_in, sdi_digits, sdi_in, hold_in, together}
 use Rattle.a429_import.specs.ImportWords.{unwrapped}
 use Rattle.a429_import.specs.ImportRows.{◌>>=◌, CsvFault, column_field, is_column_in_millis, names_group, numbers_of, texts_of, joined, row_of, first_clash, agreed, next_row, rows_after, unless_wrong, rows_stated, says_nothing, with_row, wrong_column}
 
@@ -101,9 +101,13 @@ parted_in_range : (field : List ℕ) (place : Option ℕ) (n : ℕ) → parted_m
 parted_in_range field None n h = together_in_range (decimal_number field) (Some 0) n h
 parted_in_range field (Some place) n h = together_in_range (decimal_number (take place field)) (micros_in (drop (place + 1) field)) n h
 
+millis_or : (thousands : Bool) (field : List ℕ) (place : Option ℕ) (n : ℕ) → (if thousands then None else parted_millis field place) ≡ Some n → n < 2 ^ 32
+millis_or true field place n h = cc
+millis_or false field place n h = parted_in_range field place n h
+
 millis_in_range : (separator : ℕ) (field : List ℕ) (n : ℕ) → millis_in separator field ≡ Some n → n < 2 ^ 32
 unfolding millis_in
-millis_in_range separator field n h = parted_in_range field (position (is_mark separator) field) n h
+millis_in_range separator field n h = millis_or (may_be_thousands separator field) field (position (is_mark separator) field) n h
 
 interval_in_range : (in_millis : Bool) (separator : ℕ) (field : List ℕ) (n : ℕ) → interval_in in_millis separator field ≡ Some n → n < 2 ^ 32
 interval_in_range true separator field n h = millis_in_range separator field n h

@@ -8,7 +8,7 @@ use Rattle.a429_import.specs.declared.fault.CsvFaultKind.TheVariants.{Column}
 use Rattle.a429_import.specs.declared.fault.ImportColumn.{ImportColumn}
 use Rattle.a429_import.specs.declared.fault.ImportColumn.TheVariants.{Group}
 use Rattle.a429_import.specs.declared.fault.ImportFault.{ImportFault}
-use Rattle.a429_import.specs.declared.fault.ImportFault.TheVariants.{NoMemory, Csv, Table}
+use Rattle.a429_import.specs.declared.fault.ImportFault.TheVariants.{NoMemory, Csv, Wide, Table}
 use Rattle.a429_import.specs.declared.lines.CsvLine.{CsvLine}
 use Rattle.a429_import.specs.declared.reading.LinesRead.{LinesRead}
 use Rattle.a429_import.specs.declared.rows.ImportRow.{ImportRow}
@@ -28,6 +28,7 @@ pub line_refused : {X : Type 0} (view : X → List ImportRow) (heading : List (L
     → States {X = ImportRow} (λ row. row) (Err e) (next_row heading earlier line) → States view (Err e) (with_line heading earlier line)
 line_refused view heading earlier line NoMemory h = tt
 line_refused view heading earlier line (Csv number kind column) h = ap (λ (r : Result ImportRow CsvFault). r >>= λ row. Ok (with_row earlier row)) h
+line_refused view heading earlier line (Wide number) h = absurd h
 line_refused view heading earlier line (Table f) h = absurd h
 
 after_both : {A B C E : Type 0} (r : Result A E) (f : A → Result C E) (g : A → Result B E) (h : B → Result C E) → ((a : A) → f a ≡ (g a >>= h)) → (r >>= f) ≡ ((r >>= g) >>= h)
@@ -54,6 +55,7 @@ unfolding rows_stated
 fault_stays e [] line h = absurd h
 fault_stays NoMemory (heading ∷ below) line h = tt
 fault_stays (Csv number kind column) (heading ∷ below) line h = refused_stays heading below line (wrong_column (fields_of heading.fields)) (number, kind, column) h
+fault_stays (Wide number) (heading ∷ below) line h = absurd h
 fault_stays (Table f) (heading ∷ below) line h = absurd h
 
 -- ---- the heading
@@ -104,6 +106,7 @@ module _ (heading : CsvLine) (below : List CsvLine) (old : LinesRead) (line : Cs
   row_refused : (e : ImportFault) → States {X = List ImportRow} (λ rows. rows) (Err e) (with_line (fields_of heading.fields) known.rows line) → HaveFault e (heading ∷ below ++ line ∷ [])
   row_refused NoMemory h = tt
   row_refused (Csv number kind column) h = stated ∙ h
+  row_refused (Wide number) h = absurd h
   row_refused (Table f) h = absurd h
 
 -- one more line, which may have a fault

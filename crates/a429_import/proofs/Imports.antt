@@ -1,6 +1,7 @@
 -- What is imported from lines.
-use Rattle.std.proofs.Common.{◌≡◌, ◌∙◌, ℕ, List, [], ◌∷◌, Some, Vec, Global, Result, Ok, Err, ap, refl, subst, sym}
+use Rattle.std.proofs.Common.{◌≡◌, ◌∙◌, ℕ, false, List, [], ◌∷◌, Some, Vec, Global, Result, Ok, Err, ap, ap₂, refl, subst, sym}
 use Rattle.std.specs.Str.{IsUtf8}
+use Rattle.csv.specs.Reading.{strip_bom}
 use Rattle.toml.specs.Data.{Data, table}
 use Rattle.toml.specs.Parse.{parse_document}
 use Rattle.a429_equipment.specs.TableRecord.{TableRecord}
@@ -13,13 +14,14 @@ use Rattle.a429_table.specs.Reading.{GivesUnlessMemory, document, judged, readin
 use Rattle.a429_table.specs.Stated.{stated}
 use Rattle.a429_table.proofs.Documents.{document-text}
 use Rattle.a429_import.specs.declared.fault.ImportFault.{ImportFault}
-use Rattle.a429_import.specs.declared.fault.ImportFault.TheVariants.{NoMemory, Csv, Table}
+use Rattle.a429_import.specs.declared.fault.ImportFault.TheVariants.{NoMemory, Csv, Wide, Table}
 use Rattle.a429_import.specs.declared.lines.CsvLine.{CsvLine}
 use Rattle.a429_import.specs.declared.rows.ImportRow.{ImportRow}
 use Rattle.a429_import.specs.ImportFaults.{of_table}
+use Rattle.a429_import.specs.ImportForms.{from_heading, separator_in}
 use Rattle.a429_import.specs.ImportRows.{rows_stated}
 use Rattle.a429_import.specs.ImportTables.{record_stated, root_members}
-use Rattle.a429_import.specs.Imports.{AreLines, IsImport, IsImportOf}
+use Rattle.a429_import.specs.Imports.{AreNamedLines, IsImport, IsImportOf, has_wide_row, is_wide_text}
 use Rattle.a429_import.proofs.ImportRanges.{stated_in_range}
 use Rattle.a429_import.proofs.ImportRecords.{tree_states}
 
@@ -62,8 +64,14 @@ module _ (lines : List CsvLine) (rows : List ImportRow) (are : rows_stated lines
 
 -- ---- of a text
 
-pub import_of : (text : List ℕ) (lines : List CsvLine) (result : Result (Vec ℕ Global) ImportFault) → AreLines text lines → IsImportOf lines result → IsImport text result
-import_of text lines (Ok bytes) are h = (lines, are, h)
-import_of text lines (Err NoMemory) are h = tt
-import_of text lines (Err (Csv line kind column)) are h = (lines, are, h)
-import_of text lines (Err (Table f)) are h = (lines, are, h)
+pub narrow_by : (maps : List (List ℕ)) (text : List ℕ) (separator : ℕ) (rest : List ℕ) → separator ≡ separator_in maps text → rest ≡ from_heading maps text → has_wide_row separator (strip_bom rest) ≡ false
+    → is_wide_text maps text ≡ false
+narrow_by maps text separator rest by from none = ap₂ (λ (s : ℕ) (xs : List ℕ). has_wide_row s (strip_bom xs)) (sym by) (sym from) ∙ none
+
+pub import_of : (maps : List (List ℕ)) (text : List ℕ) (lines : List CsvLine) (result : Result (Vec ℕ Global) ImportFault) → is_wide_text maps text ≡ false → AreNamedLines maps text lines → IsImportOf lines result
+    → IsImport maps text result
+import_of maps text lines (Ok bytes) narrow are h = (narrow, lines, are, h)
+import_of maps text lines (Err NoMemory) narrow are h = tt
+import_of maps text lines (Err (Csv line kind column)) narrow are h = (narrow, lines, are, h)
+import_of maps text lines (Err (Wide line)) narrow are h = absurd h
+import_of maps text lines (Err (Table f)) narrow are h = (narrow, lines, are, h)

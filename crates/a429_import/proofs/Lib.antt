@@ -17,4 +17,6 @@ pub mod KnownRows
 pub mod Flags
 mod FullRows
 pub mod ImportForms
+pub mod ImportWidths
 mod PartsOfText
+mod ImportMaps

@@ -4,6 +4,7 @@ use Rattle.a429_import.specs.declared.fault.ImportColumn.TheVariants.{MaxUs, Min
 use Rattle.a429_import.specs.declared.rows.RowNumbers.{RowNumbers}
 use Rattle.a429_import.specs.ImportFields.{label_in, millis_in, rate_in, sdi_in}
 use Rattle.a429_import.specs.ImportForms.{heading_of}
+use Rattle.a429_import.specs.ImportMaps.{mapped, names_by}
 use Rattle.a429_import.specs.ImportRows.{is_in_millis, is_named, numbers_of}
 
 -- bit rates, labels and SDIs
@@ -28,6 +29,10 @@ pub record ReadsMillis : Type 0 where
   pub zeros : millis_in 9 (codes "0.0050") ≡ Some 5
   pub too_fine : millis_in 9 (codes "0.0005") ≡ None
   pub no_digit : millis_in 44 (codes "31.") ≡ None
+  pub thousands : millis_in 59 (codes "1.000") ≡ None
+  pub one : millis_in 59 (codes "1,000") ≡ Some 1000
+  pub small : millis_in 59 (codes "0.500") ≡ Some 500
+  pub decimals : millis_in 59 (codes "31.25") ≡ Some 31250
 
 -- names of columns, and a heading below a title
 pub record ReadsHeadings : Type 0 where
@@ -35,8 +40,8 @@ pub record ReadsHeadings : Type 0 where
   pub millis : is_named MaxUs (codes "MAX_MS") ≡ true
   pub unit : is_in_millis MaxUs (codes "MAX_MS") ≡ true
   pub other : is_named MinUs (codes "max us") ≡ false
-  pub below : heading_of (codes "Outputs, of a box\r\n\r\n\"Group\";Rate") ≡ Some (59, codes "\"Group\";Rate")
-  pub none : heading_of (codes "group\nrate") ≡ None
+  pub below : heading_of [] (codes "Outputs, of a box\r\n\r\n\"Group\";Rate") ≡ Some (59, codes "\"Group\";Rate")
+  pub none : heading_of [] (codes "group\nrate") ≡ None
 
 -- the names of the columns that a heading needs
 abbrev pub needed_columns : List (List ℕ)
@@ -56,3 +61,13 @@ pub record ReadsAlone : Type 0 where
   pub rated : numbers_of 44 needed_columns (row_of_alt [] (codes "HS") [] []) ≡ Err Rate
   pub least : numbers_of 44 needed_columns (row_of_alt [] [] (codes "0") []) ≡ Err MinUs
   pub no_rate : numbers_of 44 needed_columns (row_of_alt (codes "main") [] [] []) ≡ Err Rate
+
+-- headings by texts HEADING=COLUMN: in any case, and with spaces for underlines; a text that is not met leaves no name
+pub record ReadsMaps : Type 0 where
+  pub named : names_by (codes "Min (ms)=min_ms" ∷ []) (codes "label" ∷ codes "min_(MS)" ∷ []) ≡ codes "label" ∷ codes "min_ms" ∷ []
+  pub last_mark : mapped (codes "a=b=sdi" ∷ []) (codes "A=B") ≡ codes "sdi"
+  pub first : mapped (codes "a=sdi" ∷ codes "a=label" ∷ []) (codes "a") ≡ codes "sdi"
+  pub other : mapped (codes "a=sdi" ∷ []) (codes "b") ≡ codes "b"
+  pub no_heading : names_by (codes "c=sdi" ∷ []) (codes "label" ∷ codes "a" ∷ []) ≡ []
+  pub no_column : names_by (codes "a=bus" ∷ []) (codes "label" ∷ codes "a" ∷ []) ≡ []
+  pub found : heading_of (codes "Word=label" ∷ []) (codes "Outputs\nword,SDI") ≡ Some (44, codes "word,SDI")

@@ -52,6 +52,15 @@ abbrev pub micros_in : List ℕ → Option ℕ
 micros_in digits =
     if are_micros digits then Some ((digit_of (slice_get digits 0) * 100 + digit_of (slice_get digits 1) * 10) + digit_of (slice_get digits 2)) else None
 
+-- the part before a point is not 0, and the part after it has three digits, as if the point separated thousands
+abbrev pub has_thousands : List ℕ → Option ℕ → Bool
+has_thousands field None = false
+has_thousands field (Some place) = not (bytes_eq (take place field) (codes "0")) && (length (drop (place + 1) field) == 3)
+
+-- Programs write semicolons if a comma comes before decimals. A point then separates thousands: 1.000 may be a thousand
+abbrev pub may_be_thousands : ℕ → List ℕ → Bool
+may_be_thousands separator field = (separator == 59) && has_thousands field (position (λ b. b == 46) field)
+
 -- milliseconds below 4294967, and microseconds below them
 abbrev pub together : Option ℕ → Option ℕ → Option ℕ
 together (Some millis) (Some micros) = if nat_lt millis 4294967 && nat_lt micros 1000 then Some (millis * 1000 + micros) else None
@@ -61,9 +70,9 @@ abbrev pub parted_millis : List ℕ → Option ℕ → Option ℕ
 parted_millis field None = together (decimal_number field) (Some 0)
 parted_millis field (Some place) = together (decimal_number (take place field)) (micros_in (drop (place + 1) field))
 
--- the microseconds in a number of milliseconds
+-- the microseconds in a number of milliseconds, unless it may be a thousand times as much
 unfoldable pub millis_in : ℕ → List ℕ → Option ℕ
-millis_in separator field = parted_millis field (position (is_mark separator) field)
+millis_in separator field = if may_be_thousands separator field then None else parted_millis field (position (is_mark separator) field)
 
 -- an interval in microseconds, from a column in milliseconds or in microseconds
 abbrev pub interval_in : Bool → ℕ → List ℕ → Option ℕ

@@ -1,8 +1,9 @@
 -- The heading of a text: its line, and what separates its fields (profile: import).
 use Rattle.std.specs.Prelude.{ℕ, zero, suc, ◌==◌, ◌&&◌, ◌||◌, if◌then◌else◌, Bool, not, List, [], ◌∷◌, Option, None, drop, length, nat_lt, position, take, unwrap_or}
-use Rattle.std.specs.List.{count_by, find, list_any, slice_split}
+use Rattle.std.specs.List.{count_by, find, slice_split}
 use Rattle.std.specs.Option.{option_map, option_map_or, option_or}
-use Rattle.a429_import.specs.ImportRows.{import_columns, is_named}
+use Rattle.a429_import.specs.ImportMaps.{mapped}
+use Rattle.a429_import.specs.ImportRows.{is_column}
 use Rattle.a429_import.specs.ImportWords.{unquoted}
 
 -- a byte order mark (UTF-8) may come first
@@ -30,31 +31,32 @@ from_line text = drop (count_before (λ b. not (ends_line b)) text) text
 abbrev pub later_lines : List ℕ → List ℕ
 later_lines text = from_line (drop (count_before ends_line text) text)
 
--- a field of a line names a column
-abbrev pub names_column : List ℕ → Bool
-names_column field = list_any (λ column. is_named column (unquoted field)) import_columns
+-- a field of a line names a column, by itself or by a text HEADING=COLUMN
+abbrev pub names_column : List (List ℕ) → List ℕ → Bool
+names_column maps field = is_column (mapped maps (unquoted field))
 
 -- two fields or more of a line name columns, if this separates its fields
-abbrev pub is_heading : List ℕ → ℕ → Bool
-is_heading line separator = nat_lt 1 (count_by names_column (slice_split (λ b. b == separator) line))
+abbrev pub is_heading : List (List ℕ) → List ℕ → ℕ → Bool
+is_heading maps line separator = nat_lt 1 (count_by (names_column maps) (slice_split (λ b. b == separator) line))
 
 -- a comma, a semicolon or a tab
 abbrev pub separators : List ℕ
 separators = 44 ∷ 59 ∷ 9 ∷ []
 
 -- the first of these lines that is a heading: its separator, and the text from it on
-unfoldable pub heading_among : ℕ → List ℕ → Option (ℕ × List ℕ)
-heading_among zero text = None
-heading_among (suc lines) text = option_or (option_map (λ separator. (separator, text)) (find (is_heading (first_line text)) separators)) (heading_among lines (later_lines text))
+unfoldable pub heading_among : List (List ℕ) → ℕ → List ℕ → Option (ℕ × List ℕ)
+heading_among maps zero text = None
+heading_among maps (suc lines) text =
+    option_or (option_map (λ separator. (separator, text)) (find (is_heading maps (first_line text)) separators)) (heading_among maps lines (later_lines text))
 
 -- the heading is among the first eleven lines
-abbrev pub heading_of : List ℕ → Option (ℕ × List ℕ)
-heading_of text = heading_among 11 (from_line (without_byte_order_mark text))
+abbrev pub heading_of : List (List ℕ) → List ℕ → Option (ℕ × List ℕ)
+heading_of maps text = heading_among maps 11 (from_line (without_byte_order_mark text))
 
 -- what separates the fields of a text; a comma if it has no heading
-abbrev pub separator_in : List ℕ → ℕ
-separator_in text = option_map_or (λ h. h.0) (heading_of text) 44
+abbrev pub separator_in : List (List ℕ) → List ℕ → ℕ
+separator_in maps text = option_map_or (λ h. h.0) (heading_of maps text) 44
 
 -- the text from its heading on; all of it if it has no heading
-abbrev pub from_heading : List ℕ → List ℕ
-from_heading text = option_map_or (λ h. h.1) (heading_of text) text
+abbrev pub from_heading : List (List ℕ) → List ℕ → List ℕ
+from_heading maps text = option_map_or (λ h. h.1) (heading_of maps text) text

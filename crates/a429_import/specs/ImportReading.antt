@@ -11,6 +11,7 @@ use Rattle.a429_import.specs.declared.reading.LinesRead.{LinesRead}
 use Rattle.a429_import.specs.declared.reading.RowsRead.{RowsRead}
 use Rattle.a429_import.specs.declared.rows.ImportRow.{ImportRow}
 use Rattle.a429_import.specs.ImportClashes.{Agree}
+use Rattle.a429_import.specs.ImportMaps.{AreNamedBy}
 use Rattle.a429_import.specs.ImportRows.{◌>>=◌, CsvFault, next_row, rows_after, rows_stated, with_row, wrong_column}
 use Rattle.a429_import.specs.Imports.{States}
 use Rattle.a429_import.specs.Known.{Knows, are_full}
@@ -63,3 +64,7 @@ AreRead (Some fault) read lines = HaveFault fault lines
 -- what is known is right for these lines
 abbrev pub StandsFor : LinesRead → List CsvLine → Type 0
 StandsFor read lines = AreRead read.fault read lines
+
+-- this is so of these lines with the names of the heading by texts HEADING=COLUMN; the flag says whether there is a heading
+abbrev pub IsOfNamed : List (List ℕ) → Bool → (List CsvLine → Type 0) → List CsvLine → Type 0
+IsOfNamed maps is_below P lines = (named : List CsvLine) × AreNamedBy maps is_below lines named × P named

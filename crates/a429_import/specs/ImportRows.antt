@@ -1,6 +1,6 @@
 -- What rows of comma-separated values say, or the first row with a fault (profile: import).
 use Rattle.std.specs.Prelude.{ℕ, ◌==◌, ◌&&◌, ◌||◌, Bool, true, false, not, List, [], ◌∷◌, ◌++◌, Option, None, Some, Result, Ok, Err, codes, if◌then◌else◌, length, nat_lt, position}
-use Rattle.std.specs.List.{count_by, find}
+use Rattle.std.specs.List.{count_by, find, list_any}
 use Rattle.std.specs.Option.{ok_or, option_map_or, option_or}
 use Rattle.std.specs.Str.{bytes_eq}
 use Rattle.csv.specs.Records.{fields_of}
@@ -58,6 +58,10 @@ is_spaced _ field = false
 -- a field of the heading is a name of a column, in any case
 unfoldable pub is_named : ImportColumn → List ℕ → Bool
 is_named column field = is_text (column_name column) field || (is_spaced column field || is_in_millis column field)
+
+-- a name is that of a column
+abbrev pub is_column : List ℕ → Bool
+is_column name = list_any (λ column. is_named column name) import_columns
 
 -- the number of fields of the heading that are the name of a column
 abbrev pub times : List (List ℕ) → ImportColumn → ℕ

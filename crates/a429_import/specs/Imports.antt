@@ -1,8 +1,8 @@
 -- What is imported from a text of comma-separated values: a table, or why there is none (profile: import).
-use Rattle.std.specs.Prelude.{◌≡◌, ◌==◌, ℕ, Bool, not, List, filter, length, map, Some, Result, Ok, Err, Vec}
+use Rattle.std.specs.Prelude.{◌≡◌, ◌==◌, ℕ, Bool, true, false, not, List, filter, length, map, nat_lt, Some, Result, Ok, Err, Vec}
 use Rattle.std.specs.List.{AllByRecursion, list_any}
 use Rattle.std.specs.declared.alloc.Global.{Global}
-use Rattle.csv.specs.Reading.{AreRecords, default_config, strip_bom}
+use Rattle.csv.specs.Reading.{AreRecords, default_config, records, strip_bom}
 use Rattle.csv.specs.Records.{fields_of}
 use Rattle.csv.specs.declared.parser.Config.{Config}
 use Rattle.csv.specs.declared.parser.State.TheVariants as st
@@ -11,10 +11,11 @@ use Rattle.a429_table.specs.declared.fault.TableFault.TheVariants as fault
 use Rattle.a429_table.specs.Faults.{faults, first}
 use Rattle.a429_table.specs.Reading.{reading}
 use Rattle.a429_import.specs.declared.fault.ImportFault.{ImportFault}
-use Rattle.a429_import.specs.declared.fault.ImportFault.TheVariants.{NoMemory, Csv, Table}
+use Rattle.a429_import.specs.declared.fault.ImportFault.TheVariants.{NoMemory, Csv, Wide, Table}
 use Rattle.a429_import.specs.declared.lines.CsvLine.{CsvLine}
 use Rattle.a429_import.specs.declared.rows.ImportRow.{ImportRow}
 use Rattle.a429_import.specs.ImportForms.{from_heading, separator_in}
+use Rattle.a429_import.specs.ImportMaps.{AreNamedBy}
 use Rattle.a429_import.specs.ImportRows.{CsvFault, rows_stated}
 use Rattle.a429_import.specs.ImportTables.{root_members, record_stated}
 
@@ -23,6 +24,7 @@ abbrev pub States : {X Y : Type 0} → (X → Y) → Result X ImportFault → Re
 States view (Ok x) stated = stated ≡ Ok (view x)
 States view (Err NoMemory) stated = Unit {0}
 States view (Err (Csv line kind column)) stated = stated ≡ Err (line, kind, column)
+States view (Err (Wide line)) stated = ⊥
 States view (Err (Table fault)) stated = ⊥
 
 -- how the library `csv` reads a text whose fields this separates
@@ -39,22 +41,40 @@ has_text fields = list_any is_filled fields
 
 -- the rows of a text from its heading on, as the library `csv` reads them, each with its line and its separator; without the rows whose fields
 -- are all empty
-pub record AreLines (text : List ℕ) (lines : List CsvLine) : Type 0 where
+pub record AreLines (maps : List (List ℕ)) (text : List ℕ) (lines : List CsvLine) : Type 0 where
   pub all : List CsvLine
-  pub records : AreRecords (separated (separator_in text)) st.StartRecord (strip_bom (from_heading text)) (map (λ l. fields_of l.fields) all)
-  pub separators : AllByRecursion (λ l. l.separator ≡ separator_in text) all
+  pub records : AreRecords (separated (separator_in maps text)) st.StartRecord (strip_bom (from_heading maps text)) (map (λ l. fields_of l.fields) all)
+  pub separators : AllByRecursion (λ l. l.separator ≡ separator_in maps text) all
   pub filled : lines ≡ filter (λ l. has_text (fields_of l.fields)) all
+
+-- the same, with the names of the heading by texts HEADING=COLUMN
+abbrev pub AreNamedLines : List (List ℕ) → List ℕ → List CsvLine → Type 0
+AreNamedLines maps text lines = (read : List CsvLine) × (is_below : Bool) × AreLines maps text read × AreNamedBy maps is_below read lines
+
+-- a row has too many fields. Spreadsheet programs have at most 16,384 columns
+abbrev pub is_wide : List (List ℕ) → Bool
+is_wide fields = nat_lt 100000 (length fields)
+
+-- the library `csv` reads such a row in a text whose fields this separates
+unfoldable pub has_wide_row : ℕ → List ℕ → Bool
+has_wide_row separator text = list_any is_wide (records (separated separator) text)
+
+-- the same, in a text from its heading on
+abbrev pub is_wide_text : List (List ℕ) → List ℕ → Bool
+is_wide_text maps text = has_wide_row (separator_in maps text) (strip_bom (from_heading maps text))
 
 -- the import of lines: the text is read as the record of the rows; a table is refused for its first fault
 abbrev pub IsImportOf : List CsvLine → Result (Vec ℕ Global) ImportFault → Type 0
 IsImportOf lines (Ok text) = (rows : List ImportRow) × (rows_stated lines ≡ Ok rows) × (reading text.items ≡ Ok (record_stated rows))
 IsImportOf lines (Err NoMemory) = Unit {0}
 IsImportOf lines (Err (Csv line kind column)) = rows_stated lines ≡ Err (line, kind, column)
+IsImportOf lines (Err (Wide line)) = ⊥
 IsImportOf lines (Err (Table fault.NoMemory)) = ⊥
 IsImportOf lines (Err (Table (fault.At kind place))) =
     (rows : List ImportRow) × (rows_stated lines ≡ Ok rows) × (first (faults (table (root_members rows))) ≡ Some (kind, place))
 
--- the same for a text; an allocation may fail before its lines are known
-abbrev pub IsImport : List ℕ → Result (Vec ℕ Global) ImportFault → Type 0
-IsImport text (Err NoMemory) = Unit {0}
-IsImport text result = (lines : List CsvLine) × AreLines text lines × IsImportOf lines result
+-- the same for a text; a row with too many fields is refused before any line is looked at, and an allocation may fail before all lines are known
+abbrev pub IsImport : List (List ℕ) → List ℕ → Result (Vec ℕ Global) ImportFault → Type 0
+IsImport maps text (Err NoMemory) = Unit {0}
+IsImport maps text (Err (Wide line)) = is_wide_text maps text ≡ true
+IsImport maps text result = (is_wide_text maps text ≡ false) × (lines : List CsvLine) × AreNamedLines maps text lines × IsImportOf lines result

@@ -1,6 +1,7 @@
 pub mod ImportWords
 pub mod ImportFields
 pub mod ImportRows
+pub mod ImportMaps
 pub mod ImportForms
 pub mod ImportColumns
 pub mod ImportExamples
@@ -9,6 +10,7 @@ pub mod ImportBuilding
 pub mod ImportFaults
 pub mod ImportTexts
 pub mod Imports
+pub mod ImportWidths
 pub mod ImportedRows
 pub mod FirstRows
 pub mod ImportClashes

@@ -1,12 +1,12 @@
 //! The columns of rows, by the names in the heading.
 ghost use Rattle.std.specs.Prelude.{◌≡◌, ◌<◌, IfSome, length, position};
-ghost use Rattle.std.specs.List.{find};
+ghost use Rattle.std.specs.List.{find, list_any};
 ghost use Rattle.csv.specs.Records.{fields_of};
 ghost use Rattle.a429_import.specs.declared.fault.ImportColumn.{ImportColumn};
 ghost use Rattle.a429_import.specs.declared.fault.ImportColumn.TheVariants.{MaxUs, MinUs};
 ghost use Rattle.a429_import.specs.ImportFields.{field_in};
 ghost use Rattle.a429_import.specs.ImportColumns.{place_in};
-ghost use Rattle.a429_import.specs.ImportRows.{column_field, is_column_in_millis, is_in_millis, is_named, is_spaced, is_wrong, times, wrong_column};
+ghost use Rattle.a429_import.specs.ImportRows.{column_field, is_column, is_column_in_millis, is_in_millis, is_named, is_spaced, is_wrong, times, wrong_column};
 
 use crate::fault::ImportColumn;
 use crate::lines::CsvLine;
@@ -55,6 +55,25 @@ pub fn is_named(column: ImportColumn, name: &[u8]) -> bool
     ensures { result ≡ is_named column name.now }
 {
     is_text(column.name(), name) || is_spaced(column, name) || is_in_millis(column, name)
+}
+
+/// Whether one of these columns has a name.
+fn is_among(columns: &[ImportColumn], name: &[u8]) -> bool
+    ensures { result ≡ list_any (λ column. is_named column name.now) columns.now }
+{
+    for column in columns {
+        if is_named(*column, name) {
+            return true;
+        }
+    }
+    false
+}
+
+/// Whether a name is that of a column.
+pub fn is_column(name: &[u8]) -> bool
+    ensures { result ≡ is_column name.now }
+{
+    is_among(&COLUMNS, name)
 }
 
 /// The number of fields of the heading that are the name of a column.

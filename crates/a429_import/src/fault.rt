@@ -114,6 +114,12 @@ pub enum ImportFault {
         kind: CsvFaultKind,
         column: Option<ImportColumn>,
     },
+    /// The row that begins on this line, counted from 1, has more than 100,000 fields, and no earlier row has. This comes
+    /// before any other fault of the rows.
+    #[error("csv line {line} wide")]
+    Wide {
+        line: u64,
+    },
     /// The table that the rows describe has this fault.
     #[error("table {0}")]
     Table(TableFault),

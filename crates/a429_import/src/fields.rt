@@ -3,7 +3,7 @@ ghost use Rattle.std.specs.Prelude.{◌≡◌, ◌<◌, ◌==◌, None, is_some,
 ghost use Rattle.std.specs.Char.{is_ascii_digit};
 ghost use Rattle.std.specs.List.{list_all};
 ghost use Rattle.a429_filter.specs.FilterTexts.{filter_read};
-ghost use Rattle.a429_import.specs.ImportFields.{are_filters, are_micros, digit_of, filters_in, hold_in, if_group, interval_in, is_any, is_high, is_low, is_mark, label_in, micros_in, millis_in, number_in, padded, rate_in, sdi_digits, sdi_in, sdi_or_any, text_in, together, utf8_in};
+ghost use Rattle.a429_import.specs.ImportFields.{are_filters, are_micros, digit_of, filters_in, hold_in, if_group, interval_in, is_any, is_high, is_low, has_thousands, is_mark, label_in, may_be_thousands, micros_in, millis_in, number_in, padded, rate_in, sdi_digits, sdi_in, sdi_or_any, text_in, together, utf8_in};
 ghost use Rattle.a429_word.specs.Texts.{label_value};
 
 use crate::plain::{is_text, unwrapped};
@@ -119,12 +119,41 @@ fn together(millis: Option<u64>, micros: Option<u32>) -> Option<u32>
     }
 }
 
+/// The place of the first point.
+fn first_point(field: &[u8]) -> Option<usize>
+    ensures { result ≡ position (λ b. b == 46) field.now }
+{
+    field.iter().position(|byte| *byte == b'.')
+}
+
+/// Whether the part before a point is not 0, and the part after it has three digits.
+fn has_thousands(field: &[u8]) -> bool
+    ensures { result ≡ has_thousands field.now (position (λ b. b == 46) field.now) }
+{
+    match first_point(field) {
+        Some(point) => &field[..point] != "0".as_bytes() && field[point + 1..].len() == 3,
+        None => false,
+    }
+}
+
+/// Whether a number may be a thousand times as much: between semicolons a comma comes before decimals, and a point may
+/// separate thousands.
+pub fn may_be_thousands(separator: u8, field: &[u8]) -> bool
+    ensures { result ≡ may_be_thousands separator field.now }
+{
+    separator == b';' && has_thousands(field)
+}
+
 /// The microseconds in a number of milliseconds, which may have a point and digits after it, or a comma if commas do not
-/// separate fields. `None` for any other field, and if it states a part of a microsecond.
+/// separate fields. `None` for any other field, if it states a part of a microsecond, and if it may be a thousand times as
+/// much.
 #[tactic(auto, unfolding(crate::specs::ImportFields::millis_in))]
 fn millis_in(separator: u8, field: &[u8]) -> Option<u32>
     ensures { result ≡ millis_in separator field.now }
 {
+    if may_be_thousands(separator, field) {
+        return None;
+    }
     match first_mark(separator, field) {
         None => together(decimal_number(field), Some(0)),
         Some(mark) => {

@@ -1,11 +1,10 @@
 //! The heading of a text: its line, and what separates its fields.
-ghost use Rattle.std.specs.Prelude.{◌≡◌, ◌==◌, if◌then◌else◌, drop, length, not, option_map, position};
-ghost use Rattle.std.specs.List.{find, list_any};
+ghost use Rattle.std.specs.Prelude.{◌≡◌, ◌==◌, if◌then◌else◌, drop, not, option_map, position};
+ghost use Rattle.std.specs.List.{find};
 ghost use Rattle.a429_import.specs.ImportForms.{count_before, ends_line, first_line, from_heading, from_line, heading_among, heading_of, is_heading, later_lines, names_column, separator_in, separators, without_byte_order_mark};
-ghost use Rattle.a429_import.specs.ImportRows.{is_named};
+ghost use Rattle.a429_import.specs.ImportMaps.{given_texts};
 
-use crate::columns::{COLUMNS, is_named};
-use crate::fault::ImportColumn;
+use crate::maps::names_column_by;
 use crate::plain::unquoted;
 
 /// A text from its heading on, and what separates its fields.
@@ -16,7 +15,7 @@ pub struct Form<'a> {
 }
 
 /// A line feed or a carriage return.
-fn ends_line(byte: u8) -> bool
+pub fn ends_line(byte: u8) -> bool
     ensures { result ≡ ends_line byte }
 {
     byte == b'\n' || byte == b'\r'
@@ -93,23 +92,11 @@ fn later_lines(text: &[u8]) -> &[u8]
     from_line(from_place(text, line_len(text)))
 }
 
-/// Whether one of these columns has a name.
-fn is_among(columns: &[ImportColumn], name: &[u8]) -> bool
-    ensures { result ≡ list_any (λ column. is_named column name.now) columns.now }
+/// Whether a field of a line names a column, by itself or by a text HEADING=COLUMN.
+fn names_column(maps: &[&str], field: &[u8]) -> bool
+    ensures { result ≡ names_column (given_texts maps.now) field.now }
 {
-    for column in columns {
-        if is_named(*column, name) {
-            return true;
-        }
-    }
-    false
-}
-
-/// Whether a field of a line names a column.
-fn names_column(field: &[u8]) -> bool
-    ensures { result ≡ names_column field.now }
-{
-    is_among(&COLUMNS, unquoted(field))
+    names_column_by(maps, unquoted(field))
 }
 
 /// The place of the first such byte.
@@ -126,16 +113,16 @@ fn one_if(counts: bool) -> usize
 }
 
 /// Whether two fields or more of a line name columns, if this separates its fields.
-fn is_heading(line: &[u8], separator: u8) -> bool
-    ensures { result ≡ is_heading line.now separator }
+fn is_heading(maps: &[&str], line: &[u8], separator: u8) -> bool
+    ensures { result ≡ is_heading (given_texts maps.now) line.now separator }
 {
     let mut count = 0;
     let mut left = line;
     while let Some(end) = first_separator(separator, left) {
-        count += one_if(names_column(&left[..end]));
+        count += one_if(names_column(maps, &left[..end]));
         left = &left[end + 1..];
     }
-    if names_column(left) {
+    if names_column(maps, left) {
         0 < count
     } else {
         1 < count
@@ -143,14 +130,14 @@ fn is_heading(line: &[u8], separator: u8) -> bool
 }
 
 /// What separates the fields of a line, if it is a heading.
-fn separator_of(line: &[u8]) -> Option<u8>
-    ensures { result ≡ find (is_heading line.now) separators }
+fn separator_of(maps: &[&str], line: &[u8]) -> Option<u8>
+    ensures { result ≡ find (is_heading (given_texts maps.now) line.now) separators }
 {
-    if is_heading(line, b',') {
+    if is_heading(maps, line, b',') {
         Some(b',')
-    } else if is_heading(line, b';') {
+    } else if is_heading(maps, line, b';') {
         Some(b';')
-    } else if is_heading(line, b'\t') {
+    } else if is_heading(maps, line, b'\t') {
         Some(b'\t')
     } else {
         None
@@ -158,13 +145,13 @@ fn separator_of(line: &[u8]) -> Option<u8>
 }
 
 /// The first of these lines that is a heading, with the text from it on.
-fn heading_among(lines: usize, text: &[u8]) -> Option<Form<'_>>
-    ensures { option_map (λ form. (form.separator, form.text.now)) result ≡ heading_among lines text.now }
+fn heading_among<'a>(maps: &[&str], lines: usize, text: &'a [u8]) -> Option<Form<'a>>
+    ensures { option_map (λ form. (form.separator, form.text.now)) result ≡ heading_among (given_texts maps.now) lines text.now }
 {
     let mut rest = text;
     let mut left = lines;
     while 0 < left {
-        match separator_of(first_line(rest)) {
+        match separator_of(maps, first_line(rest)) {
             Some(separator) => {
                 return Some(Form {
                     separator,
@@ -180,7 +167,7 @@ fn heading_among(lines: usize, text: &[u8]) -> Option<Form<'_>>
 }
 
 /// A text without the byte order mark at its beginning (UTF-8), if it has one.
-fn without_mark(text: &[u8]) -> &[u8]
+pub fn without_mark(text: &[u8]) -> &[u8]
     ensures { result.now ≡ without_byte_order_mark text.now }
 {
     match text {
@@ -190,11 +177,11 @@ fn without_mark(text: &[u8]) -> &[u8]
 }
 
 /// A text from its heading on, and what separates its fields. All of it, and a comma, if it has no heading.
-pub fn form_of(text: &[u8]) -> Form<'_>
-    ensures separator { result.separator ≡ separator_in text.now }
-    ensures text { result.text.now ≡ from_heading text.now }
+pub fn form_of<'a>(maps: &[&str], text: &'a [u8]) -> Form<'a>
+    ensures separator { result.separator ≡ separator_in (given_texts maps.now) text.now }
+    ensures text { result.text.now ≡ from_heading (given_texts maps.now) text.now }
 {
-    match heading_among(11, from_line(without_mark(text))) {
+    match heading_among(maps, 11, from_line(without_mark(text))) {
         Some(form) => form,
         None => Form {
             separator: b',',

@@ -1,5 +1,5 @@
 //! What is true of the definitions that the contracts cite.
-ghost use Rattle.a429_import.specs.ImportExamples.{ReadsAlone, ReadsFields, ReadsHeadings, ReadsMillis};
+ghost use Rattle.a429_import.specs.ImportExamples.{ReadsAlone, ReadsFields, ReadsHeadings, ReadsMaps, ReadsMillis};
 ghost use Rattle.a429_import.specs.ImportedRows.{RowsAreInRecord};
 
 /// The record of the table has what each imported row says: a source with its name, label and SDI, whose receiver has the
@@ -14,5 +14,6 @@ pub fn forms_are_read_as_written()
     ensures fields { ReadsFields }
     ensures millis { ReadsMillis }
     ensures headings { ReadsHeadings }
+    ensures maps { ReadsMaps }
     ensures alone { ReadsAlone }
 {}

@@ -1,13 +1,14 @@
 //! An equipment table from rows of comma-separated values, as a spreadsheet writes them.
 //!
 //! `import_table` takes a heading with the names of columns, and below it a row for each output, or for a source that no
-//! group sends. It gives an equipment table as TOML. `csv_lines` gives the rows with their lines, and `IMPORT_COLUMNS` the columns that are read.
+//! group sends. It gives an equipment table as TOML. `csv_lines` gives the rows with their lines, and `IMPORT_COLUMNS`
+//! the columns that are read.
 //!
 //! Errors: an allocation failed, or the rows or their table have a fault. `ImportFault` has the first fault of the rows,
 //! with its line and its column; otherwise the first fault of the table.
 //!
 //! ```text
-//! match import_table(alloc, &bytes) {
+//! match import_table(alloc, maps, &bytes) {
 //!     Ok(text) => Ok(Reply::done(text)),
 //!     Err(fault) => {
 //!         ..
@@ -28,6 +29,7 @@ mod known;
 pub mod laws;
 mod limits;
 mod lines;
+mod maps;
 mod named_rows;
 mod names;
 mod plain;
@@ -37,11 +39,13 @@ mod rows;
 mod short_numbers;
 mod tables;
 mod texts;
+mod widths;
 mod words;
 
-pub use columns::{
-    COLUMNS as IMPORT_COLUMNS, is_in_millis as is_column_in_millis, is_named as is_column_named,
-};
+pub use columns::{COLUMNS as IMPORT_COLUMNS, Heading, is_column, is_named as is_column_named};
 pub use fault::{CsvFaultKind, ImportColumn, ImportFault};
+pub use fields::may_be_thousands;
 pub use import::import_table;
 pub use lines::{CsvLine, LineCount, csv_lines};
+pub use maps::{column_in, is_met, named_by};
+pub use rows::form_fault;

@@ -3,6 +3,7 @@ ghost use Rattle.std.specs.Prelude.{◌≡◌, ◌++◌, ◌∷◌, [], filter, 
 ghost use Rattle.std.specs.Result.{result_ok};
 ghost use Rattle.csv.specs.Records.{fields_of};
 ghost use Rattle.a429_import.specs.ImportFields.{field_in};
+ghost use Rattle.a429_import.specs.ImportMaps.{given_texts};
 ghost use Rattle.a429_import.specs.Imports.{AreLines, has_text, is_filled};
 
 use crate::forms::{Form, form_of};
@@ -112,6 +113,14 @@ impl LineCount {
     }
 }
 
+/// The line of a byte of a text, given the rest of the text from its heading on, and the rows in it with the place of the
+/// byte there. Line ends from that byte on count too.
+pub fn line_at(text: &[u8], from_heading: &[u8], rows: &[u8], place: usize) -> u64 {
+    let mut count = count_before(text, from_heading);
+    count.pass_to(rows, place);
+    count.line
+}
+
 /// Counts the line ends of a text before its heading.
 pub fn count_before(text: &[u8], from_heading: &[u8]) -> LineCount {
     let mut count = LineCount::new();
@@ -154,11 +163,11 @@ fn push_line(lines: &mut Vec<CsvLine>, line: CsvLine) -> Result<(), AllocError>
 
 /// The rows of a text from its heading on, as the library `csv` reads them. A byte order mark, lines above the heading,
 /// empty lines and rows of empty fields are skipped. A carriage return may come before a line feed, and fields may have
-/// quotes. Error: an allocation failed.
-pub fn csv_lines(alloc: Global, text: &[u8]) -> Result<Vec<CsvLine>, AllocError>
-    ensures { IfOk result (λ lines. AreLines text.now lines.items) }
+/// quotes. A heading of one of the texts HEADING=COLUMN is the name of a column. Error: an allocation failed.
+pub fn csv_lines(alloc: Global, maps: &[&str], text: &[u8]) -> Result<Vec<CsvLine>, AllocError>
+    ensures { IfOk result (λ lines. AreLines (given_texts maps.now) text.now lines.items) }
 {
-    let form = form_of(text);
+    let form = form_of(maps, text);
     let reader = ReaderBuilder::new()
         .has_headers(false)
         .flexible(true)

@@ -5,18 +5,21 @@ ghost use Rattle.csv.specs.Records.{fields_of};
 ghost use Rattle.a429_import.specs.declared.lines.CsvLine.{CsvLine};
 ghost use Rattle.a429_import.specs.declared.rows.ImportRow.{ImportRow};
 ghost use Rattle.a429_import.specs.ImportClashes.{Agree};
-ghost use Rattle.a429_import.specs.ImportReading.{AreRead, HasRows, HaveRows, IsKept, IsTaken, StandsFor, heading_fault, with_line};
+ghost use Rattle.a429_import.specs.ImportForms.{from_heading, separator_in};
+ghost use Rattle.a429_import.specs.ImportMaps.{given_texts};
+ghost use Rattle.a429_import.specs.ImportReading.{AreRead, HasRows, HaveRows, IsKept, IsOfNamed, IsTaken, StandsFor, heading_fault, with_line};
 ghost use Rattle.a429_import.specs.ImportRows.{next_row, with_row};
 ghost use Rattle.a429_import.specs.ImportTexts.{row_view};
-ghost use Rattle.a429_import.specs.Imports.{AreLines, has_text};
+ghost use Rattle.a429_import.specs.Imports.{AreLines, AreNamedLines, has_text};
 ghost use Rattle.a429_import.specs.Known.{Knows};
 
 use crate::clashes::first_clash;
 use crate::columns::{Heading, wrong_column};
 use crate::fault::{CsvFaultKind, ImportColumn, ImportFault};
-use crate::forms::form_of;
+use crate::forms::Form;
 use crate::known::Known;
 use crate::lines::{CsvLine, count_before, line_of};
+use crate::maps::named_line;
 use crate::rows::{ImportRow, RowFields, copy_of, row_of};
 use csv::ReaderBuilder;
 use std::alloc::{AllocError, Global};
@@ -190,32 +193,70 @@ fn take_line(alloc: Global, read: &mut LinesRead, line: CsvLine)
     }
 }
 
-/// The same, unless the fields of the line are all empty.
-fn take_filled(alloc: Global, read: &mut LinesRead, line: CsvLine)
-    requires { (lines : List CsvLine) × StandsFor read.old lines }
-    ensures { (lines : List CsvLine) → StandsFor read.old lines
-        → StandsFor read.new (lines ++ filter (λ l. has_text (fields_of l.fields)) (line ∷ [])) }
+/// Takes one more line. A first line is the heading: it gets its names by texts HEADING=COLUMN. The answer is whether the
+/// heading was taken. Error: an allocation failed.
+fn take_named(
+    alloc: Global,
+    maps: &[&str],
+    is_below: bool,
+    read: &mut LinesRead,
+    line: CsvLine,
+) -> Result<bool, AllocError>
+    requires { (lines : List CsvLine) × IsOfNamed (given_texts maps.now) is_below (StandsFor read.old) lines }
+    ensures { IfOk result (λ below. (lines : List CsvLine) → IsOfNamed (given_texts maps.now) is_below (StandsFor read.old) lines
+        → IsOfNamed (given_texts maps.now) below (StandsFor read.new) (lines ++ line ∷ [])) }
 {
-    if line.has_text() {
-        take_line(alloc, read, line);
+    match named_line(alloc, maps, is_below, line) {
+        Ok(named) => {
+            take_line(alloc, read, named);
+            Ok(true)
+        }
+        Err(fault) => Err(fault),
     }
 }
 
-/// Takes all lines of a text from its heading on. Error: an allocation failed.
-pub fn read_lines(alloc: Global, text: &[u8], read: &mut LinesRead) -> Result<(), AllocError>
-    requires { StandsFor read.old [] }
-    ensures { OnOk result ((lines : List CsvLine) × AreLines text.now lines × StandsFor read.new lines) }
+/// The same, unless the fields of the line are all empty. Error: an allocation failed.
+fn take_filled(
+    alloc: Global,
+    maps: &[&str],
+    is_below: bool,
+    read: &mut LinesRead,
+    line: CsvLine,
+) -> Result<bool, AllocError>
+    requires { (lines : List CsvLine) × IsOfNamed (given_texts maps.now) is_below (StandsFor read.old) lines }
+    ensures { IfOk result (λ below. (lines : List CsvLine) → IsOfNamed (given_texts maps.now) is_below (StandsFor read.old) lines
+        → IsOfNamed (given_texts maps.now) below (StandsFor read.new) (lines ++ filter (λ l. has_text (fields_of l.fields)) (line ∷ []))) }
 {
-    let form = form_of(text);
+    if line.has_text() {
+        take_named(alloc, maps, is_below, read, line)
+    } else {
+        Ok(is_below)
+    }
+}
+
+/// Takes all lines of a text of this form from its heading on. Error: an allocation failed.
+pub fn read_lines(
+    alloc: Global,
+    maps: &[&str],
+    text: &[u8],
+    form: Form<'_>,
+    read: &mut LinesRead,
+) -> Result<(), AllocError>
+    requires separator { form.separator ≡ separator_in (given_texts maps.now) text.now }
+    requires text { form.text.now ≡ from_heading (given_texts maps.now) text.now }
+    requires read { StandsFor read.old [] }
+    ensures { OnOk result ((lines : List CsvLine) × AreNamedLines (given_texts maps.now) text.now lines × StandsFor read.new lines) }
+{
     let reader = ReaderBuilder::new()
         .has_headers(false)
         .flexible(true)
         .delimiter(form.separator)
         .from_reader(alloc, form.text);
     let mut count = count_before(text, form.text);
+    let mut is_below = false;
     for row in reader.into_byte_records() {
         let line = line_of(form, &mut count, row)?;
-        take_filled(alloc, read, line);
+        is_below = take_filled(alloc, maps, is_below, read, line)?;
     }
     Ok(())
 }

@@ -1,6 +1,6 @@
 //! What a row says by itself.
-ghost use Rattle.std.specs.Prelude.{◌≡◌, IfOk, None};
-ghost use Rattle.std.specs.Result.{result_map_both};
+ghost use Rattle.std.specs.Prelude.{◌≡◌, IfOk, None, option_map};
+ghost use Rattle.std.specs.Result.{result_err, result_map_both};
 ghost use Rattle.csv.specs.Records.{fields_of};
 ghost use Rattle.a429_import.specs.ImportFields.{filters_in, hold_in, label_in, rate_in, sdi_in, text_in};
 ghost use Rattle.a429_import.specs.ImportRows.{interval_at, names_group, numbers_of, output_at, row_of, stated_at, texts_of};
@@ -191,6 +191,18 @@ pub fn row_of<'a>(
     match text_fields(heading, line) {
         Ok(texts) => Ok(RowFields { texts, numbers }),
         Err(column) => Err(Some(column)),
+    }
+}
+
+/// What is wrong with a row by itself: the column with a wrong form; `Some(None)` if the row has more or fewer fields than
+/// the heading. `None` if nothing is.
+pub fn form_fault(heading: &Heading, line: &CsvLine) -> Option<Option<ImportColumn>>
+    ensures { option_map (λ column. (line.now.number, CsvFaultKind.Form, column)) result
+        ≡ result_err (row_of (fields_of heading.now.line.fields) line.now) }
+{
+    match row_of(heading, line) {
+        Ok(_) => None,
+        Err(column) => Some(column),
     }
 }
 

@@ -1,5 +1,5 @@
 -- The rows of judgements.
-use Rattle.std.specs.Prelude.{ℕ, List, [], ◌∷◌, ◌++◌, flat_map, length, slice_index_or, Option, None, Some, codes}
+use Rattle.std.specs.Prelude.{◌==◌, ℕ, List, [], ◌∷◌, ◌++◌, if◌then◌else◌, flat_map, length, slice_index_or, Option, None, Some, codes}
 use Rattle.a429_text.specs.Fields.{Field, Text, Number, Absent}
 use Rattle.std.specs.List.{range_with_len}
 use Rattle.a429_judge.specs.declared.duties.Duty.{Duty}
@@ -27,10 +27,15 @@ output_row group source j =
     Text group ∷ Text source ∷ Number j.sent ∷ figure_field j.least ∷ figure_field j.greatest ∷ figure_field j.delay ∷ Number j.wrong ∷ Number j.stale
     ∷ Number j.soon ∷ Number j.late ∷ Number j.missed ∷ Number j.again ∷ Text (verdict_text j.verdict) ∷ []
 
+-- the verdict on a group's foreign words, by their number
+abbrev pub foreign_verdict : ℕ → Verdict
+foreign_verdict count = if count == 0 then verdict.Ok else verdict.Bad
+
 -- the row of a group for its words that are of no output, by their number
 unfoldable pub foreign_row : List ℕ → ℕ → List Field
 foreign_row group count =
-    Text group ∷ Absent ∷ Number count ∷ Absent ∷ Absent ∷ Absent ∷ Absent ∷ Absent ∷ Absent ∷ Absent ∷ Absent ∷ Absent ∷ Text (codes "foreign") ∷ []
+    Text group ∷ Text (codes "foreign") ∷ Number count ∷ Absent ∷ Absent ∷ Absent ∷ Absent ∷ Absent ∷ Absent ∷ Absent ∷ Absent ∷ Absent
+    ∷ Text (verdict_text (foreign_verdict count)) ∷ []
 
 -- the name at a place, or none
 abbrev pub name_at : List (List ℕ) → ℕ → List ℕ

@@ -1,6 +1,6 @@
 //! What is known of an output, and the words of logs.
 ghost use Rattle.std.specs.Prelude.{◌≡◌, ◌≤◌};
-ghost use Rattle.a429_judge.specs.Tolerance.{two_slots};
+ghost use Rattle.a429_judge.specs.Tolerance.{default_tolerance};
 
 /// A word of a log: its time in microseconds, and its 32 bits.
 #[derive(Clone, Copy)]
@@ -34,10 +34,13 @@ pub struct Span {
     pub last: u64,
 }
 
-/// Two slots at a bit rate in bit/s, in microseconds, rounded up: the tolerance if none is given.
-pub fn two_slots(rate: u32) -> u64
+/// The tolerance if none is given, in microseconds, by the bit rate of a group in bit/s and its shortest period in slots:
+/// two slots, rounded up, or half that period, rounded down, if it is less.
+pub fn default_tolerance(rate: u32, shortest: u32) -> u64
     requires { 1 ≤ rate }
-    ensures { result ≡ two_slots rate }
+    ensures { result ≡ default_tolerance rate shortest }
 {
-    72_000_000u64.div_ceil(u64::from(rate))
+    let rate = u64::from(rate);
+    let half_period = 18_000_000 * u64::from(shortest) / rate;
+    u64::min(72_000_000u64.div_ceil(rate), half_period)
 }

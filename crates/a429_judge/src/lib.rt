@@ -32,7 +32,7 @@ mod tests;
 mod windows;
 
 pub use duties::{Duty, Heard, Sent};
-pub use facts::{Facts, Mark, Span, two_slots};
+pub use facts::{Facts, Mark, Span, default_tolerance};
 pub use findings::{Finding, Kind};
 pub use judgements::{Judgement, Verdict};
 pub use recordings::{Judge, NoteFault};

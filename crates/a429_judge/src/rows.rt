@@ -1,7 +1,7 @@
 //! The rows of judgements.
 ghost use Rattle.std.specs.Prelude.{◌≡◌, ◌<◌, ◌++◌, ◌∷◌, [], length, map, OnOk};
 ghost use Rattle.a429_text.specs.Sheets.{field_of};
-ghost use Rattle.a429_judge.specs.Rows.{figure_field, foreign_row, group_rows, output_row, row_at, verdict_text};
+ghost use Rattle.a429_judge.specs.Rows.{figure_field, foreign_row, foreign_verdict, group_rows, output_row, row_at, verdict_text};
 
 use crate::duties::Duty;
 use crate::judgements::{Judgement, Verdict};
@@ -79,6 +79,17 @@ pub fn add_output_row(rows: &mut Rows, group: &str, source: &str, judgement: &Ju
     rows.add(&output_cells(group, source, judgement));
 }
 
+/// The verdict on a group's foreign words, by their number.
+fn foreign_verdict(count: u64) -> Verdict
+    ensures { result ≡ foreign_verdict count }
+{
+    if count == 0 {
+        Verdict::Ok
+    } else {
+        Verdict::Bad
+    }
+}
+
 /// The cells of the row of a group's foreign words.
 #[tactic(auto, unfolding(crate::specs::Rows::foreign_row))]
 fn foreign_cells(group: &str, count: u64) -> [Cell<'_>; 13]
@@ -86,7 +97,7 @@ fn foreign_cells(group: &str, count: u64) -> [Cell<'_>; 13]
 {
     [
         Cell::Text(group),
-        Cell::Absent,
+        Cell::Text("foreign"),
         Cell::Number(count),
         Cell::Absent,
         Cell::Absent,
@@ -97,7 +108,7 @@ fn foreign_cells(group: &str, count: u64) -> [Cell<'_>; 13]
         Cell::Absent,
         Cell::Absent,
         Cell::Absent,
-        Cell::Text("foreign"),
+        Cell::Text(foreign_verdict(count).text()),
     ]
 }
 

@@ -246,5 +246,5 @@ fn outputs_are_told_apart(rt: HostRuntime) {
 const ROWS: &str = "\
 group,source,sent,least_us,greatest_us,late_us,wrong,stale,soon,late,missed,again,verdict
 displays,altitude,1,,,395,0,0,0,0,0,0,alike
-displays,,3,,,,,,,,,,foreign
+displays,foreign,3,,,,,,,,,,bad
 ";

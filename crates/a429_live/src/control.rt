@@ -7,7 +7,8 @@ ghost use Rattle.a429_live.specs.declared.control.SubmitAnswer.TheVariants.{Refu
 ghost use Rattle.a429_console.specs.declared.refusals.CommandRefusal.TheVariants.{Memory};
 ghost use Rattle.a429_station.specs.Resubmitting.{GoesOn};
 
-use a429_console::hints::{FurtherCause, FurtherFault, SeenTable};
+use a429_console::hints::SeenTable;
+use a429_console::hints::warnings::{FurtherCause, Warning};
 use a429_console::refusals::CommandRefusal;
 use a429_console::refusals::tables::{read_table, too_many_buses, unfit};
 use a429_equipment::Equipment;
@@ -37,7 +38,7 @@ pub struct Resubmits<'a> {
     tables: &'a [Vec<u8>],
     pub answers: Vec<SubmitAnswer>,
     /// The tables that are refused, for a hint.
-    faults: Vec<FurtherFault>,
+    warnings: Vec<Warning>,
 }
 
 impl<'a> Resubmits<'a> {
@@ -51,17 +52,17 @@ impl<'a> Resubmits<'a> {
             running,
             tables,
             answers: Vec::new(alloc),
-            faults: Vec::new(alloc),
+            warnings: Vec::new(alloc),
         }
     }
 
     /// Hands on what was noted for a hint, if a table was refused.
-    pub fn hand_faults(&mut self, faults: &mut Vec<FurtherFault>)
-        ensures taken { list_any is_refused self.old.answers.items ≡ false → faults.new.items ≡ faults.old.items }
+    pub fn hand_warnings(&mut self, warnings: &mut Vec<Warning>)
+        ensures taken { list_any is_refused self.old.answers.items ≡ false → warnings.new.items ≡ warnings.old.items }
         ensures answers { self.new.answers.items ≡ self.old.answers.items }
     {
         if self.answers.iter().any(is_refused) {
-            swap(&mut self.faults, faults);
+            swap(&mut self.warnings, warnings);
         }
     }
 }
@@ -156,13 +157,13 @@ fn note_answer(
     number: usize,
     answer: &Result<SubmitAnswer, AllocError>,
     table: SeenTable,
-    faults: &mut Vec<FurtherFault>,
+    warnings: &mut Vec<Warning>,
 ) {
     let Ok(answer) = answer else {
         return;
     };
     if let Some(cause) = cause_of(alloc, running, answer, &table) {
-        FurtherFault::note(faults, number, cause, table);
+        Warning::note_further(warnings, number, cause, table);
     }
 }
 
@@ -173,14 +174,14 @@ fn answer_and_note<R: Wait>(
     running: &Equipment,
     table: &[u8],
     number: usize,
-    faults: &mut Vec<FurtherFault>,
+    warnings: &mut Vec<Warning>,
 ) -> Result<SubmitAnswer, AllocError>
     ensures answer { IfOk result (λ answer. IsAnswer station.old table.now answer station.new) }
     ensures on { GoesOn station.old station.new }
 {
     let mut seen = SeenTable::nothing();
     let answer = answer_to(alloc, station, table, &mut seen);
-    note_answer(alloc, running, number, &answer, seen, faults);
+    note_answer(alloc, running, number, &answer, seen, warnings);
     answer
 }
 
@@ -211,7 +212,7 @@ impl<'a, R: Wait> Control<R> for Resubmits<'a> {
                 self.running,
                 table,
                 number,
-                &mut self.faults,
+                &mut self.warnings,
             )?;
             self.answers.push(answer)?;
         }

@@ -5,15 +5,15 @@
 //! terminal, `NoProgress` shows nothing.
 //!
 //! ```text
-//! let mut seen = Seen::nothing(alloc);
-//! let mut faults = Vec::new(alloc);
+//! let mut seen = Seen::nothing();
+//! let mut warnings = Vec::new(alloc);
 //! let result = run_station(
 //!     rt,
 //!     alloc,
 //!     files,
 //!     asked,
 //!     &mut seen,
-//!     &mut faults,
+//!     &mut warnings,
 //!     out,
 //!     progress,
 //! );

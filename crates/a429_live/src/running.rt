@@ -19,7 +19,8 @@ use crate::words::{Arrival, line_sources, read_words};
 use a429_console::arguments::requests::Asked;
 use a429_console::files::FileReader;
 use a429_console::files::reading::{read_file, read_files};
-use a429_console::hints::{FurtherFault, Seen};
+use a429_console::hints::Seen;
+use a429_console::hints::warnings::Warning;
 use a429_console::output::endings::finish;
 use a429_console::output::{Output, OutputFault};
 use a429_console::refusals::tables::propose;
@@ -126,11 +127,11 @@ fn run<'a, R: Threads + Wait, P: Progress + Sync>(
     frames: u32,
     further: &'a [Vec<u8>],
     gate: &ProgressGate<P>,
-    faults: &mut Vec<FurtherFault>,
+    warnings: &mut Vec<Warning>,
 ) -> Result<Vec<u8>, CommandRefusal>
     requires planned { IsPlanOf equipment.now plan.now }
     ensures report { IsRunResult equipment.now arrivals.now frames (bytes_of further.now) result }
-    ensures taken { AllByRecursion (IsTakenBy equipment.now) (bytes_of further.now) → faults.new.items ≡ faults.old.items }
+    ensures taken { AllByRecursion (IsTakenBy equipment.now) (bytes_of further.now) → warnings.new.items ≡ warnings.old.items }
 {
     plans_are_unique();
     let sources = line_sources(alloc, arrivals, equipment.receivers().len())?;
@@ -148,7 +149,7 @@ fn run<'a, R: Threads + Wait, P: Progress + Sync>(
         &mut control,
     ) {
         Ok(report) => {
-            control.hand_faults(faults);
+            control.hand_warnings(warnings);
             report_text(alloc, equipment, further, &control.answers, &report)
         }
         Err(fault) => Err(run_refusal(fault)),
@@ -169,12 +170,12 @@ fn run_report<R: Threads + Wait, F: FileReader, P: Progress + Sync>(
     files: &mut F,
     asked: &Asked,
     seen: &mut Seen,
-    faults: &mut Vec<FurtherFault>,
+    warnings: &mut Vec<Warning>,
     progress: &P,
 ) -> Result<Vec<u8>, CommandRefusal>
     ensures report { HasRead F.answers (λ file. IsLiving file (asked_of asked.now) result) files.old files.new }
     ensures taken { HasRead F.answers (λ file. TakesLive file (asked_of asked.now)
-        → faults.new.items ≡ faults.old.items) files.old files.new }
+        → warnings.new.items ≡ warnings.old.items) files.old files.new }
 {
     let input = read_input(alloc, files, asked, seen)?;
     let prepared = prepare(alloc, &input, seen)?;
@@ -185,7 +186,7 @@ fn run_report<R: Threads + Wait, F: FileReader, P: Progress + Sync>(
     let plan = prepared.proposal.plan();
     let gate = ProgressGate::begin(progress, plan, frames);
     let result = run(
-        rt, alloc, equipment, plan, arrivals, frames, further, &gate, faults,
+        rt, alloc, equipment, plan, arrivals, frames, further, &gate, warnings,
     );
     progress.end();
     result
@@ -199,18 +200,18 @@ pub fn run_station<R: Threads + Wait, F: FileReader, O: Output, P: Progress + Sy
     files: &mut F,
     asked: &Asked,
     seen: &mut Seen,
-    faults: &mut Vec<FurtherFault>,
+    warnings: &mut Vec<Warning>,
     out: &mut O,
     progress: &P,
 ) -> Result<u8, OutputFault>
     ensures replied { HasToldRun F.answers O.contents (asked_of asked.now) files.old files.new out.old out.new result }
     ensures taken { HasRead F.answers (λ file. TakesLive file (asked_of asked.now)
-        → faults.new.items ≡ faults.old.items) files.old files.new }
+        → warnings.new.items ≡ warnings.old.items) files.old files.new }
     ensures status { IfOk result (λ status. status ≤ 1) }
     ensures flushed { OnOk result (IsTrue (O.is_flushed out.new)) }
     ensures faults { CountsFault result (O.failures out.old) (O.failures out.new) }
 {
-    match run_report(rt, alloc, files, asked, seen, faults, progress) {
+    match run_report(rt, alloc, files, asked, seen, warnings, progress) {
         Ok(text) => finish(&text, true, out),
         Err(refusal) => refuse(alloc, refusal, seen, out),
     }

@@ -16,8 +16,8 @@ use Rattle.a429_recordings.specs.declared.judge.sheets.Judged.{Judged}
 use Rattle.a429_recordings.specs.declared.judge.words.BoxWord.{BoxWord}
 
 -- logs with these words
-pub recorded : (q : Proposed) (i : BoxFiles (List ℕ)) (reading : Reading) (heard sent : List BoxWord) (result : Result Recording CommandRefusal) → heard_words q reading i.heard ≡ Ok heard
-    → sent_words q (sent_reading reading i.heard) i.sent ≡ Ok sent → IsNoting q.station heard sent result → IsRecorded q i reading result
+pub recorded : (q : Proposed) (i : BoxFiles (List ℕ)) (reading : Reading) (heard sent : List BoxWord) (result : Result Recording CommandRefusal) → heard_words q i.channels reading i.heard ≡ Ok heard
+    → sent_words q i.channels (sent_reading reading i.heard) i.sent ≡ Ok sent → IsNoting q.station heard sent result → IsRecorded q i reading result
 recorded q i reading heard sent (Ok r) h s is = record { heard = heard; sent = sent; heard_are = h; sent_are = s; common = is.0; recorded = is.1 }
 recorded q i reading heard sent (Err e) h s bad =
     or_memory_weaker (λ (refusal : CommandRefusal). (overlap heard sent ≡ false) × (refusal ≡ refused.Apart)) (IsNoRecording q i reading) e (λ one. inr (inr (heard, sent, h, s, one.0, one.1))) bad

@@ -1,7 +1,8 @@
 -- Rows that are added one after another, and whether something is found.
 use Rattle.std.proofs.Common.{◌≡◌, ◌∙◌, ◌+◌, ℕ, suc, arith, Bool, true, false, List, [], ◌∷◌, ◌++◌, ap, refl, sym}
 use Rattle.std.specs.Prelude.{◌||◌}
-use Rattle.std.specs.List.{list_any, range_with_len}
+use Rattle.std.specs.List.{fold, list_any, range_with_len}
+use Rattle.std.proofs.lemmas.List.Sums.{fold-append}
 use Rattle.a429_word.proofs.Lists.{range_next}
 
 range_more : (n : ℕ) → range_with_len 0 (n + 1) ≡ range_with_len 0 n ++ n ∷ []
@@ -26,3 +27,7 @@ any_more p (y ∷ ys) x = or_next (p y) (list_any p (ys ++ x ∷ [])) (list_any 
 pub found_more : (p : ℕ → Bool) (n : ℕ) (found next : Bool) → found ≡ list_any p (range_with_len 0 n) → next ≡ (found || p n) → next ≡ list_any p (range_with_len 0 (n + 1))
 found_more p n found next so now =
     now ∙ (ap (λ (b : Bool). b || p n) so ∙ (sym (any_more p (range_with_len 0 n) n) ∙ ap (list_any p) (sym (range_more n))))
+
+-- one more number that is folded
+pub folded_more : (f : ℕ → ℕ → ℕ) (a n : ℕ) → fold f a (range_with_len 0 (n + 1)) ≡ f (fold f a (range_with_len 0 n)) n
+folded_more f a n = ap (fold f a) (range_more n) ∙ fold-append f a (range_with_len 0 n) (n ∷ [])

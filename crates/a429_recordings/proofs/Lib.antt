@@ -2,6 +2,7 @@ pub mod LogLines
 pub mod NotedWords
 pub mod BoxWords
 pub mod JudgedRows
+mod DefaultTolerance
 pub mod JudgedFiles
 pub mod Timelines
 pub mod SimulatedSteps
@@ -9,6 +10,7 @@ pub mod Played
 pub mod ShortNames
 pub mod SentCells
 pub mod TrackOrder
+mod CloseRuns
 pub mod SimulationEnds
 pub mod SimulationPrinted
 pub mod SendFigures

@@ -5,6 +5,7 @@ use Rattle.std.proofs.lemmas.List.{drop_more}
 use Rattle.std.proofs.lemmas.Bool.{cases_lt}
 use Rattle.std.proofs.lemmas.Bool.Decides.{nat_tests}
 use Rattle.std.proofs.lemmas.Option.{none-some, same_Some}
+use Rattle.a429_text.specs.Renames.{renamed}
 use Rattle.a429_word.proofs.Lists.{same_Ok}
 use Rattle.a429_logs.specs.LogRows.{Stated}
 use Rattle.a429_logs.specs.Logs.{NoneBefore, WordAt, and_then, log_entries, reading_after, series_entries}
@@ -16,7 +17,7 @@ use Rattle.a429_console.specs.Names.{Naming, number_named}
 use Rattle.a429_console.specs.RefusalText.{OrMemory}
 use Rattle.a429_console.proofs.EntryLines.{entries_before-append, entries_before-nil}
 use Rattle.a429_recordings.specs.LogItems.{AddsLog, IsFaultAt, IsItemFault, item_then, items_from, items_of, refusal_for}
-use Rattle.a429_recordings.specs.SimulationLog.{AreInTime, word_for}
+use Rattle.a429_recordings.specs.SimulationLog.{AreInTime, log_word_by, word_for}
 use Rattle.a429_recordings.specs.declared.logs.ReadFault.{ReadFault}
 use Rattle.a429_recordings.specs.declared.logs.ReadFault.TheVariants as fault
 use Rattle.a429_recordings.specs.declared.simulate.log.LogWord.{LogWord}
@@ -205,14 +206,14 @@ timed_by true w (Some r) v test is =
     let same : v.time ≡ w.time = sym (ap (λ (word : LogWord). word.time) (same_Some (record { time = w.time; receiver = r; raw = w.raw }) v is)) in
     (same, subst (λ (t : ℕ). t < 100000000000000) (sym same) below)
 
-timed : (names : Naming) (w : Stated) (v : LogWord) → word_for names w ≡ Some v → (v.time ≡ w.time) × (v.time < 100000000000000)
-unfolding word_for
-timed names w v is = timed_by (nat_lt w.time 100000000000000) w (number_named names.receivers w.name) v refl is
+module _ (names : Naming) (channels : List (List ℕ)) where
+  timed : (w : Stated) (v : LogWord) → log_word_by names channels w ≡ Some v → (v.time ≡ w.time) × (v.time < 100000000000000)
+  unfolding word_for
+  timed w v is = timed_by (nat_lt w.time 100000000000000) w (number_named names.receivers (renamed channels w.name)) v refl is
 
-module _ (names : Naming) where
-  in_time_by : (n : ℕ) (w : Stated) (o : Option LogWord) (left : List (Result WordAt LogFault)) (done words : List LogWord) (r : Result (List LogWord) ℕ) → word_for names w ≡ o
-      → items_from (word_for names) left ≡ r
-      → ((v : LogWord) (more : List LogWord) → word_for names w ≡ Some v → items_from (word_for names) left ≡ Ok more → AreInTime ((done ++ v ∷ []) ++ more))
+  in_time_by : (n : ℕ) (w : Stated) (o : Option LogWord) (left : List (Result WordAt LogFault)) (done words : List LogWord) (r : Result (List LogWord) ℕ) → log_word_by names channels w ≡ o
+      → items_from (log_word_by names channels) left ≡ r
+      → ((v : LogWord) (more : List LogWord) → log_word_by names channels w ≡ Some v → items_from (log_word_by names channels) left ≡ Ok more → AreInTime ((done ++ v ∷ []) ++ more))
       → item_then n o r ≡ Ok words → AreInTime (done ++ words)
   in_time_by n w None left done words r made its known is = absurd (cc is)
   in_time_by n w (Some v) left done words (Err m) made its known is = absurd (cc is)
@@ -220,17 +221,17 @@ module _ (names : Naming) where
       let both : v ∷ more ≡ words = same_Ok (v ∷ more) words is in
       subst AreInTime (append_assoc done (v ∷ []) more ∙ ap (λ (ws : List LogWord). done ++ ws) both) (known v more made its)
 
-  in_time_from : (left : List (Result WordAt LogFault)) (done words : List LogWord) → AreSoFar done left → items_from (word_for names) left ≡ Ok words → AreInTime (done ++ words)
+  in_time_from : (left : List (Result WordAt LogFault)) (done words : List LogWord) → AreSoFar done left → items_from (log_word_by names channels) left ≡ Ok words → AreInTime (done ++ words)
   in_time_from [] done words so_far is =
       let none : [] ≡ words = same_Ok [] words is in
       subst AreInTime (sym (append-nil done) ∙ ap (λ (ws : List LogWord). done ++ ws) none) so_far.1.in_time
   in_time_from (Err bad ∷ left) done words so_far is = absurd (cc is)
   in_time_from (Ok w ∷ left) done words so_far is =
-      in_time_by w.line w.word (word_for names w.word) left done words (items_from (word_for names) left) refl refl
+      in_time_by w.line w.word (log_word_by names channels w.word) left done words (items_from (log_word_by names channels) left) refl refl
       (λ v more made its. in_time_from left (done ++ v ∷ []) more
-      (let t = timed names w.word v made in so_far_more done (Ok w ∷ left) left w v so_far refl t.0 t.1) its)
+      (let t = timed w.word v made in so_far_more done (Ok w ∷ left) left w v so_far refl t.0 t.1) its)
       is
 
   -- the words of logs whose times never fall
-  pub in_time_all : (last : ℕ) (entries : List (Result WordAt LogFault)) (words : List LogWord) → NoneBefore last entries → items_from (word_for names) entries ≡ Ok words → AreInTime words
+  pub in_time_all : (last : ℕ) (entries : List (Result WordAt LogFault)) (words : List LogWord) → NoneBefore last entries → items_from (log_word_by names channels) entries ≡ Ok words → AreInTime words
   in_time_all last entries words fall is = in_time_from entries [] words (so_far_none last entries fall) is

@@ -23,8 +23,8 @@ use Rattle.a429_core.specs.MachineSteps.{CallsAreAnswered, OtherCellsHaveNoWord,
 use Rattle.a429_core.specs.Passed.{after_slots, groups_passed}
 use Rattle.a429_recordings.specs.SimulationRuns.{StandsAfter, groups_at, put_at}
 use Rattle.a429_recordings.specs.Simulating.{Step, Asks, Turns, happenings_of, history_of, opening_of, steps_in, steps_of, turn_after}
-use Rattle.a429_recordings.specs.Timeline.{HasHappened, rate_of, slots_by, table_of, word_of}
-use Rattle.a429_recordings.specs.Tracks.{AreTracks, HasTracks, IsTrack, StartsAt, next_at, silent_until, slots_before}
+use Rattle.a429_recordings.specs.Timeline.{HasHappened, rate_of, slots_before, slots_by, table_of, word_of}
+use Rattle.a429_recordings.specs.Tracks.{AreTracks, HasTracks, IsTrack, StartsAt, next_at, silent_until}
 use Rattle.a429_recordings.specs.declared.simulate.log.LogWord.{LogWord}
 use Rattle.a429_recordings.specs.declared.simulate.machine.Run.{Run}
 use Rattle.a429_recordings.specs.declared.simulate.moments.Moment.{Moment}
@@ -139,8 +139,8 @@ module _ (q : Proposed) (words : List LogWord) (last : ℕ) (tracks : List Track
         omega (arith, one)
   ]
 
-  first_time : (ws : List LogWord) (w : LogWord) (vs : List LogWord) → ws ≡ w ∷ vs → silent_until ws last ≤ w.time
-  first_time ws w vs is = subst (λ (xs : List LogWord). silent_until xs last ≤ w.time) (sym is) (omega arith)
+  not_after : (ws : List LogWord) (w : LogWord) (vs : List LogWord) → ws ≡ w ∷ vs → silent_until ws last ≤ w.time
+  not_after ws w vs is = subst (λ (xs : List LogWord). silent_until xs last ≤ w.time) (sym is) (omega arith)
 
   -- slots that begin before the start
   slot_low : (t rate : ℕ) → t < slots_before rate start → t * slot_time < start * rate
@@ -172,7 +172,7 @@ module _ (q : Proposed) (words : List LogWord) (last : ℕ) (tracks : List Track
           let none : slots_by q last g ≡ 0 = none_by g miss.0 in
           absurd (omega (arith, none, left))
     ];
-    early = λ w ws is. first_time words w ws is;
+    early = λ w ws is. not_after words w ws is;
   }
     where
       none_by : (g : ℕ) → length tracks ≤ g → slots_by q last g ≡ 0
@@ -203,7 +203,7 @@ module _ (q : Proposed) (words : List LogWord) (last : ℕ) (tracks : List Track
               let R = row_of (IsPlannedAt q.station.sources) (rated_outputs q.station) (groups_of q.plan) g p S.planned.groups there in
               let table : table_of q g ≡ p = table_at q g p there in
               let opens : slice_get (groups_of q.plan) g ≡ Some (table_of q g) = there ∙ ap (λ (t : SlotTable). Some t) (sym table) in
-              let low : next_at tracks g ≤ 8192000000 = few_slots g in
+              let low : next_at tracks g ≤ 300000000000 = few_slots g in
               let few : frame_of (table_of q g) ≤ 8192 = subst (λ (t : SlotTable). frame_of t ≤ 8192) (sym table) R.related.few_slots in
               let is = state_at q g opens M (next_at tracks g) (omega (arith, low, few)) (H.slots_are g) in
               put_own v.newest tracks v.groups n g p (omega (arith, as_many.1, slice_get_within (groups_of q.plan) g p there))
@@ -213,7 +213,7 @@ module _ (q : Proposed) (words : List LogWord) (last : ℕ) (tracks : List Track
           quiet = P.quiet;
         }
       where
-        few_slots : (g : ℕ) → next_at tracks g ≤ 8192000000
+        few_slots : (g : ℕ) → next_at tracks g ≤ 300000000000
         few_slots g = elim (slice_get_cases tracks g).1 [
           | inl hit ↦ let own : next_at tracks g ≡ hit.0.next = rw hit.2 refl in omega (arith, own, (sound g hit.0 hit.2).within, (sound g hit.0 hit.2).few_slots)
           | inr miss ↦ let own : next_at tracks g ≡ 0 = rw miss.1 refl in omega (arith, own)

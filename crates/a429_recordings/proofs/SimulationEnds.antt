@@ -13,8 +13,8 @@ use Rattle.a429_documents.specs.Document.{slots_us}
 use Rattle.a429_slots.specs.Tables.{SlotTable, frame_of}
 use Rattle.a429_grid.specs.Grid.{slot_time}
 use Rattle.a429_slots.specs.Proposed.{Proposed}
-use Rattle.a429_recordings.specs.Timeline.{longest_frame, rate_of, slots_by}
-use Rattle.a429_recordings.specs.Tracks.{AreCountedTo, AreTracks, IsTrack, StartsAt, slots_before}
+use Rattle.a429_recordings.specs.Timeline.{longest_frame, rate_of, slots_before, slots_by}
+use Rattle.a429_recordings.specs.Tracks.{AreCountedTo, AreTracks, IsTrack, StartsAt}
 use Rattle.a429_recordings.specs.declared.simulate.tracks.Track.{Track}
 
 most_by : (n a rate : ℕ) → 1 ≤ rate → n * rate < a + rate → n ≤ a
@@ -42,9 +42,17 @@ rate_within rate (inr low) = (omega (arith, low), omega (arith, low))
 pub product_below : (x y m n : ℕ) → x ≤ m → y ≤ n → x * y ≤ m * n
 product_below x y m n few most = mul-le x y m n few most
 
+-- a time of fourteen digits, at a rate of a bus
+few_bits : (rate time : ℕ) → rate ≤ 100000 → time < 100000000000000 → time * rate ≤ 10000000000000000000
+few_bits rate time few early = omega (arith, mul-le time rate 100000000000000 100000 (omega (arith, early)) few)
+
+pub few_slots_before : (rate time : ℕ) → rate ≤ 100000 → time < 100000000000000 → slots_before rate time ≤ 277777777778
+few_slots_before rate time few early = omega (arith, few_bits rate time few early, (div_ceil_times (time * rate) slot_time (omega arith)).1)
+
 -- what 64 bits cannot count is too much
-pub too_much : (rate frame last : ℕ) → frame ≤ 8192 → 2 ^ 64 ≤ last * rate → 1000000 * frame < last * rate / 36000000 + 1
-too_much rate frame last few many = omega (arith, few, many)
+pub too_much : (rate frame first last : ℕ) → rate ≤ 100000 → frame ≤ 8192 → first < 100000000000000 → 2 ^ 64 ≤ last * rate
+    → slots_before rate first + 1000000 * frame < last * rate / 36000000 + 1
+too_much rate frame first last few_rate few early many = omega (arith, few, many, few_slots_before rate first few_rate early)
 
 -- ---- the groups of a simulation
 
@@ -53,7 +61,7 @@ slots_by_is q last g rate within is =
     let there : nat_lt g (length q.station.groups) ≡ true = lt-ltb g (length q.station.groups) within in
     rw (there, is) refl
 
-get_push_cases : {X : Type 0} (xs : List X) (x : X) (i : ℕ) (y : X) → slice_get (xs ++ x ∷ []) i ≡ Some y → (slice_get xs i ≡ Some y) ⊎ ((i ≡ length xs) × (y ≡ x))
+pub get_push_cases : {X : Type 0} (xs : List X) (x : X) (i : ℕ) (y : X) → slice_get (xs ++ x ∷ []) i ≡ Some y → (slice_get xs i ≡ Some y) ⊎ ((i ≡ length xs) × (y ≡ x))
 get_push_cases [] x zero y here = inr (refl, sym (same_Some x y here))
 get_push_cases [] x (suc i) y here = absurd (none-some y here)
 get_push_cases (z ∷ xs) x zero y here = inl here
@@ -101,7 +109,7 @@ all_counted q start last n tracks C all = record { many = C.many ∙ all; rates 
 pub before_within : (rate start last : ℕ) → start ≤ last → slots_before rate start ≤ last * rate / slot_time + 1
 before_within rate start last within = omega (arith, (div_ceil_times (start * rate) slot_time (omega arith)).1, mul-le start rate last rate within (omega arith))
 
-pub few_before : (rate start last : ℕ) → start ≤ last → last * rate / slot_time + 1 ≤ 8192000000 → start * rate < 2 ^ 63
+pub few_before : (rate start last : ℕ) → start ≤ last → last * rate / slot_time + 1 ≤ 300000000000 → start * rate < 2 ^ 64
 few_before rate start last within few = omega (arith, few, mul-le start rate last rate within (omega arith))
 
 -- ---- rates

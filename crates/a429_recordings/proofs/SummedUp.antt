@@ -129,10 +129,10 @@ groups_few sources (rows ∷ rated) (t ∷ ts) (one, later) zero = one.few_buses
 groups_few sources (rows ∷ rated) (t ∷ ts) (one, later) (suc g) = groups_few sources rated ts later g
 
 -- a group has no more slots than its track
-pub slots_few : (q : Proposed) (last : ℕ) (tracks : List Track) → AreTracks q last tracks → OfEach IsTrack tracks → (g : ℕ) → slots_by q last g ≤ 8192000000
+pub slots_few : (q : Proposed) (last : ℕ) (tracks : List Track) → AreTracks q last tracks → OfEach IsTrack tracks → (g : ℕ) → slots_by q last g ≤ 300000000000
 slots_few q last tracks T sound g = by (nat_lt g (length q.station.groups)) refl
   where
-    by : (b : Bool) → nat_lt g (length q.station.groups) ≡ b → slots_by q last g ≤ 8192000000
+    by : (b : Bool) → nat_lt g (length q.station.groups) ≡ b → slots_by q last g ≤ 300000000000
     by true within =
         let below : g < length q.station.groups = ltb-true g (length q.station.groups) within in
         let (x, there) = get_within tracks g (omega (arith, T.many, below)) in
@@ -140,7 +140,7 @@ slots_few q last tracks T sound g = by (nat_lt g (length q.station.groups)) refl
     by false past = rw past (omega arith)
 
 pub sends_counted : (q : Proposed) (words : List LogWord) (last : ℕ) (M : List Moment) → IsTimeline q words last M → IsPlanOf q.station q.plan
-    → ((g : ℕ) → slots_by q last g ≤ 8192000000) → (g i : ℕ) → length (sends_of g i (happenings_of q (steps_of q M))) ≤ 2 ^ 64 - 1
+    → ((g : ℕ) → slots_by q last g ≤ 300000000000) → (g i : ℕ) → length (sends_of g i (happenings_of q (steps_of q M))) ≤ 2 ^ 64 - 1
 sends_counted q words last M timeline planned slots g i =
     let buses = groups_few q.station.sources (rated_outputs q.station) (groups_of q.plan) planned.groups in
     let count : length (filter_map (slot_of g) M) ≡ slots_by q last g = ap length (timeline.slots_are g) ∙ length-range_with_len 0 (slots_by q last g) in

@@ -17,7 +17,7 @@ use Rattle.a429_judge.specs.declared.facts.Mark.{Mark}
 use Rattle.a429_console.specs.RefusalText.{OrMemory}
 use Rattle.a429_console.specs.declared.refusals.CommandRefusal.{CommandRefusal}
 use Rattle.a429_console.specs.declared.refusals.CommandRefusal.TheVariants as refused
-use Rattle.a429_recordings.specs.LogItems.{IsItemFault, items_of}
+use Rattle.a429_recordings.specs.LogItems.{IsItemFault, items_of, named}
 use Rattle.a429_recordings.specs.declared.judge.words.BoxLog.{BoxLog}
 use Rattle.a429_recordings.specs.declared.judge.words.BoxLog.TheVariants as log
 use Rattle.a429_recordings.specs.declared.judge.words.BoxWord.{BoxWord}
@@ -62,6 +62,10 @@ unfoldable pub box_word : PlanTable → Naming → BoxLog → Stated → Option 
 box_word p names l w =
     if nat_lt w.time 100000000000000 then option_map (λ place. record { time = w.time; place = place; raw = w.raw }) (place_named p names l w.name)
     else None
+
+-- the same, with channels taken as names
+abbrev pub box_word_by : PlanTable → Naming → List (List ℕ) → BoxLog → Stated → Option BoxWord
+box_word_by p names channels l = named channels (box_word p names l)
 
 -- ---- how logs are read
 

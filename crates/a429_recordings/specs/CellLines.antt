@@ -34,7 +34,7 @@ pub record BeginsSlot (q : Proposed) (csv : Bool) (g t : ℕ) (b : SlotBegin) : 
 
 -- the same of the slot that it names, if a simulation has that one
 abbrev pub IsBeginOfSlot : Proposed → Bool → SlotBegin → Type 0
-IsBeginOfSlot q csv b = b.slot < 8192000000 → BeginsSlot q csv b.group b.slot b
+IsBeginOfSlot q csv b = b.slot < 300000000000 → BeginsSlot q csv b.group b.slot b
 
 -- the heading, and no slot
 pub record IsHeading (csv : Bool) (lines : PendingLines) : Type 0 where

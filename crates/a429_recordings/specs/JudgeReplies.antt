@@ -2,6 +2,7 @@
 use Rattle.std.specs.Prelude.{◌≡◌, ◌==◌, ◌∷◌, [], ◌⊎◌, ◌++◌, ℕ, Bool, true, false, not, List, Option, Some, None, Ok, Err, Result, MatchResult, length}
 use Rattle.a429_text.specs.Sheets.{sheet_text}
 use Rattle.a429_text.specs.declared.sheets.SheetForm.{SheetForm}
+use Rattle.a429_logs.specs.LogRows.{Stated}
 use Rattle.a429_logs.specs.declared.reading.Reading.{Reading}
 use Rattle.a429_slots.specs.Proposed.{Proposed}
 use Rattle.a429_console.specs.FileReadings.{AreReadLogs, IsFileRefusal, IsFirstUnreadLog, readable}
@@ -13,7 +14,7 @@ use Rattle.a429_console.specs.Tables.{IsProposedBy, IsTableRefusal}
 use Rattle.a429_console.specs.declared.refusals.CommandRefusal.{CommandRefusal}
 use Rattle.a429_console.specs.declared.refusals.CommandRefusal.TheVariants as refused
 use Rattle.a429_judge.specs.Recordings.{Recording}
-use Rattle.a429_recordings.specs.BoxLogs.{box_word, overlap, reading_behind, recording_of, restarted}
+use Rattle.a429_recordings.specs.BoxLogs.{box_word_by, overlap, reading_behind, recording_of, restarted}
 use Rattle.a429_recordings.specs.JudgedPlans.{event_columns, is_any_wide, is_found, judge_columns, judge_events, judged_rows}
 use Rattle.a429_recordings.specs.LogItems.{IsItemFault, items_of}
 use Rattle.a429_recordings.specs.SimulationReplies.{reading_for}
@@ -22,6 +23,7 @@ use Rattle.a429_recordings.specs.declared.judge.JudgeInput.{JudgeInput}
 use Rattle.a429_recordings.specs.declared.judge.JudgeNames.{JudgeNames}
 use Rattle.a429_recordings.specs.declared.judge.duties.Judging.{Judging}
 use Rattle.a429_recordings.specs.declared.judge.sheets.Judged.{Judged}
+use Rattle.a429_recordings.specs.declared.judge.words.BoxLog.{BoxLog}
 use Rattle.a429_recordings.specs.declared.judge.words.BoxLog.TheVariants as log
 use Rattle.a429_recordings.specs.declared.judge.words.BoxWord.{BoxWord}
 
@@ -31,16 +33,19 @@ judge_form o = record { tolerance = o.tolerance; events = o.events; form = o.for
 
 -- ---- files
 
--- the names of the files: a table, the logs of what came in, and those of what was sent; or their bytes
+-- the names of the files: a table, the logs of what came in, and those of what was sent; or their bytes. And as which names channels in the logs are
+-- taken.
 pub record BoxFiles (A : Type 0) : Type 0 where
   pub table : A
   pub heard : List A
   pub sent : List A
+  pub channels : List (List ℕ)
 
--- these are the bytes of the files of these names
+-- these are the bytes of the files of these names, and the channels are the same
 abbrev pub AreBoxFiles : (List ℕ → Option (List ℕ)) → BoxFiles (List ℕ) → BoxFiles (List ℕ) → Type 0
 AreBoxFiles file names i =
     (readable (file names.table) ≡ Some i.table) × AreReadLogs file names.heard i.heard × AreReadLogs file names.sent i.sent
+    × (i.channels ≡ names.channels)
 
 -- of these files the first that cannot be read
 abbrev pub IsUnreadBoxFile : (List ℕ → Option (List ℕ)) → BoxFiles (List ℕ) → CommandRefusal → Type 0
@@ -52,41 +57,45 @@ IsUnreadBoxFile file names refusal =
 
 -- ---- logs
 
+-- a word of a log, with channels taken as names
+abbrev pub word_by : Proposed → List (List ℕ) → BoxLog → Stated → Option BoxWord
+word_by q channels l = box_word_by q.plan (naming_of q.station) channels l
+
 -- the words that came in, or the first faulty line
-abbrev pub heard_words : Proposed → Reading → List (List ℕ) → Result (List BoxWord) ℕ
-heard_words q reading texts = items_of (box_word q.plan (naming_of q.station) log.Heard) reading texts
+abbrev pub heard_words : Proposed → List (List ℕ) → Reading → List (List ℕ) → Result (List BoxWord) ℕ
+heard_words q channels reading texts = items_of (word_by q channels log.Heard) reading texts
 
 -- how the logs of what was sent are read, after these
 abbrev pub sent_reading : Reading → List (List ℕ) → Reading
 sent_reading reading heard = restarted (reading_behind reading heard)
 
 -- the words that were sent
-abbrev pub sent_words : Proposed → Reading → List (List ℕ) → Result (List BoxWord) ℕ
-sent_words q reading texts = items_of (box_word q.plan (naming_of q.station) log.Sent) reading texts
+abbrev pub sent_words : Proposed → List (List ℕ) → Reading → List (List ℕ) → Result (List BoxWord) ℕ
+sent_words q channels reading texts = items_of (word_by q channels log.Sent) reading texts
 
 -- the logs have these words, and a time in common; this is the recording of them
 pub record IsRecording (q : Proposed) (i : BoxFiles (List ℕ)) (reading : Reading) (r : Recording) : Type 0 where
   pub heard : List BoxWord
   pub sent : List BoxWord
-  pub heard_are : heard_words q reading i.heard ≡ Ok heard
-  pub sent_are : sent_words q (sent_reading reading i.heard) i.sent ≡ Ok sent
+  pub heard_are : heard_words q i.channels reading i.heard ≡ Ok heard
+  pub sent_are : sent_words q i.channels (sent_reading reading i.heard) i.sent ≡ Ok sent
   pub common : overlap heard sent ≡ true
   pub recorded : r ≡ recording_of q.station heard sent
 
 -- a line of what came in is faulty
 abbrev pub IsHeardFault : Proposed → BoxFiles (List ℕ) → Reading → CommandRefusal → Type 0
-IsHeardFault q i reading refusal = IsItemFault (box_word q.plan (naming_of q.station) log.Heard) reading i.heard refusal
+IsHeardFault q i reading refusal = IsItemFault (word_by q i.channels log.Heard) reading i.heard refusal
 
 -- none is, but a line of what was sent
 abbrev pub IsSentFault : Proposed → BoxFiles (List ℕ) → Reading → CommandRefusal → Type 0
 IsSentFault q i reading refusal =
-    (heard : List BoxWord) × (heard_words q reading i.heard ≡ Ok heard)
-    × IsItemFault (box_word q.plan (naming_of q.station) log.Sent) (sent_reading reading i.heard) i.sent refusal
+    (heard : List BoxWord) × (heard_words q i.channels reading i.heard ≡ Ok heard)
+    × IsItemFault (word_by q i.channels log.Sent) (sent_reading reading i.heard) i.sent refusal
 
 -- no line is faulty, but the logs have no time in common
 abbrev pub AreApart : Proposed → BoxFiles (List ℕ) → Reading → CommandRefusal → Type 0
 AreApart q i reading refusal =
-    (heard sent : List BoxWord) × (heard_words q reading i.heard ≡ Ok heard) × (sent_words q (sent_reading reading i.heard) i.sent ≡ Ok sent)
+    (heard sent : List BoxWord) × (heard_words q i.channels reading i.heard ≡ Ok heard) × (sent_words q i.channels (sent_reading reading i.heard) i.sent ≡ Ok sent)
     × (overlap heard sent ≡ false) × (refusal ≡ refused.Apart)
 
 abbrev pub IsNoRecording : Proposed → BoxFiles (List ℕ) → Reading → CommandRefusal → Type 0
@@ -142,10 +151,15 @@ IsUnjudgedBy file names f refusal = IsUnreadBoxFile file names refusal ⊎ ((i :
 -- ---- by the values of the program
 
 abbrev pub names_of : JudgeNames → BoxFiles (List ℕ)
-names_of n = record { table = n.table.now; heard = n.heard.now ∷ texts_of n.more_heard.now; sent = n.sent.now ∷ texts_of n.more_sent.now }
+names_of n = record {
+  table = n.table.now;
+  heard = n.heard.now ∷ texts_of n.more_heard.now;
+  sent = n.sent.now ∷ texts_of n.more_sent.now;
+  channels = texts_of n.channels.now;
+}
 
 abbrev pub files_of : JudgeInput → BoxFiles (List ℕ)
-files_of i = record { table = i.table.items; heard = bytes_of i.heard.items; sent = bytes_of i.sent.items }
+files_of i = record { table = i.table.items; heard = bytes_of i.heard.items; sent = bytes_of i.sent.items; channels = texts_of i.channels.now }
 
 -- what reading the files gives
 abbrev pub IsBoxReading : (List ℕ → Option (List ℕ)) → BoxFiles (List ℕ) → Result JudgeInput CommandRefusal → Type 0

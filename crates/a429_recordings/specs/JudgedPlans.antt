@@ -1,5 +1,5 @@
 -- The outputs of a plan as they are judged, and the rows of that.
-use Rattle.std.specs.Prelude.{◌==◌, ◌*◌, ◌^◌, ◌||◌, ◌++◌, ◌∷◌, [], ℕ, Bool, true, false, List, Option, Some, None, codes, flat_map, if◌then◌else◌, length, map, nat_lt, option_and_then, slice_get, unwrap_or}
+use Rattle.std.specs.Prelude.{◌≡◌, ◌==◌, ◌*◌, ◌^◌, ◌||◌, ◌++◌, ◌∷◌, [], ℕ, Bool, true, false, List, Option, Some, None, codes, flat_map, fold, if◌then◌else◌, length, map, min, nat_lt, option_and_then, slice_get, unwrap_or}
 use Rattle.std.specs.List.{list_any, range_with_len}
 use Rattle.std.specs.Option.{option_map_or}
 use Rattle.a429_word.specs.Hexadecimal.{hex}
@@ -7,12 +7,12 @@ use Rattle.a429_text.specs.Fields.{Absent, Field, Number, Text}
 use Rattle.a429_equipment.specs.TableRecord.{TableRecord, outputs_in}
 use Rattle.a429_equipment.specs.declared.rows.OutputRow.{OutputRow}
 use Rattle.a429_slots.specs.Proposed.{Proposed}
-use Rattle.a429_slots.specs.Tables.{groups_of, outputs_of, placed_at}
+use Rattle.a429_slots.specs.Tables.{frame_of, groups_of, outputs_of, placed_at}
 use Rattle.a429_console.specs.Names.{group_name, output_name}
 use Rattle.a429_judge.specs.Judgements.{found_at, judgement_of, sent_by}
 use Rattle.a429_judge.specs.Recordings.{Recording, foreign_of}
 use Rattle.a429_judge.specs.Rows.{foreign_row, output_row}
-use Rattle.a429_judge.specs.Tolerance.{two_slots}
+use Rattle.a429_judge.specs.Tolerance.{default_tolerance}
 use Rattle.a429_judge.specs.declared.duties.Duty.{Duty}
 use Rattle.a429_judge.specs.declared.facts.Mark.{Mark}
 use Rattle.a429_judge.specs.declared.findings.Finding.{Finding}
@@ -39,10 +39,24 @@ label_of t source = option_map_or (λ row. row.label) (slice_get t.sources sourc
 abbrev pub sdi_of : TableRecord → ℕ → Option ℕ
 sdi_of t source = option_and_then (λ row. row.sdi) (slice_get t.sources source)
 
--- the tolerance that is given, otherwise two slots
-abbrev pub tolerance_of : Option ℕ → ℕ → ℕ
-tolerance_of None rate = two_slots rate
-tolerance_of (Some tolerance) rate = tolerance
+-- the numbers of the outputs of a group, and of the groups
+abbrev pub outputs_at : Proposed → ℕ → List ℕ
+outputs_at q g = range_with_len 0 (length (outputs_of (table_of q g)))
+
+abbrev pub groups_at : Proposed → List ℕ
+groups_at q = range_with_len 0 (length (groups_of q.plan))
+
+-- the period of an output, and the shortest one of a group, in slots
+abbrev pub period_at : Proposed → ℕ → ℕ → ℕ
+period_at q g o = 2 ^ (placed_at (table_of q g) o).place.period
+
+abbrev pub shortest_period : Proposed → ℕ → ℕ
+shortest_period q g = fold (λ n o. min n (period_at q g o)) (frame_of (table_of q g)) (outputs_at q g)
+
+-- the tolerance that is given, otherwise two slots of the group or half its shortest period, if that is less
+abbrev pub tolerance_of : Proposed → Option ℕ → ℕ → ℕ
+tolerance_of q None g = default_tolerance (rate_of q g) (shortest_period q g)
+tolerance_of q (Some tolerance) g = tolerance
 
 -- output o of group g: its interval and its hold are those of the table, its bus and its period those of the plan
 unfoldable pub duty_of : Proposed → Option ℕ → ℕ → ℕ → Duty
@@ -61,16 +75,9 @@ duty_of q tolerance g o =
         least = row.min_us;
         greatest = row.max_us;
         hold = row.hold;
-        tolerance = tolerance_of tolerance (rate_of q g);
+        tolerance = tolerance_of q tolerance g;
       };
     }
-
--- the numbers of the outputs of a group, and of the groups
-abbrev pub outputs_at : Proposed → ℕ → List ℕ
-outputs_at q g = range_with_len 0 (length (outputs_of (table_of q g)))
-
-abbrev pub groups_at : Proposed → List ℕ
-groups_at q = range_with_len 0 (length (groups_of q.plan))
 
 -- the outputs of a group
 abbrev pub duties_of : Proposed → Option ℕ → ℕ → List Duty
@@ -87,6 +94,10 @@ is_wide_in q tolerance g = list_any is_wide (duties_of q tolerance g)
 abbrev pub is_any_wide : Proposed → Option ℕ → Bool
 is_any_wide q tolerance = list_any (is_wide_in q tolerance) (groups_at q)
 
+-- without a tolerance that is given, none is
+abbrev pub DefaultToleranceIsAllowed : Type 0
+DefaultToleranceIsAllowed = (q : Proposed) → is_any_wide q None ≡ false
+
 -- ---- a row for each output
 
 abbrev pub judged : Proposed → Option ℕ → Recording → ℕ → ℕ → Judgement
@@ -99,10 +110,13 @@ judged_row q tolerance r g o = output_row (group_name q.station g) (output_name 
 abbrev pub foreign_in : Proposed → Option ℕ → Recording → ℕ → List Mark
 foreign_in q tolerance r g = foreign_of (duties_of q tolerance g) g r.sent
 
--- those of a group, and then the row of its foreign words
+-- the rows of a group's outputs, and then that of its foreign words
+abbrev pub judged_outputs : Proposed → Option ℕ → Recording → ℕ → List (List Field)
+judged_outputs q tolerance r g = map (judged_row q tolerance r g) (outputs_at q g)
+
 abbrev pub judged_group : Proposed → Option ℕ → Recording → ℕ → List (List Field)
 judged_group q tolerance r g =
-    map (judged_row q tolerance r g) (outputs_at q g) ++ foreign_row (group_name q.station g) (length (foreign_in q tolerance r g)) ∷ []
+    judged_outputs q tolerance r g ++ foreign_row (group_name q.station g) (length (foreign_in q tolerance r g)) ∷ []
 
 abbrev pub judged_rows : Proposed → Option ℕ → Recording → List (List Field)
 judged_rows q tolerance r = flat_map (judged_group q tolerance r) (groups_at q)
@@ -119,9 +133,13 @@ is_bad _ = false
 abbrev pub is_bad_at : Proposed → Option ℕ → Recording → ℕ → ℕ → Bool
 is_bad_at q tolerance r g o = is_bad (judged q tolerance r g o).verdict
 
--- an output of a group is bad, or a word of the group is of none of its outputs
+-- an output of a group is bad
+abbrev pub is_any_bad : Proposed → Option ℕ → Recording → ℕ → Bool
+is_any_bad q tolerance r g = list_any (is_bad_at q tolerance r g) (outputs_at q g)
+
+-- or a word of the group is of none of its outputs
 abbrev pub is_found_in : Proposed → Option ℕ → Recording → ℕ → Bool
-is_found_in q tolerance r g = list_any (is_bad_at q tolerance r g) (outputs_at q g) || nat_lt 0 (length (foreign_in q tolerance r g))
+is_found_in q tolerance r g = is_any_bad q tolerance r g || nat_lt 0 (length (foreign_in q tolerance r g))
 
 -- something is found
 abbrev pub is_found : Proposed → Option ℕ → Recording → Bool

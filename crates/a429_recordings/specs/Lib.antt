@@ -2,6 +2,7 @@ pub mod LogItems
 pub mod SimulationLog
 pub mod Timeline
 pub mod Tracks
+pub mod CloseWords
 pub mod Simulating
 pub mod SimulationRuns
 pub mod CellLines

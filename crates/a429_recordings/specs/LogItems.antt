@@ -1,14 +1,37 @@
 -- Logs as commands take them: what each word becomes is given, and a word that becomes nothing makes its line faulty (profile: log).
 use Rattle.std.specs.Prelude.{◌≡◌, ◌∷◌, [], ⊤, ℕ, List, Option, Some, None, Result, Ok, Err}
+use Rattle.a429_text.specs.Renames.{renamed}
 use Rattle.a429_logs.specs.Logs.{WordAt, log_entries, reading_after, series_entries}
 use Rattle.a429_logs.specs.LogRows.{Stated}
 use Rattle.a429_logs.specs.declared.reader.LogFault.{LogFault}
 use Rattle.a429_logs.specs.declared.reading.Reading.{Reading}
+use Rattle.a429_console.specs.Files.{texts_of}
 use Rattle.a429_console.specs.Lines.{entries_before}
 use Rattle.a429_console.specs.declared.refusals.CommandRefusal.{CommandRefusal}
 use Rattle.a429_console.specs.declared.refusals.CommandRefusal.TheVariants as refused
+use Rattle.a429_recordings.specs.declared.logs.LogNames.{LogNames}
 use Rattle.a429_recordings.specs.declared.logs.ReadFault.{ReadFault}
 use Rattle.a429_recordings.specs.declared.logs.ReadFault.TheVariants as fault
+
+-- ---- names
+
+-- the names of logs
+abbrev pub logs_named : LogNames → List (List ℕ)
+logs_named n = n.first.now ∷ texts_of n.more.now
+
+-- as which names channels in them are taken, each FROM=TO
+abbrev pub channels_named : LogNames → List (List ℕ)
+channels_named n = texts_of n.channels.now
+
+-- a word by the name as which its channel is taken (`--channel`)
+abbrev pub with_name : List (List ℕ) → Stated → Stated
+with_name channels w = record w { name = renamed channels w.name }
+
+-- what a word becomes by that name
+abbrev pub named : {A : Type 0} → List (List ℕ) → (Stated → Option A) → Stated → Option A
+named channels item w = item (with_name channels w)
+
+-- ---- items
 
 abbrev pub item_then : {A : Type 0} → ℕ → Option A → Result (List A) ℕ → Result (List A) ℕ
 item_then line None later = Err line

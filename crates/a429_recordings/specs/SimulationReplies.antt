@@ -7,7 +7,7 @@ use Rattle.a429_logs.specs.declared.clocks.Clock.{Clock}
 use Rattle.a429_logs.specs.declared.reading.Reading.{Reading}
 use Rattle.a429_slots.specs.Proposed.{Proposed}
 use Rattle.a429_console.specs.FileReadings.{AreReadLogs, IsFileRefusal, IsFirstUnreadLog, readable}
-use Rattle.a429_console.specs.Files.{bytes_of}
+use Rattle.a429_console.specs.Files.{bytes_of, texts_of}
 use Rattle.a429_console.specs.Names.{naming_of}
 use Rattle.a429_console.specs.Outputs.{AppendsPending, IsPut, OrNoMemory, memory_refused}
 use Rattle.a429_console.specs.RefusalText.{OrMemory, refusal_line}
@@ -15,11 +15,14 @@ use Rattle.a429_console.specs.Requests.{OptionBytes, is_csv}
 use Rattle.a429_console.specs.Tables.{IsProposedBy, IsTableRefusal}
 use Rattle.a429_console.specs.declared.refusals.CommandRefusal.{CommandRefusal}
 use Rattle.a429_console.specs.declared.refusals.CommandRefusal.TheVariants as refused
+use Rattle.a429_recordings.specs.CloseWords.{AreSpaced}
+use Rattle.a429_recordings.specs.LogItems.{channels_named, logs_named}
 use Rattle.a429_recordings.specs.SimulationLog.{IsLogFault, log_words}
 use Rattle.a429_recordings.specs.Timeline.{TimelineIsBegun, IsTimeline, SendsTooMuch, end_of}
 use Rattle.a429_recordings.specs.Simulating.{happenings_of, steps_of, text_of}
 use Rattle.a429_recordings.specs.SimulationRuns.{AreHappenings, CanBePlayed, HasPlayed, HasStationNames, IsBegin}
 use Rattle.a429_recordings.specs.Summary.{summary_text}
+use Rattle.a429_recordings.specs.declared.logs.LogNames.{LogNames}
 use Rattle.a429_recordings.specs.declared.simulate.Simulation.{Simulation}
 use Rattle.a429_recordings.specs.declared.simulate.SimulationForm.{SimulationForm}
 use Rattle.a429_recordings.specs.declared.simulate.SimulationInput.{SimulationInput}
@@ -43,14 +46,15 @@ abbrev pub simulation_form : OptionBytes → SimulationForm
 simulation_form o =
     record { until = o.until; summary = o.summary; form = o.form; reading = reading_for o }
 
--- the bytes of the files that a simulation reads
+-- the bytes of the files that a simulation reads, and as which names channels in the logs are taken
 pub record SimulationFiles : Type 0 where
   pub table : List ℕ
   pub logs : List (List ℕ)
+  pub channels : List (List ℕ)
 
 -- they are those of the files of these names, which are all read before any is looked at
-abbrev pub AreSimulationFiles : (List ℕ → Option (List ℕ)) → List ℕ → List (List ℕ) → SimulationFiles → Type 0
-AreSimulationFiles file table logs i = (readable (file table) ≡ Some i.table) × AreReadLogs file logs i.logs
+abbrev pub AreSimulationFiles : (List ℕ → Option (List ℕ)) → List ℕ → List (List ℕ) → List (List ℕ) → SimulationFiles → Type 0
+AreSimulationFiles file table logs channels i = (readable (file table) ≡ Some i.table) × AreReadLogs file logs i.logs × (i.channels ≡ channels)
 
 -- of these files the first that cannot be read
 abbrev pub IsUnreadFile : (List ℕ → Option (List ℕ)) → List ℕ → List (List ℕ) → CommandRefusal → Type 0
@@ -60,31 +64,31 @@ IsUnreadFile file table logs refusal =
 -- the table has a plan, at whose slot 0 the station opens, and the log these words
 pub record IsSimulated (i : SimulationFiles) (reading : Reading) (q : Proposed) (words : List LogWord) : Type 0 where
   pub proposed : IsProposedBy i.table q
-  pub words_are : log_words (naming_of q.station) reading i.logs ≡ Ok words
+  pub words_are : log_words (naming_of q.station) i.channels reading i.logs ≡ Ok words
 
 -- of a table with a plan, the log has a fault
 abbrev pub IsLogRefusal : SimulationFiles → Reading → CommandRefusal → Type 0
-IsLogRefusal i reading refusal = (q : Proposed) × IsProposedBy i.table q × IsLogFault (naming_of q.station) reading i.logs refusal
+IsLogRefusal i reading refusal = (q : Proposed) × IsProposedBy i.table q × IsLogFault (naming_of q.station) i.channels reading i.logs refusal
 
 -- why there is no simulation of these bytes: the table or its plan, or the log
 abbrev pub IsNoSimulation : SimulationFiles → Reading → CommandRefusal → Type 0
 IsNoSimulation i reading refusal = IsTableRefusal i.table refusal ⊎ IsLogRefusal i reading refusal
 
--- a group would send too much up to the last time
+-- a group would send too much from the first word to the last time
 abbrev pub IsLongRefusal : SimulationFiles → SimulationForm → CommandRefusal → Type 0
 IsLongRefusal i form refusal =
     (q : Proposed) × (words : List LogWord) × IsSimulated i form.reading q words × (refusal ≡ refused.TooMuch)
-    × SendsTooMuch q (end_of q words form.until)
+    × SendsTooMuch q words (end_of q words form.until)
 
 -- why nothing is simulated: the bytes, or that it would be too long
 abbrev pub IsUnsimulated : SimulationFiles → SimulationForm → CommandRefusal → Type 0
 IsUnsimulated i form refusal = IsNoSimulation i form.reading refusal ⊎ IsLongRefusal i form refusal
 
 -- why there is no simulation: a file, the bytes, or that it would be too long
-abbrev pub IsSimulationRefusal : (List ℕ → Option (List ℕ)) → List ℕ → List (List ℕ) → SimulationForm → CommandRefusal → Type 0
-IsSimulationRefusal file table logs form refusal =
+abbrev pub IsSimulationRefusal : (List ℕ → Option (List ℕ)) → List ℕ → List (List ℕ) → List (List ℕ) → SimulationForm → CommandRefusal → Type 0
+IsSimulationRefusal file table logs channels form refusal =
     IsUnreadFile file table logs refusal
-    ⊎ ((i : SimulationFiles) × AreSimulationFiles file table logs i × IsUnsimulated i form refusal)
+    ⊎ ((i : SimulationFiles) × AreSimulationFiles file table logs channels i × IsUnsimulated i form refusal)
 
 -- what comes before the lines: with commas the names of the fields
 abbrev pub heading : Bool → List ℕ
@@ -119,37 +123,47 @@ IsWritten q words last true form = IsSummary q words last form
 IsWritten q words last false form = IsPrinting q words last (is_csv form)
 
 -- what `simulate` writes, and its status: the line of a refusal, or what the simulation prints
-abbrev pub IsSimulation : (List ℕ → Option (List ℕ)) → List ℕ → List (List ℕ) → SimulationForm → ℕ → List ℕ → Type 0
-IsSimulation file table logs form status bytes =
-    ((refusal : CommandRefusal) × OrMemory (IsSimulationRefusal file table logs form) refusal × (status ≡ 1) × (bytes ≡ refusal_line refusal ++ 10 ∷ []))
-    ⊎ ((i : SimulationFiles) × (q : Proposed) × (words : List LogWord) × AreSimulationFiles file table logs i × IsSimulated i form.reading q words
+abbrev pub IsSimulation : (List ℕ → Option (List ℕ)) → List ℕ → List (List ℕ) → List (List ℕ) → SimulationForm → ℕ → List ℕ → Type 0
+IsSimulation file table logs channels form status bytes =
+    ((refusal : CommandRefusal) × OrMemory (IsSimulationRefusal file table logs channels form) refusal × (status ≡ 1) × (bytes ≡ refusal_line refusal ++ 10 ∷ []))
+    ⊎ ((i : SimulationFiles) × (q : Proposed) × (words : List LogWord) × AreSimulationFiles file table logs channels i × IsSimulated i form.reading q words
     × IsWritten q words (end_of q words form.until) form.summary form.form status bytes)
+
+-- the words of the logs that are simulated are apart
+abbrev pub SimulatesSpacedWords : (List ℕ → Option (List ℕ)) → List ℕ → List (List ℕ) → List (List ℕ) → SimulationForm → Type 0
+SimulatesSpacedWords file table logs channels form =
+    (i : SimulationFiles) (q : Proposed) (words : List LogWord) → AreSimulationFiles file table logs channels i → IsSimulated i form.reading q words → AreSpaced words
 
 -- ---- by the values of the program
 
 abbrev pub files_of : SimulationInput → SimulationFiles
-files_of i = record { table = i.table.items; logs = bytes_of i.logs.items }
+files_of i = record { table = i.table.items; logs = bytes_of i.logs.items; channels = texts_of i.channels.now }
+
+-- what it writes of the logs of these names
+abbrev pub IsSimulationOf : (List ℕ → Option (List ℕ)) → List ℕ → LogNames → SimulationForm → ℕ → List ℕ → Type 0
+IsSimulationOf file table names form = IsSimulation file table (logs_named names) (channels_named names) form
 
 -- what reading the files gives: their bytes, or the first that cannot be read
-abbrev pub IsSimulationReading : (List ℕ → Option (List ℕ)) → List ℕ → List (List ℕ) → Result SimulationInput CommandRefusal → Type 0
-IsSimulationReading file table logs result =
-    MatchResult result (λ i. AreSimulationFiles file table logs (files_of i)) (OrMemory (IsUnreadFile file table logs))
+abbrev pub IsSimulationReading : (List ℕ → Option (List ℕ)) → List ℕ → LogNames → Result SimulationInput CommandRefusal → Type 0
+IsSimulationReading file table names result =
+    MatchResult result (λ i. AreSimulationFiles file table (logs_named names) (channels_named names) (files_of i))
+    (OrMemory (IsUnreadFile file table (logs_named names)))
 
 -- a station of a table's bytes, with its names
 abbrev pub IsSettingOf : List ℕ → Bool → Setting → Type 0
 IsSettingOf table csv s = IsProposedBy table s.proposal × HasStationNames s.names s.proposal × (s.csv ≡ csv)
 
--- a beginning with the words of a log
-abbrev pub BeginsLog : Setting → List (List ℕ) → SimulationForm → Player → Type 0
-BeginsLog s logs form p =
-    (words : List LogWord) × (log_words s.names form.reading logs ≡ Ok words) × IsBegin s.proposal words (end_of s.proposal words form.until) p
+-- a beginning with the words of the logs
+abbrev pub BeginsLog : Setting → SimulationFiles → SimulationForm → Player → Type 0
+BeginsLog s i form p =
+    (words : List LogWord) × (log_words s.names i.channels form.reading i.logs ≡ Ok words) × IsBegin s.proposal words (end_of s.proposal words form.until) p
 
 -- why there is none: the log, or that a group would send too much
-abbrev pub BeginsNoLog : Setting → List (List ℕ) → SimulationForm → CommandRefusal → Type 0
-BeginsNoLog s logs form refusal =
-    IsLogFault s.names form.reading logs refusal
-    ⊎ ((words : List LogWord) × (log_words s.names form.reading logs ≡ Ok words) × (refusal ≡ refused.TooMuch)
-    × SendsTooMuch s.proposal (end_of s.proposal words form.until))
+abbrev pub BeginsNoLog : Setting → SimulationFiles → SimulationForm → CommandRefusal → Type 0
+BeginsNoLog s i form refusal =
+    IsLogFault s.names i.channels form.reading i.logs refusal
+    ⊎ ((words : List LogWord) × (log_words s.names i.channels form.reading i.logs ≡ Ok words) × (refusal ≡ refused.TooMuch)
+    × SendsTooMuch s.proposal words (end_of s.proposal words form.until))
 
 -- it has the names of its station, and can be played
 pub record SimulationIsReady (s : Simulation) : Type 0 where

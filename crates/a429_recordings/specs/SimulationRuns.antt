@@ -38,7 +38,7 @@ HasPlannedGroup q g = (g < length q.station.groups) × (g < length (groups_of q.
 
 -- a slot is of a group of the station, and 64 bits can count its microseconds
 abbrev pub IsSlotOf : Proposed → ℕ → ℕ → Type 0
-IsSlotOf q g t = HasPlannedGroup q g × (t < 8192000000)
+IsSlotOf q g t = HasPlannedGroup q g × (t < 300000000000)
 
 abbrev pub IsWithinRun : Proposed → Moment → Type 0
 IsWithinRun q (Word w) = ⊤
@@ -161,4 +161,4 @@ IsBegin q words last p = HasPlayed q words last [] p × CanBePlayed q p
 
 -- a beginning, or that a group would send too much
 abbrev pub IsBeginningOf : Proposed → List LogWord → ℕ → Result Player CommandRefusal → Type 0
-IsBeginningOf q words last result = MatchResult result (IsBegin q words last) (OrMemory (λ refusal. (refusal ≡ refused.TooMuch) × SendsTooMuch q last))
+IsBeginningOf q words last result = MatchResult result (IsBegin q words last) (OrMemory (λ refusal. (refusal ≡ refused.TooMuch) × SendsTooMuch q words last))

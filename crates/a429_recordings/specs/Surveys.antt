@@ -13,8 +13,9 @@ use Rattle.a429_console.specs.FileReadings.{AreReadLogs, IsFirstUnreadLog}
 use Rattle.a429_console.specs.RefusalText.{OrMemory}
 use Rattle.a429_console.specs.Requests.{OptionBytes}
 use Rattle.a429_console.specs.declared.refusals.CommandRefusal.{CommandRefusal}
-use Rattle.a429_recordings.specs.LogItems.{IsItemFault, items_of}
+use Rattle.a429_recordings.specs.LogItems.{IsItemFault, channels_named, items_of, logs_named, named}
 use Rattle.a429_recordings.specs.SimulationReplies.{reading_for}
+use Rattle.a429_recordings.specs.declared.logs.LogNames.{LogNames}
 use Rattle.a429_recordings.specs.declared.logs.ReadFault.{ReadFault}
 use Rattle.a429_recordings.specs.declared.logs.ReadFault.TheVariants as fault
 use Rattle.a429_recordings.specs.declared.survey.SurveyForm.{SurveyForm}
@@ -26,6 +27,10 @@ text_in name = if is_utf8 name then Some name else None
 -- a word, if its name is UTF-8
 unfoldable pub noted_of : Stated → Option Noted
 noted_of w = option_map (λ name. record { time = w.time; name = name; raw = w.raw }) (text_in w.name)
+
+-- the same, with channels taken as names
+abbrev pub noted_by : List (List ℕ) → Stated → Option Noted
+noted_by channels = named channels noted_of
 
 -- a word was noted, or its line is faulty
 abbrev pub IsNoted : {A : Type 0} → Stated → ℕ → List Noted → List Noted → Result A ReadFault → Type 0
@@ -47,16 +52,19 @@ abbrev pub survey_text : SurveyForm → Option ℕ → List Noted → List ℕ
 survey_text f None words = sheet_text f.form survey_columns (survey_rows f.rate words)
 survey_text f (Some slack) words = sheet_text form.Csv start_columns (start_rows slack f.rate words)
 
--- what `survey` prints of the logs of these names
-abbrev pub IsSurvey : (List ℕ → Option (List ℕ)) → List (List ℕ) → SurveyForm → List ℕ → Type 0
-IsSurvey file names f bytes =
-    (logs : List (List ℕ)) × (words : List Noted) × AreReadLogs file names logs × (items_of noted_of f.reading logs ≡ Ok words) × (bytes ≡ survey_text f f.slack words)
+-- what `survey` prints of the logs of these names, with channels taken as names
+abbrev pub IsSurvey : (List ℕ → Option (List ℕ)) → List (List ℕ) → List (List ℕ) → SurveyForm → List ℕ → Type 0
+IsSurvey file names channels f bytes =
+    (logs : List (List ℕ)) × (words : List Noted) × AreReadLogs file names logs × (items_of (noted_by channels) f.reading logs ≡ Ok words) × (bytes ≡ survey_text f f.slack words)
 
 -- why it prints nothing: a log that cannot be read, or the first faulty line
-abbrev pub IsNoSurvey : (List ℕ → Option (List ℕ)) → List (List ℕ) → SurveyForm → CommandRefusal → Type 0
-IsNoSurvey file names f refusal =
-    IsFirstUnreadLog file names refusal ⊎ ((logs : List (List ℕ)) × AreReadLogs file names logs × IsItemFault noted_of f.reading logs refusal)
+abbrev pub IsNoSurvey : (List ℕ → Option (List ℕ)) → List (List ℕ) → List (List ℕ) → SurveyForm → CommandRefusal → Type 0
+IsNoSurvey file names channels f refusal =
+    IsFirstUnreadLog file names refusal
+    ⊎ ((logs : List (List ℕ)) × AreReadLogs file names logs × IsItemFault (noted_by channels) f.reading logs refusal)
 
 -- what the call answers
-abbrev pub IsSurveyAnswer : (List ℕ → Option (List ℕ)) → List (List ℕ) → SurveyForm → Result (Vec ℕ Global) CommandRefusal → Type 0
-IsSurveyAnswer file names f result = MatchResult result (λ text. IsSurvey file names f text.items) (OrMemory (IsNoSurvey file names f))
+abbrev pub IsSurveyAnswer : (List ℕ → Option (List ℕ)) → LogNames → SurveyForm → Result (Vec ℕ Global) CommandRefusal → Type 0
+IsSurveyAnswer file names f result =
+    MatchResult result (λ text. IsSurvey file (logs_named names) (channels_named names) f text.items)
+    (OrMemory (IsNoSurvey file (logs_named names) (channels_named names) f))

@@ -1,5 +1,6 @@
 -- The timeline of a simulation: words of a log, and slots of a station's groups, in the order of time.
 use Rattle.std.specs.Prelude.{◌≡◌, ◌==◌, ◌+◌, ◌*◌, ◌/◌, ◌<◌, ◌≤◌, ◌++◌, ◌∷◌, [], ⊤, ℕ, List, Option, Some, None, if◌then◌else◌, nat_lt, length, filter_map, max, slice_get, unwrap_or}
+use Rattle.std.specs.Int.{div_ceil}
 use Rattle.std.specs.List.{AllByRecursion, range_with_len}
 use Rattle.std.specs.Option.{option_map_or}
 use Rattle.a429_equipment.specs.Agreement.{last_of}
@@ -104,6 +105,16 @@ abbrev pub end_of : Proposed → List LogWord → Option ℕ → ℕ
 end_of q words (Some until) = until
 end_of q words None = last_time words + longest_frame q.station.groups (groups_of q.plan)
 
--- a group would send more than a million frames
-abbrev pub SendsTooMuch : Proposed → ℕ → Type 0
-SendsTooMuch q last = (g : ℕ) × (1000000 * frame_of (table_of q g) < slots_by q last g)
+-- the time of the first word; with none, the begin
+abbrev pub first_time : List LogWord → ℕ
+first_time [] = 0
+first_time (w ∷ words) = w.time
+
+-- how many slots begin before this time, in microseconds: slot t does if t * 36000000 < time * rate
+abbrev pub slots_before : ℕ → ℕ → ℕ
+slots_before rate time = div_ceil (time * rate) slot_time
+
+-- from the first word to the last time, more slots of a group begin than a million frames have
+abbrev pub SendsTooMuch : Proposed → List LogWord → ℕ → Type 0
+SendsTooMuch q words last =
+    (g : ℕ) × (slots_before (rate_of q g) (first_time words) + 1000000 * frame_of (table_of q g) < slots_by q last g)

@@ -1,6 +1,5 @@
 -- The places of the groups of a simulation, as the program keeps them.
 use Rattle.std.specs.Prelude.{◌≡◌, ◌+◌, ◌-◌, ◌*◌, ◌/◌, ◌<◌, ◌≤◌, ◌++◌, ◌∷◌, [], ◌↔◌, ⊤, ℕ, Bool, List, Option, Some, None, Result, MatchOption, MatchResult, IsTrue, drop, length, min, slice_get, slice_set, sum_by}
-use Rattle.std.specs.Int.{div_ceil}
 use Rattle.std.specs.Option.{option_map_or}
 use Rattle.std.specs.declared.vec.Vec.{Vec}
 use Rattle.std.specs.declared.alloc.Global.{Global}
@@ -12,18 +11,18 @@ use Rattle.a429_console.specs.RefusalText.{OrMemory}
 use Rattle.a429_console.specs.declared.refusals.CommandRefusal.{CommandRefusal}
 use Rattle.a429_console.specs.declared.refusals.CommandRefusal.TheVariants as refused
 use Rattle.a429_recordings.specs.SimulationLog.{AreInTime}
-use Rattle.a429_recordings.specs.Timeline.{HasHappened, IsTimeline, SendsTooMuch, rate_of, slots_by}
+use Rattle.a429_recordings.specs.Timeline.{HasHappened, IsTimeline, SendsTooMuch, rate_of, slots_before, slots_by}
 use Rattle.a429_recordings.specs.declared.simulate.log.LogWord.{LogWord}
 use Rattle.a429_recordings.specs.declared.simulate.moments.Moment.{Moment}
 use Rattle.a429_recordings.specs.declared.simulate.moments.Moment.TheVariants.{Word, Slot}
 use Rattle.a429_recordings.specs.declared.simulate.moments.Timeline.{Timeline}
 use Rattle.a429_recordings.specs.declared.simulate.tracks.Track.{Track}
 
--- a rate in bit/s, and few enough slots that 64 bits can count their microseconds
+-- a rate in bit/s, and few enough slots that 64 bits can count their microseconds: those of a million frames, and those before 10^14 us
 pub record IsTrack (x : Track) : Type 0 where
   pub some_rate : 1 ≤ x.rate
   pub few_rate : x.rate ≤ 100000
-  pub few_slots : x.slots ≤ 8192000000
+  pub few_slots : x.slots ≤ 300000000000
   pub within : x.next ≤ x.slots
 
 -- the next slot of a group; 0 if there is no group of this number
@@ -91,16 +90,12 @@ TakesMoment old new result =
 -- a slot is of a group of the station, and 64 bits can count its microseconds
 abbrev pub IsKnownMoment : List Track → Moment → Type 0
 IsKnownMoment tracks (Word w) = ⊤
-IsKnownMoment tracks (Slot g t) = (g < length tracks) × (t < 8192000000)
+IsKnownMoment tracks (Slot g t) = (g < length tracks) × (t < 300000000000)
 
--- how many slots begin at this time or before, unless they are more than a million frames
-abbrev pub SlotsAreCounted : ℕ → ℕ → ℕ → Option ℕ → Type 0
-SlotsAreCounted rate frame last None = 1000000 * frame < last * rate / slot_time + 1
-SlotsAreCounted rate frame last (Some slots) = (slots ≡ last * rate / slot_time + 1) × (slots ≤ 8192000000)
-
--- how many slots begin before this time, in microseconds: slot t does if t * 36000000 < time * rate
-abbrev pub slots_before : ℕ → ℕ → ℕ
-slots_before rate time = div_ceil (time * rate) slot_time
+-- how many slots begin at the last time or before, unless those from the first time on are more than a million frames
+abbrev pub SlotsAreCounted : ℕ → ℕ → ℕ → ℕ → Option ℕ → Type 0
+SlotsAreCounted rate frame first last None = slots_before rate first + 1000000 * frame < last * rate / slot_time + 1
+SlotsAreCounted rate frame first last (Some slots) = (slots ≡ last * rate / slot_time + 1) × (slots ≤ 300000000000)
 
 -- before this time no word comes in: that of the first word, or the last time at which slots begin, if that is earlier
 abbrev pub silent_until : List LogWord → ℕ → ℕ
@@ -123,8 +118,9 @@ pub record AreCountedTo (q : Proposed) (start last n : ℕ) (tracks : List Track
 abbrev pub HasTracks : Proposed → List Track → Type 0
 HasTracks q tracks = (length tracks ≡ length q.station.groups) × (length tracks ≡ length (groups_of q.plan))
 
--- each group before its first slot at the start or after it, unless one would send too much
-abbrev pub IsTracking : Proposed → ℕ → ℕ → Result (Vec Track Global) CommandRefusal → Type 0
-IsTracking q start last result =
-    MatchResult result (λ tracks. AreTracks q last tracks.items × HasTracks q tracks.items × OfEach IsTrack tracks.items × OfEach (StartsAt start) tracks.items)
-    (OrMemory (λ refusal. (refusal ≡ refused.TooMuch) × SendsTooMuch q last))
+-- each group before its first slot that is not before the first word, unless one would send too much
+abbrev pub IsTracking : Proposed → List LogWord → ℕ → Result (Vec Track Global) CommandRefusal → Type 0
+IsTracking q words last result =
+    MatchResult result (λ tracks. AreTracks q last tracks.items × HasTracks q tracks.items × OfEach IsTrack tracks.items
+    × OfEach (StartsAt (silent_until words last)) tracks.items)
+    (OrMemory (λ refusal. (refusal ≡ refused.TooMuch) × SendsTooMuch q words last))

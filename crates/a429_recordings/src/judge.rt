@@ -1,9 +1,9 @@
 //! The command `judge`.
 ghost use Rattle.std.specs.Prelude.{◌≡◌, IfOk};
-ghost use Rattle.a429_console.specs.Files.{bytes_of};
+ghost use Rattle.a429_console.specs.Files.{bytes_of, texts_of};
 ghost use Rattle.a429_console.specs.Names.{naming_of};
 ghost use Rattle.a429_console.specs.Readings.{HasRead};
-ghost use Rattle.a429_recordings.specs.BoxLogs.{AreOrdered, IsLogsReading, IsNoting, box_word, restarted};
+ghost use Rattle.a429_recordings.specs.BoxLogs.{AreOrdered, IsLogsReading, IsNoting, box_word_by, restarted};
 ghost use Rattle.a429_recordings.specs.JudgeReplies.{IsBoxReading, IsJudgeAnswer, IsJudging, IsJudgingOf, IsPrinting, IsRecorded, files_of, names_of};
 ghost use Rattle.a429_recordings.specs.declared.judge.words.BoxLog.TheVariants.{Sent};
 
@@ -37,7 +37,8 @@ use std::alloc::Global;
 /// How words are judged, and what is printed of it.
 #[derive(Clone, Copy)]
 pub struct JudgeForm {
-    /// How far recorded times may be wrong, in microseconds. `None`: two slots of the group.
+    /// How far recorded times may be wrong, in microseconds. `None`: two slots of the group, or half its shortest period if
+    /// that is less.
     pub tolerance: Option<u32>,
     /// There is a row for each finding, instead of one for each output.
     pub events: bool,
@@ -64,7 +65,7 @@ impl JudgeForm {
     }
 }
 
-/// The names of the files that are judged.
+/// The names of the files that are judged, and as which names channels in the logs are taken.
 #[derive(Clone, Copy)]
 pub struct JudgeNames<'a> {
     pub table: &'a str,
@@ -74,14 +75,17 @@ pub struct JudgeNames<'a> {
     /// The first log of what was sent, and the others.
     pub sent: &'a str,
     pub more_sent: &'a [&'a str],
+    /// Each is FROM=TO: a word with the name FROM is taken as one with the name TO.
+    pub channels: &'a [&'a str],
 }
 
-/// The bytes of those files.
+/// The bytes of those files, and these channels.
 #[derive(Drop)]
-struct JudgeInput {
+struct JudgeInput<'a> {
     table: Vec<u8>,
     heard: Vec<Vec<u8>>,
     sent: Vec<Vec<u8>>,
+    channels: &'a [&'a str],
 }
 
 /// Reads the files of these names.
@@ -90,13 +94,18 @@ fn read_input<'a, F: FileReader>(
     files: &mut F,
     names: JudgeNames<'a>,
     seen: &mut Seen,
-) -> Result<JudgeInput, CommandRefusal>
+) -> Result<JudgeInput<'a>, CommandRefusal>
     ensures { HasRead F.answers (λ file. IsBoxReading file (names_of names.entry) result) files.old files.new }
 {
     let table = read_file(alloc, files, names.table, seen)?;
     let heard = read_logs(alloc, files, names.heard, names.more_heard, seen)?;
     let sent = read_logs(alloc, files, names.sent, names.more_sent, seen)?;
-    Ok(JudgeInput { table, heard, sent })
+    Ok(JudgeInput {
+        table,
+        heard,
+        sent,
+        channels: names.channels,
+    })
 }
 
 /// How the first line of the logs of what was sent is read, after those of what came in: on the same clock, from its
@@ -122,18 +131,29 @@ fn count_logs(before: usize, seen: &mut Seen) {
 }
 
 /// Reads the logs of what was sent. Error: the first faulty line.
-fn read_sent(
+fn read_sent<'a>(
     alloc: Global,
     plan: &Plan<OUTPUTS>,
     names: &Names,
     reading: Reading,
-    input: &JudgeInput,
+    input: &'a JudgeInput<'a>,
     seen: &mut Seen,
 ) -> Result<BoxWords, CommandRefusal>
-    ensures read { IsLogsReading (box_word plan.now names.now Sent) reading (bytes_of input.now.sent.items) result }
+    ensures read { IsLogsReading (box_word_by plan.now names.now (texts_of input.now.channels.now) Sent) reading
+        (bytes_of input.now.sent.items) result }
     ensures ordered { IfOk result (λ read. AreOrdered read.words.items) }
 {
-    let sent = read_words(alloc, plan, names, BoxLog::Sent, reading, &input.sent, seen);
+    let channels = input.channels;
+    let sent = read_words(
+        alloc,
+        plan,
+        names,
+        channels,
+        BoxLog::Sent,
+        reading,
+        &input.sent,
+        seen,
+    );
     count_logs(input.heard.len(), seen);
     sent
 }
@@ -156,11 +176,11 @@ fn note_words(
 }
 
 /// The words of the logs, noted. Errors: the first faulty line; the two logs have no time in common.
-fn read_notes(
+fn read_notes<'a>(
     alloc: Global,
     proposal: &Proposal<OUTPUTS>,
     names: &Names,
-    input: &JudgeInput,
+    input: &'a JudgeInput<'a>,
     reading: Reading,
     seen: &mut Seen,
 ) -> Result<Judge, CommandRefusal>
@@ -172,6 +192,7 @@ fn read_notes(
         alloc,
         tables,
         names,
+        input.channels,
         BoxLog::Heard,
         reading,
         &input.heard,
@@ -183,10 +204,10 @@ fn read_notes(
 }
 
 /// What is said of the words of the logs. Error: a log is refused.
-fn judge_words(
+fn judge_words<'a>(
     alloc: Global,
     proposal: &Proposal<OUTPUTS>,
-    input: &JudgeInput,
+    input: &'a JudgeInput<'a>,
     form: JudgeForm,
     seen: &mut Seen,
 ) -> Result<Judged, CommandRefusal>
@@ -199,14 +220,14 @@ fn judge_words(
         judge: &judge,
         tolerance: form.tolerance,
     };
-    Ok(judge_sheet(alloc, &judging, form.events, form.form)?)
+    Ok(judge_sheet(alloc, &judging, form.events, form.form, seen)?)
 }
 
 /// What is said of a box with this plan. Errors: the tolerance is too great; a log is refused.
-fn judge_box(
+fn judge_box<'a>(
     alloc: Global,
     proposal: &Proposal<OUTPUTS>,
-    input: &JudgeInput,
+    input: &'a JudgeInput<'a>,
     form: JudgeForm,
     seen: &mut Seen,
 ) -> Result<Judged, CommandRefusal>
@@ -221,9 +242,9 @@ fn judge_box(
 
 /// What is said of a box, by the bytes of the files. The plan is kept for a hint. Errors: the table or its plan; those of
 /// `judge_box`.
-fn judge_input(
+fn judge_input<'a>(
     alloc: Global,
-    input: &JudgeInput,
+    input: &'a JudgeInput<'a>,
     form: JudgeForm,
     seen: &mut Seen,
 ) -> Result<Judged, CommandRefusal>

@@ -1,4 +1,5 @@
 //! What follows from the definitions of commands on recordings.
+ghost use Rattle.a429_recordings.specs.JudgedPlans.{DefaultToleranceIsAllowed};
 ghost use Rattle.a429_recordings.specs.SummaryLaws.{WordsAreWithinBounds};
 
 use a429_core::laws::accepted_words_go_out_in_time;
@@ -12,3 +13,9 @@ pub fn words_are_within_bounds()
     plans_in_force_are_spaced();
     accepted_words_go_out_in_time();
 }
+
+/// If no tolerance is given to `judge`, that of each group is at most half the period of each of its outputs. So it is
+/// refused for no plan.
+pub fn default_tolerance_is_allowed()
+    ensures { DefaultToleranceIsAllowed }
+{}

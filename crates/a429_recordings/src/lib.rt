@@ -5,7 +5,16 @@
 //!
 //! ```text
 //! let form = SimulationForm::of(options);
-//! simulate(alloc, files, first, second, more, form, seen, out)
+//! simulate(
+//!     alloc,
+//!     files,
+//!     first,
+//!     simulated_logs(asked),
+//!     form,
+//!     seen,
+//!     warnings,
+//!     out,
+//! )
 //! ```
 //!
 //! `survey_logs` needs no table: its answer is the text of a sheet that says what is on the lines of a log.

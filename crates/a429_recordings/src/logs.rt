@@ -1,14 +1,41 @@
-//! Faulty lines of logs.
+//! Logs: their names, those of their words, and faulty lines.
 ghost use Rattle.std.specs.Prelude.{◌≡◌};
+ghost use Rattle.a429_logs.specs.LogRows.{stated_by};
+ghost use Rattle.a429_console.specs.Files.{texts_of};
 ghost use Rattle.a429_console.specs.Requests.{given_of};
-ghost use Rattle.a429_recordings.specs.LogItems.{IsFaultAt};
+ghost use Rattle.a429_recordings.specs.LogItems.{IsFaultAt, with_name};
 ghost use Rattle.a429_recordings.specs.SimulationReplies.{clock_from, reading_for};
 
 use a429_console::arguments::requests::Options;
 use a429_console::arguments::times::LogOrigin;
 use a429_console::hints::{LogRefusal, SeenLog};
-use a429_logs::{Clock, LogReader, Reading};
+use a429_logs::{Clock, LogReader, LogWord, Reading, StatedWord};
+use a429_text::renames::renamed;
 use std::alloc::AllocFailed;
+
+/// The names of logs that are read one after another, and as which names channels in them are taken.
+#[derive(Clone, Copy)]
+pub struct LogNames<'a> {
+    pub first: &'a str,
+    pub more: &'a [&'a str],
+    /// Each is FROM=TO: a word with the name FROM is taken as one with the name TO.
+    pub channels: &'a [&'a str],
+}
+
+/// The same word of a log by the name as which its channel is taken.
+pub fn with_name<'a>(channels: &'a [&'a str], entry: LogWord<'a>) -> LogWord<'a>
+    ensures word { stated_by result.word ≡ with_name (texts_of channels.now) (stated_by entry.entry.word) }
+    ensures line { result.line ≡ entry.entry.line }
+{
+    let word = entry.word;
+    LogWord {
+        line: entry.line,
+        word: StatedWord {
+            name: renamed(channels, word.name),
+            ..word
+        },
+    }
+}
 
 /// A faulty line of a log, by its number from 1, and what a hint needs of it.
 #[derive(Clone, Copy)]

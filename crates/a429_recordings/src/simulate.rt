@@ -1,6 +1,5 @@
 //! The command `simulate`.
-ghost use Rattle.std.specs.Prelude.{◌≡◌, ◌≤◌, ◌∷◌, true, IfOk, IsTrue, MatchResult, OnOk};
-ghost use Rattle.a429_console.specs.Files.{bytes_of, texts_of};
+ghost use Rattle.std.specs.Prelude.{◌≡◌, ◌≤◌, true, IfOk, IsTrue, MatchResult, OnOk};
 ghost use Rattle.a429_console.specs.Readings.{HasRead};
 ghost use Rattle.a429_console.specs.Outputs.{CountsFault};
 ghost use Rattle.a429_console.specs.RefusalText.{OrMemory};
@@ -8,9 +7,12 @@ ghost use Rattle.a429_console.specs.Replying.{HasReplied};
 ghost use Rattle.a429_console.specs.Requests.{is_csv};
 ghost use Rattle.a429_console.specs.Tables.{IsTableRefusal};
 ghost use Rattle.a429_recordings.specs.CellLines.{IsBeginOfSlot};
-ghost use Rattle.a429_recordings.specs.SimulationReplies.{BeginsLog, BeginsNoLog, HasPrinted, HasPrintedLines, HasPrintedSummary, HasSummary, IsPreparedFor, IsSettingOf, IsSimulation, IsSimulationReading, IsUnsimulated, PutsLines, SimulationIsReady, files_of};
+ghost use Rattle.a429_recordings.specs.CloseWords.{AreSpaced};
+ghost use Rattle.a429_recordings.specs.LogItems.{channels_named, logs_named};
+ghost use Rattle.a429_recordings.specs.SimulationReplies.{BeginsLog, BeginsNoLog, HasPrinted, HasPrintedLines, HasPrintedSummary, HasSummary, IsPreparedFor, IsSettingOf, IsSimulationOf, IsSimulationReading, IsUnsimulated, PutsLines, SimulatesSpacedWords, SimulationIsReady, files_of};
 ghost use Rattle.a429_recordings.specs.SimulationRuns.{CanBePlayed, HasStationNames};
 
+mod close;
 mod figures;
 mod lines;
 mod log;
@@ -20,7 +22,9 @@ mod playing;
 mod summary_rows;
 mod tracks;
 
+pub use crate::logs::LogNames;
 use crate::logs::reading_for;
+use crate::simulate::close::close_receiver;
 use crate::simulate::figures::Summary;
 use crate::simulate::lines::{PendingLines, Setting};
 use crate::simulate::log::read_words;
@@ -30,6 +34,7 @@ use a429_console::arguments::requests::Options;
 use a429_console::files::FileReader;
 use a429_console::files::reading::{read_file, read_logs};
 use a429_console::hints::Seen;
+use a429_console::hints::warnings::Warning;
 use a429_console::output::endings::{finish, refuse_memory};
 use a429_console::output::{Output, OutputFault};
 use a429_console::refusals::tables::propose;
@@ -78,11 +83,12 @@ fn is_csv(form: SheetForm) -> bool
     }
 }
 
-/// The bytes of the files that a simulation reads.
+/// The bytes of the files that a simulation reads, and as which names channels in the logs are taken.
 #[derive(Drop)]
-struct SimulationInput {
+struct SimulationInput<'a> {
     table: Vec<u8>,
     logs: Vec<Vec<u8>>,
+    channels: &'a [&'a str],
 }
 
 /// What is simulated, before anything has happened: what the lines are written with, and a timeline on a station.
@@ -97,15 +103,18 @@ fn read_input<'a, F: FileReader>(
     alloc: Global,
     files: &mut F,
     table: &str,
-    log: &'a str,
-    more: &'a [&'a str],
+    names: LogNames<'a>,
     seen: &mut Seen,
-) -> Result<SimulationInput, CommandRefusal>
-    ensures { HasRead F.answers (λ file. IsSimulationReading file table.now (log.now ∷ texts_of more.now) result) files.old files.new }
+) -> Result<SimulationInput<'a>, CommandRefusal>
+    ensures { HasRead F.answers (λ file. IsSimulationReading file table.now names.entry result) files.old files.new }
 {
     let table = read_file(alloc, files, table, seen)?;
-    let logs = read_logs(alloc, files, log, more, seen)?;
-    Ok(SimulationInput { table, logs })
+    let logs = read_logs(alloc, files, names.first, names.more, seen)?;
+    Ok(SimulationInput {
+        table,
+        logs,
+        channels: names.channels,
+    })
 }
 
 /// The station of a table's bytes. Error: the table, or its plan, is refused.
@@ -127,32 +136,52 @@ fn read_station(
 }
 
 /// Logs on a station, with slots up to the time that the form asks for. Error: the log is refused, or a group would send too much.
-fn read_player(
+fn read_player<'a>(
     alloc: Global,
     setting: &Setting,
-    logs: &[Vec<u8>],
+    input: &'a SimulationInput<'a>,
     form: SimulationForm,
     seen: &mut Seen,
 ) -> Result<Player, CommandRefusal>
-    ensures { MatchResult result (BeginsLog setting.now (bytes_of logs.now) form)
-        (OrMemory (BeginsNoLog setting.now (bytes_of logs.now) form)) }
+    ensures { MatchResult result (BeginsLog setting.now (files_of input.now) form)
+        (OrMemory (BeginsNoLog setting.now (files_of input.now) form)) }
 {
-    let words = read_words(alloc, &setting.names, form.reading, logs, seen)?;
+    let words = read_words(
+        alloc,
+        &setting.names,
+        input.channels,
+        form.reading,
+        &input.logs,
+        seen,
+    )?;
     Player::open(alloc, &setting.proposal, words, form.until)
 }
 
 /// What is simulated. Error: the table, its plan or the log is refused, or a group would send too much.
-fn prepare(
+fn prepare<'a>(
     alloc: Global,
-    input: &SimulationInput,
+    input: &'a SimulationInput<'a>,
     form: SimulationForm,
     seen: &mut Seen,
 ) -> Result<Simulation, CommandRefusal>
     ensures { MatchResult result (IsPreparedFor (files_of input.now) form) (OrMemory (IsUnsimulated (files_of input.now) form)) }
 {
     let setting = read_station(alloc, &input.table, is_csv(form.form), seen)?;
-    let player = read_player(alloc, &setting, &input.logs, form, seen)?;
+    let player = read_player(alloc, &setting, input, form, seen)?;
     Ok(Simulation { setting, player })
+}
+
+/// Notes a receiver, if the words of the log come to it too closely.
+fn note_close_words(alloc: Global, simulation: &Simulation, warnings: &mut Vec<Warning>)
+    ensures { AreSpaced simulation.now.player.timeline.words.items → warnings.new.items ≡ warnings.old.items }
+{
+    let Some(receiver) = close_receiver(simulation.player.words()) else {
+        return;
+    };
+    let receivers = simulation.setting.proposal.equipment().receivers();
+    if let Some(row) = receivers.get(usize::from(receiver)) {
+        Warning::note_close_words(alloc, warnings, &row.name);
+    }
 }
 
 /// Plays what is simulated to its end, and puts lines out when they have become many; those that are left are in `lines`.
@@ -257,31 +286,37 @@ fn print_simulation<O: Output>(
     }
 }
 
-/// Plays the words of a log, and of those that follow it, on the station of a table, at their times. It puts a line for each word that is sent or
+/// Plays the words of logs on the station of a table, at their times. It puts a line for each word that is sent or
 /// refused, or instead the summary of what each output sent. A refusal is one line instead. The status is 0, or 1 after
-/// a refusal, or if an allocation fails after the first lines.
+/// a refusal, or if an allocation fails after the first lines. A receiver to which words come too closely is noted.
 pub fn simulate<'a, F: FileReader, O: Output>(
     alloc: Global,
     files: &mut F,
     table: &str,
-    log: &'a str,
-    more: &'a [&'a str],
+    names: LogNames<'a>,
     form: SimulationForm,
     seen: &mut Seen,
+    warnings: &mut Vec<Warning>,
     out: &mut O,
 ) -> Result<u8, OutputFault>
-    ensures simulated { HasReplied F.answers O.contents (λ file. IsSimulation file table.now (log.now ∷ texts_of more.now) form)
+    ensures simulated { HasReplied F.answers O.contents (λ file. IsSimulationOf file table.now names.entry form)
         files.old files.new out.old out.new result }
+    ensures silent { HasRead F.answers
+        (λ file. SimulatesSpacedWords file table.now (logs_named names.entry) (channels_named names.entry) form
+        → warnings.new.items ≡ warnings.old.items) files.old files.new }
     ensures status { IfOk result (λ status. status ≤ 1) }
     ensures flushed { OnOk result (IsTrue (O.is_flushed out.new)) }
     ensures faults { CountsFault result (O.failures out.old) (O.failures out.new) }
 {
-    let input = match read_input(alloc, files, table, log, more, seen) {
+    let input = match read_input(alloc, files, table, names, seen) {
         Ok(input) => input,
         Err(refusal) => return refuse(alloc, refusal, seen, out),
     };
     match prepare(alloc, &input, form, seen) {
-        Ok(mut simulation) => print_simulation(alloc, &mut simulation, form, out),
+        Ok(mut simulation) => {
+            note_close_words(alloc, &simulation, warnings);
+            print_simulation(alloc, &mut simulation, form, out)
+        }
         Err(refusal) => refuse(alloc, refusal, seen, out),
     }
 }

@@ -1,13 +1,14 @@
 //! The command `survey`.
-ghost use Rattle.std.specs.Prelude.{◌≡◌, ◌∷◌, Ok, IfOk, MatchResult, option_map};
+ghost use Rattle.std.specs.Prelude.{◌≡◌, Ok, IfOk, MatchResult, option_map};
 ghost use Rattle.a429_logs.specs.LogRows.{stated_by};
 ghost use Rattle.a429_console.specs.Files.{bytes_of, texts_of};
 ghost use Rattle.a429_console.specs.Readings.{HasRead};
 ghost use Rattle.a429_console.specs.RefusalText.{OrMemory};
 ghost use Rattle.a429_recordings.specs.LogItems.{AddsLog, IsItemFault, items_of, refusal_for};
-ghost use Rattle.a429_recordings.specs.Surveys.{IsNoted, IsSurveyAnswer, noted_of, survey_text, text_in};
+ghost use Rattle.a429_recordings.specs.Surveys.{IsNoted, IsSurveyAnswer, noted_by, survey_text, text_in};
 
-use crate::logs::{ReadFault, faulty, reading_for};
+pub use crate::logs::LogNames;
+use crate::logs::{ReadFault, faulty, reading_for, with_name};
 use a429_console::arguments::requests::Options;
 use a429_console::files::FileReader;
 use a429_console::files::reading::read_logs;
@@ -91,13 +92,19 @@ fn note_word(
 
 /// Notes the words of a log; the answer is how the next log is read. Error: the number of its first faulty line, from 1,
 /// or an allocation failed.
-fn note_log(survey: &mut Survey, reading: Reading, log: &[u8]) -> Result<Reading, ReadFault>
-    ensures { AddsLog noted_of reading log.now survey.old survey.new result }
+fn note_log<'a>(
+    survey: &mut Survey,
+    channels: &'a [&'a str],
+    reading: Reading,
+    log: &'a [u8],
+) -> Result<Reading, ReadFault>
+    ensures { AddsLog (noted_by (texts_of channels.now)) reading log.now survey.old survey.new result }
 {
     let mut reader = LogReader::open(reading, log);
     while let Some(entry) = reader.next() {
         match entry {
             Ok(entry) => {
+                let entry = with_name(channels, entry);
                 if let Err(fault) = note_word(survey, &reader, reading, entry) {
                     return Err(fault);
                 }
@@ -138,20 +145,21 @@ fn refusal_for(
 }
 
 /// The survey of logs, read one after another as if they were one. Error: the first faulty line, which is kept in `seen`.
-fn survey_of(
+fn survey_of<'a>(
     alloc: Global,
+    channels: &'a [&'a str],
     reading: Reading,
-    logs: &[Vec<u8>],
+    logs: &'a [Vec<u8>],
     seen: &mut Seen,
 ) -> Result<Survey, CommandRefusal>
-    ensures { MatchResult result (λ survey. items_of noted_of reading (bytes_of logs.now) ≡ Ok survey)
-        (OrMemory (IsItemFault noted_of reading (bytes_of logs.now))) }
+    ensures { MatchResult result (λ survey. items_of (noted_by (texts_of channels.now)) reading (bytes_of logs.now) ≡ Ok survey)
+        (OrMemory (IsItemFault (noted_by (texts_of channels.now)) reading (bytes_of logs.now))) }
 {
     let mut survey = Survey::new(alloc);
     let mut next = reading;
     for number in 0..logs.len() {
         let log = logs[number].as_slice();
-        match note_log(&mut survey, next, log) {
+        match note_log(&mut survey, channels, next, log) {
             Ok(after) => next = after,
             Err(fault) => return Err(refusal_for(alloc, number, log, fault, seen)),
         }
@@ -175,20 +183,18 @@ fn text_of(alloc: Global, survey: &Survey, form: SurveyForm) -> Result<Vec<u8>, 
     }
 }
 
-/// What is on the lines of a log and of those that follow it, as a sheet; or the start of a table, as rows for `import`.
-/// Error: a log cannot be read, or has a faulty line; that is a line as the reader of logs says, or one with a name that is
-/// not UTF-8.
+/// What is on the lines of logs, as a sheet; or the start of a table, as rows for `import`. Error: a log cannot be read, or
+/// has a faulty line; that is a line as the reader of logs says, or one with a name that is not UTF-8.
 pub fn survey_logs<'a, F: FileReader>(
     alloc: Global,
     files: &mut F,
-    log: &'a str,
-    more: &'a [&'a str],
+    names: LogNames<'a>,
     form: SurveyForm,
     seen: &mut Seen,
 ) -> Result<Vec<u8>, CommandRefusal>
-    ensures { HasRead F.answers (λ file. IsSurveyAnswer file (log.now ∷ texts_of more.now) form result) files.old files.new }
+    ensures { HasRead F.answers (λ file. IsSurveyAnswer file names.entry form result) files.old files.new }
 {
-    let logs = read_logs(alloc, files, log, more, seen)?;
-    let survey = survey_of(alloc, form.reading, &logs, seen)?;
+    let logs = read_logs(alloc, files, names.first, names.more, seen)?;
+    let survey = survey_of(alloc, names.channels, form.reading, &logs, seen)?;
     Ok(text_of(alloc, &survey, form)?)
 }

@@ -10,7 +10,8 @@ ghost use Rattle.a429_replay.specs.Playing.{PlaysTable};
 
 use crate::names::Names;
 use crate::pending::Pending;
-use a429_console::hints::{FurtherCause, FurtherFault, SeenTable};
+use a429_console::hints::SeenTable;
+use a429_console::hints::warnings::{FurtherCause, Warning};
 use a429_console::refusals::CommandRefusal;
 use a429_console::refusals::tables::propose;
 use a429_core::{Event, StationState};
@@ -106,16 +107,16 @@ impl FurtherTable {
         alloc: Global,
         station: &Equipment,
         number: usize,
-        faults: &mut Vec<FurtherFault>,
+        warnings: &mut Vec<Warning>,
     )
-        ensures { IsTakenBy station.now self → faults.new.items ≡ faults.old.items }
+        ensures { IsTakenBy station.now self → warnings.new.items ≡ warnings.old.items }
     {
         let FurtherTable { bytes: _, planned } = self;
         let Some(planned) = planned else {
             return;
         };
         if let Some(cause) = cause_at(alloc, station, &planned.proposal) {
-            FurtherFault::note(faults, number, cause, planned.seen);
+            Warning::note_further(warnings, number, cause, planned.seen);
         }
     }
 }
@@ -220,13 +221,13 @@ pub fn note_faults(
     alloc: Global,
     station: &Equipment,
     further: Vec<FurtherTable>,
-    faults: &mut Vec<FurtherFault>,
+    warnings: &mut Vec<Warning>,
 )
-    ensures { AllByRecursion (IsTakenBy station.now) further.items → faults.new.items ≡ faults.old.items }
+    ensures { AllByRecursion (IsTakenBy station.now) further.items → warnings.new.items ≡ warnings.old.items }
 {
     let mut number: usize = 0;
     for table in further {
         number = number.saturating_add(1);
-        table.note_fault(alloc, station, number, faults);
+        table.note_fault(alloc, station, number, warnings);
     }
 }

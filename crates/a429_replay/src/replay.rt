@@ -16,7 +16,8 @@ use crate::script::{ScriptForm, read_script};
 use crate::station::ReplayStation;
 use a429_console::files::FileReader;
 use a429_console::files::reading::{read_file, read_files};
-use a429_console::hints::{FurtherFault, Seen};
+use a429_console::hints::Seen;
+use a429_console::hints::warnings::Warning;
 use a429_console::output::endings::finish;
 use a429_console::output::{Output, OutputFault};
 use a429_console::refusals::{CommandRefusal, refuse};
@@ -126,12 +127,12 @@ pub fn replay<F: FileReader, O: Output>(
     script: &str,
     further: &[&str],
     seen: &mut Seen,
-    faults: &mut Vec<FurtherFault>,
+    warnings: &mut Vec<Warning>,
     out: &mut O,
 ) -> Result<u8, OutputFault>
     ensures replayed { HasReplayed F.answers O.contents table.now script.now further.now files.old files.new out.old out.new result }
     ensures taken { HasRead F.answers (λ file. TakesFurther file table.now script.now (texts_of further.now)
-        → faults.new.items ≡ faults.old.items) files.old files.new }
+        → warnings.new.items ≡ warnings.old.items) files.old files.new }
     ensures status { IfOk result (λ status. status ≤ 1) }
     ensures flushed { OnOk result (IsTrue (O.is_flushed out.new)) }
     ensures faults { CountsFault result (O.failures out.old) (O.failures out.new) }
@@ -143,7 +144,7 @@ pub fn replay<F: FileReader, O: Output>(
     match prepare(alloc, &input, seen) {
         Ok(mut prepared) => {
             let status = play_prepared(alloc, &mut prepared, &mut input, out);
-            note_faults(alloc, &prepared.station.equipment, input.further, faults);
+            note_faults(alloc, &prepared.station.equipment, input.further, warnings);
             status
         }
         Err(refusal) => refuse(alloc, refusal, seen, out),

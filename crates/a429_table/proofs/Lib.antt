@@ -1,5 +1,6 @@
 pub mod Trees
 pub mod Firsts
+pub mod FittingTables
 pub mod Documents
 pub mod NameNumbers
 pub mod Leastness

@@ -67,6 +67,17 @@ misfits d c = option_map_or (λ v. not (has_shape c.shape v)) (get c.key d) fals
 unfoldable pub has_wrong_kind : TableVersion → TablePlace → Data → Bool
 has_wrong_kind version place d = not (is_table d) || list_any (misfits d) (columns version place)
 
+-- the value at a column has its shape, or there is none and none is required
+abbrev pub fills : Data → Column → Bool
+fills d c = option_map_or (has_shape c.shape) (get c.key d) (not c.required)
+
+-- a table that lacks no key, with values of the kinds of its columns
+unfoldable pub fits_columns : TableVersion → Stop → Bool
+fits_columns version s = is_table s.1 && list_all (fills s.1) (columns version s.0)
+
+abbrev pub all_fit_columns : TableVersion → List Stop → Bool
+all_fit_columns version stops = list_all (fits_columns version) stops
+
 -- ## The values
 
 -- 100000, or 12000 to 14500

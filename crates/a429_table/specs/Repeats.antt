@@ -50,10 +50,14 @@ free places = replicate places 0
 abbrev pub repeats_among : ℕ → List Words → List Bool
 repeats_among places ws = repeats_from (free places) ws
 
+-- whether each output of a group repeats an earlier one of it
+abbrev pub group_repeats : List SourceRow → List OutputRow → List Bool
+group_repeats sources os = repeats_among 256 (map (output_words sources) os)
+
 -- these are the repeats of some sources, and of the outputs of each group
 pub record AreRepeatsIn (sources : List SourceRow) (outputs : List (List OutputRow)) (repeats : Repeats) : Type 0 where
   pub of_sources : repeats.sources.items ≡ repeats_among 4096 (map source_words sources)
-  pub of_outputs : map (λ v. v.items) repeats.outputs.items ≡ map (λ os. repeats_among 256 (map (output_words sources) os)) outputs
+  pub of_outputs : map (λ v. v.items) repeats.outputs.items ≡ map (group_repeats sources) outputs
 
 -- the rows are those of the record of a table
 pub record AreRowsOf (root : Data) (rows : WordRows) : Type 0 where

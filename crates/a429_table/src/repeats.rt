@@ -5,7 +5,7 @@
 
 ghost use Rattle.std.specs.Prelude.{◌≡◌, ◌++◌, ◌<◌, ◌∷◌, [], false, IfOk, OnOk, length, map, option_map, slice_get, slice_index_or, slice_set};
 ghost use Rattle.std.specs.Option.{option_copied};
-ghost use Rattle.a429_table.specs.Repeats.{AreRepeatsIn, bits_of, free, is_taken, output_flag, output_words, repeats_among, source_flag, source_words, with_words};
+ghost use Rattle.a429_table.specs.Repeats.{AreRepeatsIn, bits_of, free, group_repeats, is_taken, output_flag, output_words, repeats_among, source_flag, source_words, with_words};
 
 use crate::build::WordRows;
 use crate::fault::TablePlace;
@@ -121,7 +121,7 @@ fn output_repeats(
     sources: &[SourceRow],
     outputs: &[OutputRow],
 ) -> Result<Vec<bool>, AllocError>
-    ensures { IfOk result (λ repeats. repeats.items ≡ repeats_among 256 (map (output_words sources.now) outputs.now)) }
+    ensures { IfOk result (λ repeats. repeats.items ≡ group_repeats sources.now outputs.now) }
 {
     let mut rows = NotedRows::none(alloc, outputs.len(), 256)?;
     for (row, output) in outputs.iter().enumerate() {
@@ -135,7 +135,7 @@ fn group_repeats(
     sources: &[SourceRow],
     groups: &[Vec<OutputRow>],
 ) -> Result<Vec<Vec<bool>>, AllocError>
-    ensures { IfOk result (λ all. map (λ v. v.items) all.items ≡ map (λ os. repeats_among 256 (map (output_words sources.now) os)) (map (λ v. v.items) groups.now)) }
+    ensures { IfOk result (λ all. map (λ v. v.items) all.items ≡ map (group_repeats sources.now) (map (λ v. v.items) groups.now)) }
 {
     let mut repeats = Vec::new(alloc);
     for outputs in groups {

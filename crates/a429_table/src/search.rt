@@ -3,8 +3,9 @@
 ghost use Rattle.std.specs.Prelude.{◌≡◌, map, option_map, IfOk};
 ghost use Rattle.std.specs.List.{find, flat_map};
 ghost use Rattle.a429_table.specs.Stops.{stop_view, table_of};
+ghost use Rattle.a429_table.specs.Version.{version_of};
 ghost use Rattle.a429_table.specs.Walk.{walk};
-ghost use Rattle.a429_table.specs.Faults.{first, faults};
+ghost use Rattle.a429_table.specs.Faults.{all_fit_columns, first, faults};
 ghost use Rattle.a429_table.specs.Repeats.{AreRepeatsIn, AreRowsOf, found, is_found};
 ghost use Rattle.a429_table.specs.Stated.{stated};
 
@@ -12,7 +13,7 @@ use crate::build::{WordRows, word_rows};
 use crate::fault::{FaultKind, TablePlace};
 use crate::names::{names_nothing, repeats_name};
 use crate::repeats::Repeats;
-use crate::shape::{has_unknown_key, has_wrong_kind, has_wrong_version, lacks_key};
+use crate::shape::{fits_columns, has_unknown_key, has_wrong_kind, has_wrong_version, lacks_key};
 use crate::table_index::TableIndex;
 use crate::values::{
     has_bad_hold, has_bad_interval, has_bad_label, has_bad_name, has_bad_sdi, has_too_many,
@@ -82,16 +83,43 @@ fn first_place(
     Some(stop.place)
 }
 
+/// Whether no table lacks a key, and each value is of its kind.
+fn all_fit_columns(index: &TableIndex<'_>, stops: &[Stop]) -> bool
+    ensures { result ≡ all_fit_columns (version_of (table_of index.now)) (map stop_view stops.now) }
+{
+    stops.iter().all(|stop| fits_columns(index.version, stop))
+}
+
+/// The first place of a kind. If all tables fit their columns, two kinds are not sought.
+fn place_of_kind(
+    index: &TableIndex<'_>,
+    repeats: &Repeats,
+    stops: &[Stop],
+    all_fit: bool,
+    kind: FaultKind,
+) -> Option<TablePlace>
+    requires fit { all_fit ≡ all_fit_columns (version_of (table_of index.now)) (map stop_view stops.now) }
+    ensures { result ≡ option_map (λ s. s.0) (find (is_found repeats.now (table_of index.now) kind) (map stop_view stops.now)) }
+{
+    match kind {
+        FaultKind::MissingKey if all_fit => None,
+        FaultKind::WrongKind if all_fit => None,
+        _ => first_place(index, repeats, stops, kind),
+    }
+}
+
 fn first_of_kinds(
     index: &TableIndex<'_>,
     repeats: &Repeats,
     stops: &[Stop],
+    all_fit: bool,
     kinds: &[FaultKind],
 ) -> Option<(FaultKind, TablePlace)>
+    requires fit { all_fit ≡ all_fit_columns (version_of (table_of index.now)) (map stop_view stops.now) }
     ensures { result ≡ first (flat_map (found (is_found repeats.now (table_of index.now)) (map stop_view stops.now)) kinds.now) }
 {
     for kind in kinds {
-        if let Some(place) = first_place(index, repeats, stops, *kind) {
+        if let Some(place) = place_of_kind(index, repeats, stops, all_fit, *kind) {
             return Some((*kind, place));
         }
     }
@@ -109,7 +137,8 @@ fn first_fault(
     ensures { IfOk result (λ fault. fault ≡ first (faults (table_of index.now))) }
 {
     let stops = walk(alloc, index.root)?;
-    Ok(first_of_kinds(index, repeats, &stops, &KINDS))
+    let all_fit = all_fit_columns(index, &stops);
+    Ok(first_of_kinds(index, repeats, &stops, all_fit, &KINDS))
 }
 
 /// The first fault of a table with these rows.

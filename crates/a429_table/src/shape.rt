@@ -6,7 +6,8 @@ ghost use Rattle.toml.specs.Data.{get};
 ghost use Rattle.toml.specs.View.{view, table_view};
 ghost use Rattle.a429_table.specs.Tree.{is_table, member_keys};
 ghost use Rattle.a429_table.specs.Columns.{column_view};
-ghost use Rattle.a429_table.specs.Faults.{is_text, has_shape, misfits, is_column_key, has_wrong_version, has_unknown_key, lacks_key, has_wrong_kind};
+ghost use Rattle.a429_table.specs.Stops.{stop_view};
+ghost use Rattle.a429_table.specs.Faults.{is_text, has_shape, misfits, fills, fits_columns, is_column_key, has_wrong_version, has_unknown_key, lacks_key, has_wrong_kind};
 
 use crate::columns::{Column, Shape, columns_of};
 use crate::fault::TablePlace;
@@ -88,6 +89,28 @@ fn misfits(value: &Value, c: &Column) -> bool
         Some(found) => !has_shape(c.shape, found),
         None => false,
     }
+}
+
+/// Whether the value at a column has its shape, or there is none and none is required.
+fn fills(value: &Value, column: &Column) -> bool
+    ensures { result ≡ fills (view value.now) (column_view column.now) }
+{
+    match value.get(column.key) {
+        Some(found) => has_shape(column.shape, found),
+        None => !column.required,
+    }
+}
+
+/// Whether the value is a table that lacks no key, and each value in it is of the kind of its column. This takes one walk
+/// over the columns.
+#[tactic(auto, unfolding(crate::specs::Faults::fits_columns))]
+pub fn fits_columns(version: TableVersion, stop: &Stop) -> bool
+    ensures { result ≡ fits_columns version (stop_view stop.now) }
+{
+    stop.value.is_table()
+        && columns_of(version, stop.place)
+            .iter()
+            .all(|column| fills(stop.value, column))
 }
 
 /// Whether the value is something other than a table, or a value in it is not of the kind of its column.

@@ -1,5 +1,5 @@
 -- Sheets: rows of cells under named columns.
-use Rattle.std.specs.Prelude.{ℕ, List, [], Option, None, Some, codes, map, option_and_then, slice_get}
+use Rattle.std.specs.Prelude.{ℕ, List, [], Option, None, Some, codes, option_and_then, slice_get}
 use Rattle.std.specs.List.{flat_map}
 use Rattle.csv.specs.Writing.{default_writer, row_text}
 use Rattle.a429_text.specs.declared.cells.Cell.{Cell}
@@ -10,7 +10,7 @@ use Rattle.a429_text.specs.declared.sheets.SheetForm.{SheetForm}
 use Rattle.a429_text.specs.declared.sheets.SheetForm.TheVariants.{Columns, Csv, Json}
 use Rattle.a429_text.specs.Fields.{Field, Text, Number, Tenths, Absent, texts_of, json_text}
 use Rattle.a429_text.specs.Aligned.{aligned_text}
-use Rattle.a429_text.specs.Texts.{octal}
+use Rattle.a429_text.specs.Texts.{formula, octal}
 
 -- what is written into a cell
 abbrev pub field_of : Cell → Field
@@ -18,6 +18,7 @@ field_of (given.Text words) = Text words.now
 field_of (given.Number number) = Number number
 field_of (given.Tenths number) = Tenths number
 field_of (given.Octal value) = Text (octal value)
+field_of (given.OctalFormula value) = Text (formula (octal value))
 field_of given.Absent = Absent
 
 -- what a row keeps of it

@@ -19,6 +19,10 @@ filled (w ∷ ws) (n ∷ ns) = w ++ (decimal n ++ filled ws ns)
 abbrev pub octal : ℕ → List ℕ
 octal value = (48 + value / 64) ∷ (48 + value / 8 % 8) ∷ (48 + value % 8) ∷ []
 
+-- a text as a formula of a spreadsheet, whose value is the text
+abbrev pub formula : List ℕ → List ℕ
+formula text = codes "=\"" ++ (text ++ codes "\"")
+
 -- a number of tenths in decimal, with one digit after the point
 abbrev pub tenths : ℕ → List ℕ
 tenths number = decimal (number / 10) ++ (codes "." ++ decimal (number % 10))

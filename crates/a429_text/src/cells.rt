@@ -1,6 +1,7 @@
 //! Cells of a sheet.
-ghost use Rattle.std.specs.Prelude.{◌≡◌, map, option_map, IfOk};
+ghost use Rattle.std.specs.Prelude.{◌≡◌, ◌++◌, map, option_map, IfOk};
 ghost use Rattle.a429_text.specs.Sheets.{field_of, kept_field, text_in};
+ghost use Rattle.a429_text.specs.Texts.{formula, octal};
 
 use crate::gathered::Gathered;
 use crate::text::Text;
@@ -16,8 +17,19 @@ pub enum Cell<'a> {
     Tenths(u64),
     /// Three octal digits, as labels are written: a text.
     Octal(u8),
+    /// The same as a formula of a spreadsheet, such as `="003"`. Its value is the text, so that a spreadsheet keeps zeros.
+    OctalFormula(u8),
     /// There is nothing to say in this column: `-`, as comma-separated values nothing, in JSON `null`.
     Absent,
+}
+
+/// Puts three octal digits as a formula of a spreadsheet.
+fn put_formula(text: &mut Text, value: u8)
+    ensures { text.new ≡ text.old ++ formula (octal value) }
+{
+    text.put("=\"");
+    text.put_octal(value);
+    text.put("\"");
 }
 
 /// A cell as a row keeps it.
@@ -44,6 +56,11 @@ impl KeptCell {
             Cell::Octal(value) => {
                 let mut text = Text::new(alloc);
                 text.put_octal(*value);
+                KeptCell::Text(text)
+            }
+            Cell::OctalFormula(value) => {
+                let mut text = Text::new(alloc);
+                put_formula(&mut text, *value);
                 KeptCell::Text(text)
             }
             Cell::Absent => KeptCell::Absent,

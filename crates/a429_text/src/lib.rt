@@ -2,7 +2,8 @@
 //!
 //! A `Text` is written at its end, and a `Gathered` list gets items at its end. No call that adds has an error: if an
 //! allocation fails for a part, the call that takes the whole returns the error. A `Sheet` has rows of `Cell`s;
-//! `Sheet::render` gives it in columns for people, as comma-separated values, or as JSON.
+//! `Sheet::render` gives it in columns for people, as comma-separated values, or as JSON. `renames` has texts FROM=TO, by
+//! which a name in another file is taken as one of your own.
 //!
 //! ```text
 //! rows.add(&[
@@ -34,6 +35,7 @@ mod fields;
 mod gathered;
 mod json;
 mod lost;
+pub mod renames;
 mod rows;
 mod said;
 mod sheets;

@@ -1,5 +1,5 @@
 -- A station of one receiver and one group: its ends, what its threads did, and the origin of the words that it sent.
-use Rattle.std.specs.Prelude.{◌≡◌, ℕ, List, [], Option, Some, Contains, IsTrue, slice_get}
+use Rattle.std.specs.Prelude.{◌≡◌, ℕ, List, [], Option, Some, Contains, IsTrue, length, slice_get}
 use Rattle.std.specs.List.{AllByRecursion}
 use Rattle.a429_equipment.specs.Arrivals.{accepts}
 use Rattle.a429_equipment.specs.TableRecord.{TableRecord}
@@ -10,6 +10,10 @@ use Rattle.a429_workers.specs.Calls.{Call}
 use Rattle.a429_workers.specs.Sends.{HasSent, with_cells}
 use Rattle.a429_workers.specs.Transmitting.{IsKnownPlan, Outset, StandsForCalls, Transmitting}
 use Rattle.a429_workers.specs.declared.cells.Sent.{Sent}
+
+-- one receiver and one group
+abbrev pub HasOneOfEach : TableRecord → Type 0
+HasOneOfEach t = (length t.receivers ≡ 1) × (length t.groups ≡ 1)
 
 -- ---- the origin of words
 

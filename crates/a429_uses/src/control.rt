@@ -2,8 +2,8 @@
 ghost use Rattle.std.specs.Prelude.{◌≡◌, true, IfOk, OnErr};
 ghost use Rattle.std.specs.List.{AllByRecursion};
 ghost use Rattle.a429_equipment.specs.SameStation.{same_station};
-ghost use Rattle.a429_station.specs.Resubmitting.{IsPlanned, Publishes};
-ghost use Rattle.a429_uses.specs.Publishing.{running};
+ghost use Rattle.a429_station.specs.Resubmitting.{IsPlanned};
+ghost use Rattle.a429_uses.specs.Publishing.{HasPublished};
 ghost use Rattle.a429_workers.specs.Transmitting.{IsKnownPlan};
 
 use crate::pacing::Marks;
@@ -45,7 +45,7 @@ pub fn publish<R: Wait>(
     requires plans { AllByRecursion (IsKnownPlan station.now) planner.old.list }
     ensures plans { AllByRecursion (IsKnownPlan station.now) planner.new.list }
     ensures board { planner.new.book ≡ planner.old.book }
-    ensures published { IfOk result (λ n. Publishes (running station.now planner.old) table.now n (running station.now planner.new)) }
+    ensures published { IfOk result (HasPublished station.now planner.old table.now planner.new) }
     ensures unchanged { OnErr result (planner.new ≡ planner.old) }
 {
     let plan = further_plan(alloc, station, table)?;
@@ -71,7 +71,7 @@ impl<'a> PublishControl<'a> {
         requires plans { AllByRecursion (IsKnownPlan station.now) planner.old.list }
         ensures plans { AllByRecursion (IsKnownPlan station.now) planner.new.list }
         ensures board { planner.new.book ≡ planner.old.book }
-        ensures published { IfOk result (λ n. Publishes (running station.now planner.old) self.now.table.now n (running station.now planner.new)) }
+        ensures published { IfOk result (HasPublished station.now planner.old self.now.table.now planner.new) }
         ensures unchanged { OnErr result (planner.new ≡ planner.old) }
     {
         let answer = publish(rt, alloc, planner, station, self.table);

@@ -23,8 +23,9 @@
 //! | `showing.rt` | what else this program prints | nothing |
 #![tactic(auto)]
 
-ghost use Rattle.std.specs.Prelude.{◌≡◌, ◌<◌, [], length};
+ghost use Rattle.std.specs.Prelude.{◌≡◌, [], IfOk};
 ghost use Rattle.a429_uses.specs.Histories.{items_of};
+ghost use Rattle.a429_uses.specs.Stations.{HasOneOfEach};
 
 mod bus;
 mod calls;
@@ -75,21 +76,59 @@ fn given_words<R: Env + AllocGlobal>(rt: &R) -> io::Result<Vec<String>> {
     Ok(words)
 }
 
+/// Reads two tables.
+fn read_tables<R: Files + AllocGlobal>(
+    rt: &R,
+    table: &str,
+    next: &str,
+    frames: u32,
+    words: u64,
+) -> anyhow::Result<Option<UseArguments>> {
+    let table = fs::read(rt, table)?;
+    let next = fs::read(rt, next)?;
+    Ok(Some(UseArguments {
+        table,
+        next,
+        frames,
+        words,
+    }))
+}
+
 /// Reads the arguments and the tables. `None` if there are not exactly these four arguments.
 fn read_arguments<R: Env + Files + AllocGlobal>(rt: &R) -> anyhow::Result<Option<UseArguments>> {
     let words = given_words(rt)?;
     let [_, table, next, frames, count] = words.as_slice() else {
         return Ok(None);
     };
-    let (Ok(frames), Ok(words)) = (frames.parse(), count.parse()) else {
-        return Ok(None);
-    };
-    Ok(Some(UseArguments {
-        table: fs::read(rt, table.as_str())?,
-        next: fs::read(rt, next.as_str())?,
-        frames,
-        words,
-    }))
+    match (frames.parse(), count.parse()) {
+        (Ok(frames), Ok(words)) => read_tables(rt, table.as_str(), next.as_str(), frames, words),
+        _ => Ok(None),
+    }
+}
+
+/// Reads the table, which has one receiver and one group.
+fn open_table<R: AllocGlobal>(rt: &R, request: &UseArguments) -> anyhow::Result<Equipment>
+    ensures { IfOk result HasOneOfEach }
+{
+    let equipment = read_equipment(rt.alloc(), &request.table)?;
+    let (receivers, groups) = (equipment.receivers().len(), equipment.groups().len());
+    ensure!(
+        receivers == 1 && groups == 1,
+        "the table has another number of receivers or groups than one"
+    );
+    Ok(equipment)
+}
+
+/// Prints what the calls without threads answer, and what a station did whose threads were started for it.
+fn show_more<R: Print + AllocGlobal + Threads + Wait>(
+    rt: &R,
+    request: &UseArguments,
+    equipment: &Equipment,
+) -> anyhow::Result<()>
+    requires { HasOneOfEach equipment.now }
+{
+    show_alone(rt, &request.table)?;
+    show_started(rt, equipment)
 }
 
 /// Runs the station of a table on two devices, and prints what its threads answered.
@@ -104,8 +143,7 @@ fn run_devices<
     line: &mut HexLine<I>,
     bus: &mut PrintBus<W>,
 ) -> anyhow::Result<()>
-    requires receiver { length equipment.now.receivers ≡ 1 }
-    requires group { 0 < length equipment.now.groups }
+    requires one { HasOneOfEach equipment.now }
     requires begin { items_of bus.old.taken ≡ [] }
 {
     let marks = Marks::none();
@@ -136,14 +174,8 @@ fn main(rt: HostRuntime) -> anyhow::Result<ExitCode> {
         rt.eprintln(USAGE)?;
         return Ok(ExitCode::from(2));
     };
-    let equipment = read_equipment(rt.alloc(), &request.table)?;
-    let (receivers, groups) = (equipment.receivers().len(), equipment.groups().len());
-    ensure!(
-        receivers == 1 && groups == 1,
-        "the table has another number of receivers or groups than one"
-    );
-    show_alone(&rt, &request.table)?;
-    show_started(&rt, &equipment)?;
+    let equipment = open_table(&rt, &request)?;
+    show_more(&rt, &request, &equipment)?;
     let mut line = HexLine::new(BufReader::new(rt.alloc(), rt.reader())?);
     let mut bus = PrintBus::new(rt.stdout());
     run_devices(&rt, &request, &equipment, &mut line, &mut bus)?;

@@ -1,5 +1,5 @@
 //! What the program prints in addition to the words that go out.
-ghost use Rattle.std.specs.Prelude.{◌≡◌, ◌<◌, length};
+ghost use Rattle.a429_uses.specs.Stations.{HasOneOfEach};
 
 use crate::calls::{plan_table, simulate, slot_of};
 use crate::listening::LineCount;
@@ -11,7 +11,7 @@ use a429_filter::{LineSource, MemoryLine};
 use a429_line::write_slot;
 use a429_slots::{OUTPUTS, Plan, Proposal};
 use a429_word::Label;
-use a429_workers::{MemorySink, SendTotals};
+use a429_workers::{MemorySink, ReceiveTotals, SendTotals};
 use anyhow::bail;
 use std::alloc::Global;
 use std::io;
@@ -47,6 +47,14 @@ fn show_answer<R: Print>(rt: &R, answer: Answer) -> io::Result<()> {
     }
 }
 
+/// Prints what the machine answered to events.
+fn show_each<R: Print>(rt: &R, answers: &[Answer]) -> io::Result<()> {
+    for answer in answers {
+        show_answer(rt, *answer)?;
+    }
+    Ok(())
+}
+
 /// Prints what the machine answers when a word comes in and a frame goes out.
 fn show_simulation<R: Print + AllocGlobal>(
     rt: &R,
@@ -61,10 +69,7 @@ fn show_simulation<R: Print + AllocGlobal>(
         Event::Frame { group: 0 },
     ]?;
     let answers = simulate(rt.alloc(), proposal, events)?;
-    for answer in &answers {
-        show_answer(rt, *answer)?;
-    }
-    Ok(())
+    Ok(show_each(rt, &answers)?)
 }
 
 /// Prints the buses and the slots of each group.
@@ -99,25 +104,35 @@ pub fn show_alone<R: Print + AllocGlobal>(rt: &R, table: &[u8]) -> anyhow::Resul
     show_simulation(rt, proposal)
 }
 
+/// Prints how many words receivers accepted.
+fn show_accepted<R: Print>(rt: &R, receivers: &[ReceiveTotals]) -> io::Result<()> {
+    for totals in receivers {
+        show_number(rt, "started accepted", totals.accepted)?;
+    }
+    Ok(())
+}
+
+/// Prints how many cells groups sent.
+fn show_cells<R: Print>(rt: &R, groups: &[SendTotals]) -> io::Result<()> {
+    for totals in groups {
+        show_number(rt, "started cells", totals.cells)?;
+    }
+    Ok(())
+}
+
 /// Prints what a station did whose threads were started for it: one word came in, and one frame went out.
 pub fn show_started<R: Print + AllocGlobal + Threads + Wait>(
     rt: &R,
     equipment: &Equipment,
 ) -> anyhow::Result<()>
-    requires receivers { length equipment.now.receivers ≡ 1 }
-    requires groups { length equipment.now.groups ≡ 1 }
+    requires { HasOneOfEach equipment.now }
 {
     let alloc = rt.alloc();
     let lines = vec![in alloc; line_of_one_word(alloc)?]?;
     let buses = vec![in alloc; MemorySink::new(alloc)]?;
     let report = run_all(rt, alloc, equipment, lines, buses, 1)?;
-    for totals in &report.receivers {
-        show_number(rt, "started accepted", totals.accepted)?;
-    }
-    for totals in &report.groups {
-        show_number(rt, "started cells", totals.cells)?;
-    }
-    Ok(())
+    show_accepted(rt, &report.receivers)?;
+    Ok(show_cells(rt, &report.groups)?)
 }
 
 /// Prints the number under which the further plan was published, or why it was not.
@@ -128,6 +143,18 @@ fn show_published<R: Print>(rt: &R, published: anyhow::Result<u64>) -> io::Resul
     }
 }
 
+/// Prints how many words of a line a receiver accepted and refused.
+fn show_heard<R: Print>(rt: &R, heard: LineCount) -> io::Result<()> {
+    let LineCount { accepted, refused } = heard;
+    println!(rt; "accepted {accepted} refused {refused}")
+}
+
+/// Prints what a group sent.
+fn show_sent<R: Print>(rt: &R, sent: SendTotals) -> io::Result<()> {
+    let SendTotals { cells, words, plan } = sent;
+    println!(rt; "cells {cells} words {words} plan {plan}")
+}
+
 /// Prints what the threads of a station answered. The error is that of a thread.
 pub fn show_answers<R: Print>(rt: &R, done: StationAnswers) -> anyhow::Result<()> {
     let StationAnswers {
@@ -136,9 +163,6 @@ pub fn show_answers<R: Print>(rt: &R, done: StationAnswers) -> anyhow::Result<()
         published,
     } = done;
     show_published(rt, published)?;
-    let LineCount { accepted, refused } = heard?;
-    println!(rt; "accepted {accepted} refused {refused}")?;
-    let SendTotals { cells, words, plan } = sent?;
-    println!(rt; "cells {cells} words {words} plan {plan}")?;
-    Ok(())
+    show_heard(rt, heard?)?;
+    Ok(show_sent(rt, sent?)?)
 }

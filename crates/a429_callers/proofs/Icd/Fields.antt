@@ -192,16 +192,16 @@ pub record IsReadable (receivers : List ReceiverRow) (g : GroupRow) (s : SourceR
   pub hold : IfSome o.hold (λ n. n < 2 ^ 32)
 
 module _ (receivers : List ReceiverRow) (g : GroupRow) (s : SourceRow) (o : OutputRow) (place : SlotPlace) (limits : SendLimits) (R : IsReadable receivers g s o) (held : limits.hold ≡ o.hold) where
-  numbers_back : numbers_of 44 icd_columns (texts (icd_row receivers g s o place limits)) ≡ Ok (read_row receivers g s o).numbers
+  numbers_back : numbers_of 44 icd_columns (texts (icd_row false receivers g s o place limits)) ≡ Ok (read_row receivers g s o).numbers
   unfolding column_field is_column_in_millis is_named
   numbers_back =
-      numbers_are icd_columns (texts (icd_row receivers g s o place limits)) (read_row receivers g s o).numbers (name_filled g.name R.group) refl refl (rate_back g.rate R.rate) (label_back s.label R.label) (sdi_back s.sdi R.sdi) (number_back o.min_us R.least)
+      numbers_are icd_columns (texts (icd_row false receivers g s o place limits)) (read_row receivers g s o).numbers (name_filled g.name R.group) refl refl (rate_back g.rate R.rate) (label_back s.label R.label) (sdi_back s.sdi R.sdi) (number_back o.min_us R.least)
       (number_back o.max_us R.most) (ap (λ (h : Option ℕ). hold_in (field_text [] (limit_field h))) held ∙ hold_back o.hold R.hold)
 
-  texts_back : texts_of icd_columns (texts (icd_row receivers g s o place limits)) ≡ Ok (read_row receivers g s o).texts
+  texts_back : texts_of icd_columns (texts (icd_row false receivers g s o place limits)) ≡ Ok (read_row receivers g s o).texts
   unfolding column_field is_named
   texts_back =
-      texts_are icd_columns (texts (icd_row receivers g s o place limits)) (read_row receivers g s o).texts (text_back g.name R.group) (text_back s.name R.source) (text_back (receiver_name receivers s.receiver) R.receiver) no_filters
+      texts_are icd_columns (texts (icd_row false receivers g s o place limits)) (read_row receivers g s o).texts (text_back g.name R.group) (text_back s.name R.source) (text_back (receiver_name receivers s.receiver) R.receiver) no_filters
 
-  pub row_back : (number : ℕ) → row_from icd_columns number (texts (icd_row receivers g s o place limits)) ≡ Ok (read_row receivers g s o)
+  pub row_back : (number : ℕ) → row_from icd_columns number (texts (icd_row false receivers g s o place limits)) ≡ Ok (read_row receivers g s o)
   row_back number = rw (numbers_back, texts_back) refl

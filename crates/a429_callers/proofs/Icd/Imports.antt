@@ -1,6 +1,7 @@
 -- What is imported_table from the text of an interface control document has the same plan.
-use Rattle.std.proofs.Common.{◌≡◌, ◌∙◌, ℕ, List, [], None, Vec, Global, Result, Ok, Err, ap, sym}
+use Rattle.std.proofs.Common.{◌≡◌, ◌∙◌, ℕ, Bool, false, List, [], ◌∷◌, Option, None, Some, Vec, Global, Result, Ok, Err, ap, ap₂, refl, sym}
 use Rattle.std.proofs.lemmas.Option.{none-some}
+use Rattle.csv.specs.Records.{fields_of}
 use Rattle.toml.specs.Data.{table}
 use Rattle.a429_equipment.specs.Sound.{IsSound}
 use Rattle.a429_equipment.specs.TableRecord.{TableRecord}
@@ -10,21 +11,52 @@ use Rattle.a429_slots.specs.Tables.{PlanTable}
 use Rattle.a429_table.specs.declared.fault.TableFault.TheVariants as fault
 use Rattle.a429_table.specs.Faults.{faults, first}
 use Rattle.a429_cert.specs.PlanText.{plan_text_of}
+use Rattle.a429_import.specs.declared.fault.CsvFaultKind.TheVariants.{Column}
+use Rattle.a429_import.specs.declared.fault.ImportColumn.{ImportColumn}
 use Rattle.a429_import.specs.declared.fault.ImportFault.{ImportFault}
-use Rattle.a429_import.specs.declared.fault.ImportFault.TheVariants.{Csv, NoMemory, Table}
+use Rattle.a429_import.specs.declared.fault.ImportFault.TheVariants.{Csv, NoMemory, Table, Wide}
 use Rattle.a429_import.specs.declared.lines.CsvLine.{CsvLine}
 use Rattle.a429_import.specs.declared.rows.ImportRow.{ImportRow}
 use Rattle.a429_callers.specs.ImportedIcd.{HasPlanTextOf, ImportedIcdIsSamePlan, ImportsPlan, IsWholeInIcd, icd_csv}
-use Rattle.a429_import.specs.Imports.{AreLines, IsImport, IsImportOf}
-use Rattle.a429_import.specs.ImportRows.{rows_stated}
+use Rattle.a429_import.specs.Imports.{AreNamedLines, IsImport, IsImportOf, is_wide_text}
+use Rattle.a429_import.specs.ImportMaps.{AreNamedBy, names_by}
+use Rattle.a429_import.specs.ImportRows.{CsvFault, rows_after, rows_stated, unless_wrong, wrong_column}
 use Rattle.a429_import.specs.ImportTables.{record_stated, root_members}
 use Rattle.a429_callers.proofs.Icd.Faults.{none_at_all}
 use Rattle.a429_callers.proofs.Icd.Groups.{new_number}
 use Rattle.a429_callers.proofs.Icd.Records.{is_renumbered, sent_part}
-use Rattle.a429_callers.proofs.Icd.Rows.{read_table, rows_stated_are}
+use Rattle.a429_callers.proofs.Icd.Rows.{no_row_is_wide, read_table, rows_stated_are}
 use Rattle.a429_import.proofs.ImportRanges.{same_ok}
 use Rattle.a429_callers.proofs.Icd.OwnWords.{IsReadTable, read_table_is}
 use Rattle.a429_callers.proofs.Icd.RenumberedPlans.{IsRenumbered, is_plan, renumbered_plan, one_text}
+
+-- ---- a heading without texts HEADING=COLUMN
+
+own_names : (names : List (List ℕ)) → names_by [] names ≡ names
+own_names [] = refl
+own_names (name ∷ names) = ap (λ (rest : List (List ℕ)). name ∷ rest) (own_names names)
+
+abbrev by_names : ℕ → List (List ℕ) → List CsvLine → Option ImportColumn → Result (List ImportRow) CsvFault
+by_names number names lines None = rows_after names [] lines
+by_names number names lines (Some column) = Err (number, Column, Some column)
+
+unless_wrong_is : (heading : CsvLine) (lines : List CsvLine) (wrong : Option ImportColumn) → unless_wrong heading lines wrong ≡ by_names heading.number (fields_of heading.fields) lines wrong
+unless_wrong_is heading lines None = refl
+unless_wrong_is heading lines (Some column) = refl
+
+rows_below : (heading : CsvLine) (lines : List CsvLine) → rows_stated (heading ∷ lines) ≡ by_names heading.number (fields_of heading.fields) lines (wrong_column (fields_of heading.fields))
+unfolding rows_stated
+rows_below heading lines = unless_wrong_is heading lines (wrong_column (fields_of heading.fields))
+
+unnamed : (is_below : Bool) (read lines : List CsvLine) → AreNamedBy [] is_below read lines → rows_stated lines ≡ rows_stated read
+unnamed is_below [] lines are = ap rows_stated are.1
+unnamed is_below (heading ∷ below) lines are =
+    let named : CsvLine = are.1.0 in
+    let by = are.1.1 in
+    let fields : fields_of named.fields ≡ fields_of heading.fields = by.fields ∙ own_names (fields_of heading.fields) in
+    ap rows_stated are.1.2 ∙ rows_below named below ∙ ap₂ (λ (number : ℕ) (names : List (List ℕ)). by_names number names below (wrong_column names)) by.number fields ∙ sym (rows_below heading below)
+
+-- ---- the document
 
 module _ (bytes : List ℕ) (a : Proposed) (A : IsWholeInIcd bytes a) (one_plan : PlansAreUnique) where
   abbrev rows : List ImportRow
@@ -51,10 +83,10 @@ module _ (bytes : List ℕ) (a : Proposed) (A : IsWholeInIcd bytes a) (one_plan 
   no_fault : faults (table (root_members rows)) ≡ []
   no_fault = none_at_all a.station sound A.no_filters station_read.words
 
-  lines_state : (lines : List CsvLine) → AreLines (icd_csv a) lines → rows_stated lines ≡ Ok rows
-  lines_state lines are = rows_stated_are a.station sound a.plan lines A.plan are
+  lines_state : (lines : List CsvLine) → AreNamedLines [] (icd_csv a) lines → rows_stated lines ≡ Ok rows
+  lines_state lines are = unnamed are.1 are.0 lines are.3 ∙ rows_stated_are a.station sound a.plan are.0 A.plan are.2
 
-  of_lines : (lines : List CsvLine) → AreLines (icd_csv a) lines → (result : Result (Vec ℕ Global) ImportFault) → IsImportOf lines result → ImportsPlan a result
+  of_lines : (lines : List CsvLine) → AreNamedLines [] (icd_csv a) lines → (result : Result (Vec ℕ Global) ImportFault) → IsImportOf lines result → ImportsPlan a result
   of_lines lines are (Ok text) imports =
       let same : imports.0 ≡ rows = same_ok imports.0 rows (sym imports.1 ∙ lines_state lines are) in
       record {
@@ -65,17 +97,22 @@ module _ (bytes : List ℕ) (a : Proposed) (A : IsWholeInIcd bytes a) (one_plan 
       }
   of_lines lines are (Err NoMemory) imports = tt
   of_lines lines are (Err (Csv line kind column)) imports = cc (sym imports ∙ lines_state lines are)
+  of_lines lines are (Err (Wide line)) imports = absurd imports
   of_lines lines are (Err (Table fault.NoMemory)) imports = absurd imports
   of_lines lines are (Err (Table (fault.At kind place))) imports =
       let same : imports.0 ≡ rows = same_ok imports.0 rows (sym imports.1 ∙ lines_state lines are) in
       let none : first (faults (table (root_members imports.0))) ≡ None = ap (λ (rows : List ImportRow). first (faults (table (root_members rows)))) same ∙ ap first no_fault in
       absurd (none-some (kind, place) (sym none ∙ imports.2))
 
-  of_text : (result : Result (Vec ℕ Global) ImportFault) → IsImport (icd_csv a) result → ImportsPlan a result
-  of_text (Ok text) imports = of_lines imports.0 imports.1 (Ok text) imports.2
+  narrow : is_wide_text [] (icd_csv a) ≡ false
+  narrow = no_row_is_wide a.station sound a.plan A.plan
+
+  of_text : (result : Result (Vec ℕ Global) ImportFault) → IsImport [] (icd_csv a) result → ImportsPlan a result
+  of_text (Ok text) imports = of_lines imports.1 imports.2 (Ok text) imports.3
   of_text (Err NoMemory) imports = tt
-  of_text (Err (Csv line kind column)) imports = of_lines imports.0 imports.1 (Err (Csv line kind column)) imports.2
-  of_text (Err (Table f)) imports = of_lines imports.0 imports.1 (Err (Table f)) imports.2
+  of_text (Err (Csv line kind column)) imports = of_lines imports.1 imports.2 (Err (Csv line kind column)) imports.3
+  of_text (Err (Wide line)) imports = cc (sym imports ∙ narrow)
+  of_text (Err (Table f)) imports = of_lines imports.1 imports.2 (Err (Table f)) imports.3
 
 pub same_plan : PlansAreUnique → ImportedIcdIsSamePlan
 same_plan one_plan bytes a result A imports = of_text bytes a A one_plan result imports

@@ -1,6 +1,6 @@
 -- The rows that the lines of an interface control document state.
-use Rattle.std.proofs.Common.{◌≡◌, ◌∙◌, ℕ, ◌<◌, ◌≤◌, ◌^◌, Bool, true, false, List, [], ◌∷◌, ◌++◌, length, map, get_or, drop, Option, None, Some, Ok, ap, sym, refl, arith, inl, inr, append_assoc, append-nil, eq-eqb}
-use Rattle.std.specs.Prelude.{◌==◌, ◌&&◌, IfSome, if◌then◌else◌, not, slice_get, slice_index_or}
+use Rattle.std.proofs.Common.{◌≡◌, ◌∙◌, ℕ, ◌<◌, ◌≤◌, ◌^◌, Bool, true, false, List, [], ◌∷◌, ◌++◌, length, map, get_or, drop, Option, None, Some, Result, Ok, Err, ap, sym, refl, arith, inl, inr, append_assoc, append-nil, eq-eqb, eqb-true}
+use Rattle.std.specs.Prelude.{◌==◌, ◌&&◌, IfSome, if◌then◌else◌, not, nat_lt, slice_get, slice_index_or}
 use Rattle.std.specs.List.{AllByRecursion, AllZip, zip}
 use Rattle.std.specs.Option.{option_map_or, option_or}
 use Rattle.std.specs.Str.{bytes_eq}
@@ -21,19 +21,20 @@ use Rattle.a429_slots.specs.Tables.{Placed, PlanTable, SlotTable, groups_of, out
 use Rattle.a429_cert.proofs.Again.{same_again}
 use Rattle.a429_cert.proofs.CheckedPlans.{same_bytes}
 use Rattle.a429_table.proofs.Absence.{all_from}
+use Rattle.a429_import.specs.declared.fault.CsvFaultKind.TheVariants.{Form}
 use Rattle.a429_import.specs.declared.fault.ImportColumn.{ImportColumn}
 use Rattle.a429_import.specs.declared.fault.ImportColumn.TheVariants.{Filters, Label, Rate, Receiver, Sdi}
 use Rattle.a429_import.specs.declared.lines.CsvLine.{CsvLine}
 use Rattle.a429_import.specs.declared.rows.ImportRow.{ImportRow}
 use Rattle.a429_documents.specs.Document.{groups_rows, icd_columns, icd_rows, output_row, output_rows, receiver_name}
-use Rattle.a429_import.specs.ImportRows.{agreed, clash, first_clash, is_named, next_row, other_clash, row_of, rows_after, rows_stated, source_clash, unless_wrong, with_row, wrong_column, is_wrong}
+use Rattle.a429_import.specs.ImportRows.{CsvFault, agreed, clash, first_clash, is_named, joined, next_row, numbers_of, other_clash, row_of, rows_after, rows_stated, source_clash, texts_of, unless_wrong, with_row, wrong_column, is_wrong}
 use Rattle.a429_import.specs.ImportTables.{has_group, is_known}
 use Rattle.a429_import.specs.declared.firsts.Part.TheVariants.{Sources}
-use Rattle.a429_import.specs.Imports.{AreLines, has_text}
+use Rattle.a429_import.specs.Imports.{AreLines, has_text, is_wide, is_wide_text}
 use Rattle.a429_text.specs.Fields.{Field}
 use Rattle.a429_text.specs.Sheets.{csv_text_of}
 use Rattle.a429_callers.proofs.Icd.Fields.{texts, IsReadable, name_filled, read_row, row_back, row_by, row_from}
-use Rattle.a429_callers.proofs.Icd.Texts.{AreRowsOf, HaveTexts, lines_back}
+use Rattle.a429_callers.proofs.Icd.Texts.{AreNarrow, AreRowsOf, HaveTexts, lines_back, no_wide_row}
 use Rattle.a429_import.proofs.RowsInRecord.{IsAt}
 
 -- ---- what is read
@@ -269,14 +270,14 @@ module _ (e : TableRecord) (sound : IsSound e) where
         hold = few_hold o.hold hold;
       }
 
-  output_read : (g : GroupRow) (o : OutputRow) (p : Placed) → IsServed g.rate o p → IsGroupRow g → o.source < length e.sources → IsInterval o → IsHold o → IsRowReadAs (output_row e g o p) (read_output e g o)
+  output_read : (g : GroupRow) (o : OutputRow) (p : Placed) → IsServed g.rate o p → IsGroupRow g → o.source < length e.sources → IsInterval o → IsHold o → IsRowReadAs (output_row false e g o p) (read_output e g o)
   unfolding output_row
   output_read g o p served group below interval hold =
       rw (source_there o.source below)
       (refl, rw (name_filled g.name group.0) refl, λ number. row_back e.receivers g (source_at e o.source) o p.place p.limits (is_readable g o group below interval hold) served.2 number)
 
   outputs_read : (g : GroupRow) (os : List OutputRow) (ps : List Placed) → AllZip (IsServed g.rate) os ps → IsGroupRow g → HaveSources e.sources os → AllByRecursion IsInterval os → AllByRecursion IsHold os
-      → AllZip IsRowReadAs (output_rows e g os ps) (map (read_output e g) os)
+      → AllZip IsRowReadAs (output_rows false e g os ps) (map (read_output e g) os)
   unfolding output_rows
   outputs_read g [] [] served group known intervals holds = tt
   outputs_read g [] (p ∷ ps) served group known intervals holds = absurd served
@@ -286,13 +287,13 @@ module _ (e : TableRecord) (sound : IsSound e) where
 
   groups_read : (groups : List GroupRow) (outputs : List (List OutputRow)) (ts : List SlotTable) → AllZip (IsPlannedAt e.sources) (zip (map (λ g. g.rate) groups) outputs) ts → AllByRecursion IsGroupRow groups
       → AllByRecursion (HaveSources e.sources) outputs → AllByRecursion (AllByRecursion IsInterval) outputs → AllByRecursion (AllByRecursion IsHold) outputs
-      → AllZip IsRowReadAs (groups_rows e groups outputs ts) (read_groups e groups outputs)
+      → AllZip IsRowReadAs (groups_rows false e groups outputs ts) (read_groups e groups outputs)
   unfolding groups_rows
   groups_read [] outputs ts planned rows known intervals holds = tt
   groups_read (g ∷ groups) [] ts planned rows known intervals holds = tt
   groups_read (g ∷ groups) (os ∷ outputs) [] planned rows known intervals holds = absurd planned
   groups_read (g ∷ groups) (os ∷ outputs) (t ∷ ts) planned rows known intervals holds =
-      zip_joined IsRowReadAs (output_rows e g os (outputs_of t)) (map (read_output e g) os) (groups_rows e groups outputs ts) (read_groups e groups outputs)
+      zip_joined IsRowReadAs (output_rows false e g os (outputs_of t)) (map (read_output e g) os) (groups_rows false e groups outputs ts) (read_groups e groups outputs)
       (outputs_read g os (outputs_of t) planned.0.served rows.0 known.0 intervals.0 holds.0) (groups_read groups outputs ts planned.1 rows.1 known.1 intervals.1 holds.1)
 
   -- ---- the lines
@@ -342,7 +343,28 @@ module _ (e : TableRecord) (sound : IsSound e) where
   have_texts (t ∷ texts) [] read = absurd read
   have_texts (t ∷ texts) (row ∷ rows) read = (ap has_text read.0.0 ∙ read.0.1, have_texts texts rows read.1)
 
-  pub rows_stated_are : (p : PlanTable) (lines : List CsvLine) → IsPlanOf e p → AreLines (csv_text_of (icd_columns ∷ map texts (icd_rows e p))) lines → rows_stated lines ≡ Ok (read_table e)
+  -- a row that is read has as many fields as the heading
+  narrow_by : (t : Bool) (fields : List (List ℕ)) (row : ImportRow) (read : Result ImportRow CsvFault) → (length fields == length icd_columns) ≡ t → (if t then read else Err (0, Form, None)) ≡ Ok row
+      → is_wide fields ≡ false
+  narrow_by true fields row read same h = ap (nat_lt 100000) (eqb-true (length fields) (length icd_columns) same)
+  narrow_by false fields row read same h = cc
+
+  are_narrow : (texts : List (List (List ℕ))) (rows : List ImportRow) → AllZip IsReadAs texts rows → AreNarrow texts
+  are_narrow [] rows read = tt
+  are_narrow (t ∷ texts) [] read = absurd read
+  are_narrow (t ∷ texts) (row ∷ rows) read =
+      let same : Bool = length t == length icd_columns in
+      let here = narrow_by same t row (joined 0 (numbers_of 44 icd_columns t) (texts_of icd_columns t)) refl (read.0.2 0) in
+      (ap is_wide read.0.0 ∙ here, are_narrow texts rows read.1)
+
+  all_read : (p : PlanTable) → IsPlanOf e p → AllZip IsReadAs (map texts (icd_rows false e p)) (read_table e)
+  all_read p planned =
+      zip_texts (icd_rows false e p) (read_table e) (groups_read e.groups e.outputs (groups_of p) planned.groups sound.group_rows sound.known_sources sound.intervals sound.holds)
+
+  pub no_row_is_wide : (p : PlanTable) → IsPlanOf e p → is_wide_text [] (csv_text_of (icd_columns ∷ map texts (icd_rows false e p))) ≡ false
+  no_row_is_wide p planned = no_wide_row (map texts (icd_rows false e p)) (refl, are_narrow (map texts (icd_rows false e p)) (read_table e) (all_read p planned))
+
+  pub rows_stated_are : (p : PlanTable) (lines : List CsvLine) → IsPlanOf e p → AreLines [] (csv_text_of (icd_columns ∷ map texts (icd_rows false e p))) lines → rows_stated lines ≡ Ok (read_table e)
   rows_stated_are p lines planned are =
-      let read = zip_texts (icd_rows e p) (read_table e) (groups_read e.groups e.outputs (groups_of p) planned.groups sound.group_rows sound.known_sources sound.intervals sound.holds) in
-      stated_from lines (map texts (icd_rows e p)) (lines_back (map texts (icd_rows e p)) lines (refl, have_texts (map texts (icd_rows e p)) (read_table e) read) are) read
+      let read = all_read p planned in
+      stated_from lines (map texts (icd_rows false e p)) (lines_back (map texts (icd_rows false e p)) lines (refl, have_texts (map texts (icd_rows false e p)) (read_table e) read) are) read

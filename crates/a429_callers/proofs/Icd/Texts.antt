@@ -1,11 +1,11 @@
 -- The text of an interface control document is read as its rows.
-use Rattle.std.proofs.Common.{◌≡◌, ◌∙◌, ℕ, Bool, true, false, List, [], ◌∷◌, ◌++◌, Option, None, Some, arith, drop, filter, get_or, length, map, take, ap, ap₂, sym, subst, refl}
+use Rattle.std.proofs.Common.{◌≡◌, ◌∙◌, ◌+◌, ℕ, zero, suc, Bool, true, false, List, [], ◌∷◌, ◌++◌, Option, None, Some, arith, drop, filter, get_or, length, map, take, ap, ap₂, sym, subst, refl}
 use Rattle.std.specs.Prelude.{◌||◌, codes, not, unwrap_or}
 use Rattle.std.specs.List.{AllByRecursion, find, flat_map, list_any}
 use Rattle.std.specs.Option.{option_map_or}
 use Rattle.std.proofs.lemmas.Option.{none-some, same_Some}
 use Rattle.csv.specs.Machine.{Read, next_record}
-use Rattle.csv.specs.Reading.{AreRecords, Reached, default_config, strip_bom}
+use Rattle.csv.specs.Reading.{AreRecords, Reached, default_config, records_from, records_next, strip_bom}
 use Rattle.csv.specs.Records.{fields_of}
 use Rattle.csv.specs.Writing.{default_writer, escaped, fields_text, is_blank, read_back, row_text}
 use Rattle.csv.specs.declared.parser.State.{State}
@@ -16,7 +16,7 @@ use Rattle.a429_text.specs.Sheets.{csv_text_of}
 use Rattle.a429_documents.specs.Document.{icd_columns}
 use Rattle.a429_import.specs.ImportForms.{ends_line, first_line, from_heading, from_line, heading_among, heading_of, is_heading, separator_in, separators, without_byte_order_mark}
 use Rattle.a429_import.specs.ImportRows.{is_named}
-use Rattle.a429_import.specs.Imports.{AreLines, has_text, separated}
+use Rattle.a429_import.specs.Imports.{AreLines, has_text, has_wide_row, is_wide, is_wide_text, separated}
 use Rattle.a429_import.proofs.FirstPlaces.{position_first}
 use Rattle.a429_import.proofs.ImportForms.{among_here}
 
@@ -75,18 +75,18 @@ first_names rest =
     ap (λ (o : Option ℕ). take (unwrap_or o (length (after_names rest))) (after_names rest))
     (position_first ends_line (after_names rest) 100 10 (none_before ends_line names refl) refl refl)
 
-commas : find (is_heading names) separators ≡ Some 44
+commas : find (is_heading [] names) separators ≡ Some 44
 unfolding is_named
 commas = refl
 
-heading_there : (rest : List ℕ) → heading_of (after_names rest) ≡ Some (44, after_names rest)
+heading_there : (rest : List ℕ) → heading_of [] (after_names rest) ≡ Some (44, after_names rest)
 heading_there rest =
-    ap (heading_among 11) (starts rest) ∙ among_here 11 (after_names rest) 44 (omega arith) (ap (λ (l : List ℕ). find (is_heading l) separators) (first_names rest) ∙ commas)
+    ap (heading_among [] 11) (starts rest) ∙ among_here [] 11 (after_names rest) 44 (omega arith) (ap (λ (l : List ℕ). find (is_heading [] l) separators) (first_names rest) ∙ commas)
 
-by_commas : (rest : List ℕ) → separator_in (after_names rest) ≡ 44
+by_commas : (rest : List ℕ) → separator_in [] (after_names rest) ≡ 44
 by_commas rest = ap (λ (o : Option (ℕ × List ℕ)). option_map_or (λ h. h.0) o 44) (heading_there rest)
 
-all_of_it : (rest : List ℕ) → from_heading (after_names rest) ≡ after_names rest
+all_of_it : (rest : List ℕ) → from_heading [] (after_names rest) ≡ after_names rest
 all_of_it rest = ap (λ (o : Option (ℕ × List ℕ)). option_map_or (λ h. h.1) o (after_names rest)) (heading_there rest)
 
 no_mark : (rest : List ℕ) → strip_bom (after_names rest) ≡ after_names rest
@@ -118,14 +118,21 @@ text rows = row_text default_writer icd_columns ++ text_of rows
 text_is : (rows : List (List (List ℕ))) → text rows ≡ after_names (text_of rows)
 text_is rows = ap (λ (t : List ℕ). t ++ text_of rows) heading_text
 
-pub lines_back : (rows : List (List (List ℕ))) (lines : List CsvLine) → HaveTexts (icd_columns ∷ rows) → AreLines (csv_text_of (icd_columns ∷ rows)) lines → AreRowsOf (icd_columns ∷ rows) lines
+commas_separate : (rows : List (List (List ℕ))) → separator_in [] (text rows) ≡ 44
+commas_separate rows = ap (separator_in []) (text_is rows) ∙ by_commas (text_of rows)
+
+from_the_first : (rows : List (List (List ℕ))) → strip_bom (from_heading [] (text rows)) ≡ text rows
+from_the_first rows =
+    let is = text_is rows in
+    ap (λ (t : List ℕ). strip_bom (from_heading [] t)) is ∙ ap strip_bom (all_of_it (text_of rows)) ∙ no_mark (text_of rows) ∙ sym is
+
+pub lines_back : (rows : List (List (List ℕ))) (lines : List CsvLine) → HaveTexts (icd_columns ∷ rows) → AreLines [] (csv_text_of (icd_columns ∷ rows)) lines → AreRowsOf (icd_columns ∷ rows) lines
 unfolding csv_text_of
 lines_back rows lines texts h =
-    let is = text_is rows in
     let fields : List (List (List ℕ)) = map (λ (l : CsvLine). fields_of l.fields) h.all in
-    let separator : separator_in (text rows) ≡ 44 = ap separator_in is ∙ by_commas (text_of rows) in
-    let from : strip_bom (from_heading (text rows)) ≡ text rows = ap (λ (t : List ℕ). strip_bom (from_heading t)) is ∙ ap strip_bom (all_of_it (text_of rows)) ∙ no_mark (text_of rows) ∙ sym is in
-    let one = subst (λ (s : ℕ). AreRecords (separated s) st.StartRecord (strip_bom (from_heading (text rows))) fields) separator h.records in
+    let separator = commas_separate rows in
+    let from = from_the_first rows in
+    let one = subst (λ (s : ℕ). AreRecords (separated s) st.StartRecord (strip_bom (from_heading [] (text rows))) fields) separator h.records in
     let two = subst (λ (xs : List ℕ). AreRecords default_config st.StartRecord xs fields) from one in
     let same : fields ≡ map read_back (icd_columns ∷ rows) = records_back (icd_columns ∷ rows) fields two in
     let lines_are : lines ≡ h.all = h.filled ∙ all_kept (icd_columns ∷ rows) h.all texts same in
@@ -133,3 +140,22 @@ lines_back rows lines texts h =
       fields = ap (map (λ (l : CsvLine). fields_of l.fields)) lines_are ∙ same;
       separators = subst (λ (ls : List CsvLine). AllByRecursion (λ l. l.separator ≡ 44) ls) (sym lines_are) (subst (λ (s : ℕ). AllByRecursion (λ l. l.separator ≡ s) h.all) separator h.separators);
     }
+
+-- ---- no row has too many fields
+
+-- each row has few fields
+abbrev pub AreNarrow : List (List (List ℕ)) → Type 0
+AreNarrow rows = AllByRecursion (λ row. is_wide (read_back row) ≡ false) rows
+
+none_wide : (n : ℕ) (rows : List (List (List ℕ))) → AreNarrow rows → list_any is_wide (records_from default_config n st.StartRecord (text_of rows)) ≡ false
+unfolding records_from
+none_wide zero rows narrow = refl
+none_wide (suc n) [] narrow = ap (λ (o : Option Read). list_any is_wide (records_next (records_from default_config n) o)) no_record
+none_wide (suc n) (row ∷ rows) narrow =
+    ap (λ (o : Option Read). list_any is_wide (records_next (records_from default_config n) o)) (first_record row rows)
+    ∙ ap₂ (λ (a b : Bool). a || b) narrow.0 (none_wide n rows narrow.1)
+
+pub no_wide_row : (rows : List (List (List ℕ))) → AreNarrow (icd_columns ∷ rows) → is_wide_text [] (csv_text_of (icd_columns ∷ rows)) ≡ false
+unfolding csv_text_of has_wide_row
+no_wide_row rows narrow =
+    ap₂ (λ (s : ℕ) (xs : List ℕ). has_wide_row s xs) (commas_separate rows) (from_the_first rows) ∙ none_wide (length (text rows) + 1) (icd_columns ∷ rows) narrow

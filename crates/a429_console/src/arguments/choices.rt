@@ -1,15 +1,18 @@
 //! Choices by the arguments, by rules that `clap` does not state.
-ghost use Rattle.std.specs.Prelude.{◌≡◌, None, Some, codes, false, true, is_some, IfErr, IfOk};
+ghost use Rattle.std.specs.Prelude.{◌≡◌, None, Some, codes, false, true, is_some, map, IfErr, IfOk};
+ghost use Rattle.std.specs.List.{list_all};
 ghost use Rattle.a429_console.specs.Requests.{is_one_alone};
+ghost use Rattle.a429_text.specs.Renames.{is_rename};
 ghost use Rattle.clap.specs.Words.{first_of, found_of, one_of, rows_of};
-ghost use Rattle.a429_console.specs.RequestRows.{choices_given, form_given, form_of, is_set, is_value_given, lacks_rows, lacks_value, width_given};
+ghost use Rattle.a429_console.specs.RequestRows.{are_refused, are_renames, choices_given, form_given, form_of, has_wrong_renames, is_set, is_value_given, lacks_csv, lacks_option, has_wrong_rename, lacks_rows, lacks_value, width_given};
 
 use crate::arguments::options::{
-    BCD, BITS, BNR, CODE, CSV, DATA, JSON, ROWS, SLACK, SUMMARY, WIDTH,
+    BCD, BITS, BNR, CHANNEL, CODE, CSV, DATA, JSON, MAP, ROWS, SLACK, SUMMARY, TEXT, WIDTH,
 };
 use crate::arguments::times::{LogOrigin, origin_given, unit_given};
 use a429_logs::TimeUnit;
 use a429_text::SheetForm;
+use a429_text::renames::{has_one_from_twice, is_rename};
 use clap::ArgMatches;
 
 /// The command whose lines are written one by one, so that only its summary has a form as JSON.
@@ -142,6 +145,81 @@ fn slack_given(found: &ArgMatches<'_>) -> Result<(), &'static str>
     Ok(())
 }
 
+/// Whether labels as texts are asked for only in comma-separated values. The error says what is wrong.
+fn text_given(found: &ArgMatches<'_>) -> Result<(), &'static str>
+    ensures given { IfOk result (λ _. lacks_csv (rows_of (found_of found.now)) ≡ false) }
+    ensures none { IfErr result (λ _. lacks_csv (rows_of (found_of found.now)) ≡ true) }
+{
+    if is_given(found, TEXT.id) && !is_given(found, CSV.id) {
+        return Err("'--text' needs '--csv'");
+    }
+    Ok(())
+}
+
+/// Whether all these texts have the form FROM=TO.
+fn have_form(texts: &[&str]) -> bool
+    ensures { result ≡ list_all is_rename (map (λ text. text.now) texts.now) }
+{
+    for text in texts {
+        if !is_rename(*text) {
+            return false;
+        }
+    }
+    true
+}
+
+/// Whether texts give names other names: each has the form FROM=TO, and no two the same FROM. The error is
+/// `form` or `twice`.
+fn renames_in(texts: &[&str], form: &'static str, twice: &'static str) -> Result<(), &'static str>
+    ensures given { IfOk result (λ _. are_renames (map (λ text. text.now) texts.now) ≡ true) }
+    ensures none { IfErr result (λ _. are_renames (map (λ text. text.now) texts.now) ≡ false) }
+{
+    if !have_form(texts) {
+        return Err(form);
+    }
+    if has_one_from_twice(texts) {
+        return Err(twice);
+    }
+    Ok(())
+}
+
+/// The same of the texts of an option, if it is given.
+fn renames_of(
+    found: &ArgMatches<'_>,
+    id: &str,
+    form: &'static str,
+    twice: &'static str,
+) -> Result<(), &'static str>
+    ensures given { IfOk result (λ _. has_wrong_renames id.now (rows_of (found_of found.now)) ≡ false) }
+    ensures none { IfErr result (λ _. has_wrong_renames id.now (rows_of (found_of found.now)) ≡ true) }
+{
+    match found.get_strs(id) {
+        Some(texts) => renames_in(texts, form, twice),
+        None => Ok(()),
+    }
+}
+
+/// Whether the texts of `--channel` give channels names. The error says what is wrong.
+fn channels_given(found: &ArgMatches<'_>) -> Result<(), &'static str>
+    ensures given { IfOk result (λ _. has_wrong_renames (codes "channel") (rows_of (found_of found.now)) ≡ false) }
+    ensures none { IfErr result (λ _. has_wrong_renames (codes "channel") (rows_of (found_of found.now)) ≡ true) }
+{
+    let form = "'--channel <FROM=TO>' takes a channel, '=' and a name, such as 3=adc-1";
+    let twice = "'--channel <FROM=TO>' is given twice for one channel";
+    renames_of(found, CHANNEL.id, form, twice)
+}
+
+/// The same of `--map`.
+fn maps_given(found: &ArgMatches<'_>) -> Result<(), &'static str>
+    ensures given { IfOk result (λ _. has_wrong_renames (codes "map") (rows_of (found_of found.now)) ≡ false) }
+    ensures none { IfErr result (λ _. has_wrong_renames (codes "map") (rows_of (found_of found.now)) ≡ true) }
+{
+    let form =
+        "'--map <HEADING=COLUMN>' takes a heading, '=' and a column, such as Equipment=receiver";
+    let twice = "'--map <HEADING=COLUMN>' is given twice for one heading";
+    renames_of(found, MAP.id, form, twice)
+}
+
 /// The same, if the command of this name makes a word.
 fn value_if_made(name: &str, found: &ArgMatches<'_>) -> Result<(), &'static str>
     ensures given { IfOk result (λ _. lacks_value name.now (rows_of (found_of found.now)) ≡ false) }
@@ -154,14 +232,41 @@ fn value_if_made(name: &str, found: &ArgMatches<'_>) -> Result<(), &'static str>
     }
 }
 
+/// Whether `--slack` and `--text` have the options that they need. The error says what is wrong.
+fn needed_given(found: &ArgMatches<'_>) -> Result<(), &'static str>
+    ensures given { IfOk result (λ _. lacks_option (rows_of (found_of found.now)) ≡ false) }
+    ensures none { IfErr result (λ _. lacks_option (rows_of (found_of found.now)) ≡ true) }
+{
+    slack_given(found)?;
+    text_given(found)
+}
+
+/// Whether the texts FROM=TO of all options give names other names. The error says what is wrong.
+fn renames_given(found: &ArgMatches<'_>) -> Result<(), &'static str>
+    ensures given { IfOk result (λ _. has_wrong_rename (rows_of (found_of found.now)) ≡ false) }
+    ensures none { IfErr result (λ _. has_wrong_rename (rows_of (found_of found.now)) ≡ true) }
+{
+    channels_given(found)?;
+    maps_given(found)
+}
+
+/// Whether all that is given goes together, and each text FROM=TO has its form. The error says what is wrong.
+fn all_given(name: &str, found: &ArgMatches<'_>) -> Result<(), &'static str>
+    ensures given { IfOk result (λ _. are_refused name.now (rows_of (found_of found.now)) ≡ false) }
+    ensures none { IfErr result (λ _. are_refused name.now (rows_of (found_of found.now)) ≡ true) }
+{
+    value_if_made(name, found)?;
+    needed_given(found)?;
+    renames_given(found)
+}
+
 /// What is chosen of the command of this name. The error says what is wrong.
 #[tactic(auto, unfolding(crate::specs::RequestRows::choices_given))]
 pub fn choices_in(name: &str, found: &ArgMatches<'_>) -> Result<Choices, &'static str>
     ensures chosen { IfOk result (λ choices. choices_given name.now (rows_of (found_of found.now)) ≡ Some choices) }
     ensures none { IfErr result (λ _. choices_given name.now (rows_of (found_of found.now)) ≡ None) }
 {
-    value_if_made(name, found)?;
-    slack_given(found)?;
+    all_given(name, found)?;
     let Some(width) = width_given(found) else {
         return Err("'--width <N>' must be 64, 128 or 256");
     };

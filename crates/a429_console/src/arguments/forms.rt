@@ -6,8 +6,9 @@ ghost use Rattle.a429_console.specs.CommandLine.{IsRow, form_row, row_of, verbs}
 
 use crate::arguments::help;
 use crate::arguments::options::{
-    ALL, ALL_CELLS, BCD, BITS, BNR, CODE, CSV, DATA, EVENTS, FROM, GROUP, HTML, IN, JSON, LIMIT,
-    RATE, ROWS, SDI, SLACK, SLOTS, SSM, SUMMARY, SUMMARY_JSON, TIME, TOLERANCE, UNTIL, WIDTH,
+    ALL, ALL_CELLS, BCD, BITS, BNR, CHANNEL, CODE, CSV, DATA, EVENTS, FROM, GROUP, HTML, IN, JSON,
+    LIMIT, MAP, RATE, ROWS, SDI, SLACK, SLOTS, SSM, SUMMARY, SUMMARY_JSON, TEXT, TIME, TOLERANCE,
+    UNTIL, WIDTH,
 };
 use a429_equipment::FRAMES;
 
@@ -145,6 +146,7 @@ static COMMANDS: [CommandForm; 18] = [
         verb: Verb::Import,
         name: "import",
         first: name!("FILE", help::ROWS),
+        options: &[MAP],
         ..OF_TABLE
     },
     CommandForm {
@@ -161,7 +163,7 @@ static COMMANDS: [CommandForm; 18] = [
     CommandForm {
         verb: Verb::Icd,
         name: "icd",
-        options: &[CSV, JSON],
+        options: &[CSV, TEXT, JSON],
         ..OF_TABLE
     },
     CommandForm {
@@ -213,7 +215,7 @@ static COMMANDS: [CommandForm; 18] = [
         name: "simulate",
         second: Some(name!("LOG", help::LOG)),
         more: Some(name!("LOGS", help::LOGS)),
-        options: &[TIME, FROM, UNTIL, SUMMARY, CSV, SUMMARY_JSON],
+        options: &[TIME, FROM, CHANNEL, UNTIL, SUMMARY, CSV, SUMMARY_JSON],
         ..OF_TABLE
     },
     CommandForm {
@@ -221,7 +223,7 @@ static COMMANDS: [CommandForm; 18] = [
         name: "survey",
         first: name!("LOG", help::LOG),
         more: Some(name!("LOGS", help::LOGS)),
-        options: &[TIME, FROM, RATE, ROWS, SLACK, CSV, JSON],
+        options: &[TIME, FROM, CHANNEL, RATE, ROWS, SLACK, CSV, JSON],
         ..OF_TABLE
     },
     CommandForm {
@@ -230,7 +232,7 @@ static COMMANDS: [CommandForm; 18] = [
         second: Some(name!("IN", help::HEARD_LOG)),
         third: Some(name!("OUT", help::SENT_LOG)),
         more: Some(name!("OUTS", help::SENT_LOGS)),
-        options: &[IN, TOLERANCE, EVENTS, TIME, FROM, CSV, JSON],
+        options: &[IN, TOLERANCE, EVENTS, TIME, FROM, CHANNEL, CSV, JSON],
         ..OF_TABLE
     },
     CommandForm {

@@ -98,17 +98,27 @@ pub const IMPORT: &str = "Print an equipment table, made from a spreadsheet's ro
 
 pub const ROWS: &str = "Comma-separated values, with a row for each output";
 
+pub const MAP: &str = "\
+Take a heading as this column, such as
+--map Equipment=receiver; may be given again";
+
 pub const IMPORT_END: &str = "\
-The first row names the columns, in any order. Other columns are ignored.
-  group, rate        the group that sends the output, and its bit rate (bit/s)
+The heading names the columns, in any order and any case, with spaces or
+underlines. Commas, semicolons or tabs separate fields. Other columns are
+ignored, and so are up to ten lines above the heading.
+  group, rate        the group that sends the output, and its bit rate: in
+                     bit/s, or HS (100000) or LS (12500)
   source, receiver   the source that the output sends, and its receiver
   label, sdi         the label in octal, and the SDI, 0 to 3 or `any`
   min_us, max_us     minimum and maximum transmit interval in microseconds
+  min_ms, max_ms     or in milliseconds, with at most three decimals
   hold               optional: a number, or empty
   filters            optional: filters of the receiver, separated by spaces
+A row without a group states its source and receiver alone.
 
-Example:
-  a429 import examples/displays/labels.csv > table.toml";
+Examples:
+  a429 import examples/displays/labels.csv > table.toml
+  a429 import rows.csv --map \"Min (ms)=min_ms\" > table.toml";
 
 pub const PLAN: &str = "Plan a station on the fewest buses, with the bound that shows it";
 
@@ -127,6 +137,8 @@ Example:
 pub const ICD: &str = "Print the data of each output for an interface control document";
 
 pub const CSV: &str = "As comma-separated values, for spreadsheets";
+
+pub const TEXT_LABELS: &str = "With --csv: labels whose zeros a spreadsheet keeps";
 
 pub const JSON: &str = "As JSON, an array with an object for each row";
 
@@ -240,9 +252,15 @@ pub const FROM: &str = "\
 Count times from the first word (first), or from this
 time in us [default: 0]";
 
-pub const UNTIL: &str = "Simulate until US [default: one frame after the last word]";
+pub const CHANNEL: &str = "\
+Take channel or name FROM in a log as the name TO, as
+in --channel 3=adc-1; may be given again";
 
-pub const SUMMARY: &str = "One row for each output instead of a line for each word";
+pub const UNTIL: &str = "\
+Simulate until US
+[default: one frame after the last word]";
+
+pub const SUMMARY: &str = "A row for each output instead of a line for each word";
 
 pub const SUMMARY_JSON: &str = "The summary as JSON";
 
@@ -289,13 +307,15 @@ pub const HEARD_LOGS: &str = "A further log of what came in; may be given again"
 
 pub const TOLERANCE: &str = "\
 How far recorded times may be wrong, 0 to 30000000 us
-[default: two slots of the group]";
+[default: two slots of the group, or half its
+shortest period if that is less]";
 
 pub const EVENTS: &str = "A row for each finding instead of each output";
 
 pub const JUDGE_END: &str = "\
-Both logs are on one clock. There is a row for each output, and a row for each
-group that counts its foreign words. The status is 1 if something is found:
+Both logs are on one clock: with `--from first` its times are counted from the
+first word of IN. There is a row for each output, and a row for each group that
+counts its foreign words. The status is 1 if something is found:
   wrong    the word that was sent did not come in before
   stale    a later word came in before
   soon     it was sent before the minimum interval was over

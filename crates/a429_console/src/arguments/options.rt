@@ -51,6 +51,17 @@ macro_rules! text {
     };
 }
 
+/// The form of an option with such a text each time that it is given.
+macro_rules! texts {
+    ($id:literal, $value:literal, $help:expr) => {
+        OptionForm {
+            id: $id,
+            kind: OptionKind::Texts { value: $value },
+            help: $help,
+        }
+    };
+}
+
 /// `--csv`
 pub const CSV: OptionForm = flag!("csv", help::CSV);
 
@@ -62,6 +73,12 @@ pub const SUMMARY_JSON: OptionForm = OptionForm {
     help: help::SUMMARY_JSON,
     ..JSON
 };
+
+/// `--text`
+pub const TEXT: OptionForm = flag!("text", help::TEXT_LABELS);
+
+/// `--map`
+pub const MAP: OptionForm = texts!("map", "HEADING=COLUMN", help::MAP);
 
 /// `--all`
 pub const ALL: OptionForm = flag!("all", help::ALL);
@@ -91,6 +108,9 @@ pub const TIME: OptionForm = text!("time", "UNIT", help::TIME);
 
 /// `--from`
 pub const FROM: OptionForm = text!("from", "TIME", help::FROM);
+
+/// `--channel`
+pub const CHANNEL: OptionForm = texts!("channel", "FROM=TO", help::CHANNEL);
 
 /// `--until`
 pub const UNTIL: OptionForm = OptionForm {
@@ -152,11 +172,7 @@ pub const SLACK: OptionForm = OptionForm {
 };
 
 /// `--in`
-pub const IN: OptionForm = OptionForm {
-    id: "in",
-    kind: OptionKind::Texts { value: "LOG" },
-    help: help::HEARD_LOGS,
-};
+pub const IN: OptionForm = texts!("in", "LOG", help::HEARD_LOGS);
 
 /// `--tolerance`
 pub const TOLERANCE: OptionForm = OptionForm {

@@ -1,18 +1,18 @@
 //! What the arguments ask for.
-ghost use Rattle.std.specs.Prelude.{◌≡◌, ◌<◌, ◌^◌, [], ℕ, List, Option, IfOk, MatchOption, Some, not, option_map, true};
-ghost use Rattle.clap.specs.Words.{HasKind, Text, first_of, found_of, one_of, rows_of, subcommand_rows_of};
-ghost use Rattle.a429_console.specs.CommandLine.{IsRow};
+ghost use Rattle.std.specs.Prelude.{◌≡◌, ◌<◌, ◌^◌, ℕ, List, codes, Option, IfOk, Some, not, true};
+ghost use Rattle.clap.specs.Words.{HasKind, Text, found_of, one_of, rows_of, subcommand_rows_of};
+ghost use Rattle.a429_console.specs.CommandLine.{IsRow, name_id, number_id};
 ghost use Rattle.a429_console.specs.Files.{texts_of};
-ghost use Rattle.a429_console.specs.Requests.{AskedBytes, FieldBytes, IsRead, OptionBytes, asked_of, fields_of, given_of};
-ghost use Rattle.a429_console.specs.RequestRows.{AreFields, AreOptions, AsksFor, IsAskedBy, IsChosen, IsFound, number_of, values_of};
+ghost use Rattle.a429_console.specs.Requests.{AskedBytes, FieldBytes, IsRead, asked_of, fields_of, given_of};
+ghost use Rattle.a429_console.specs.RequestRows.{AreFields, AreGivenTexts, AsksFor, IsAskedBy, IsChosen, IsFound, IsGivenNumber, IsGivenText, ReadsOptions, number_of, values_of};
 ghost use Rattle.a429_console.specs.Usage.{ComesTo, elsewhere, found_kinds, is_live, is_run, kinds_of_words, live_kinds_of_words};
 
 use crate::arguments::choices::{Choices, choices_in, is_given};
 use crate::arguments::command_line::{build_command, words_error};
 use crate::arguments::forms::{CommandForm, NameForm, NumberForm, Verb, command_named};
 use crate::arguments::options::{
-    ALL, BCD, BITS, BNR, CODE, DATA, EVENTS, GROUP, HTML, IN, LIMIT, RATE, ROWS, SDI, SLACK, SLOTS,
-    SSM, SUMMARY, TOLERANCE, UNTIL,
+    ALL, BCD, BITS, BNR, CHANNEL, CODE, DATA, EVENTS, GROUP, HTML, IN, LIMIT, MAP, RATE, ROWS, SDI,
+    SLACK, SLOTS, SSM, SUMMARY, TEXT, TOLERANCE, UNTIL,
 };
 use crate::arguments::times::LogOrigin;
 use a429_logs::TimeUnit;
@@ -71,10 +71,12 @@ pub struct Options<'a> {
     pub rows: bool,
     /// By how much their intervals are wider than those of the recording, 0 to 99 per cent (`--slack`).
     pub slack: Option<u32>,
-    /// How far recorded times may be wrong, in microseconds (`--tolerance`). `None`: two slots of the group.
+    /// How far recorded times may be wrong, in microseconds (`--tolerance`). `None`: the default of each group.
     pub tolerance: Option<u32>,
     /// Each finding has a row, instead of each output (`--events`).
     pub events: bool,
+    /// Labels are written so that a spreadsheet keeps their zeros (`--text`).
+    pub text: bool,
     pub fields: FieldOptions<'a>,
 }
 
@@ -93,6 +95,10 @@ pub struct Asked<'a> {
     pub more: Vec<&'a str>,
     /// Further logs of what came in (`--in`).
     pub inputs: Vec<&'a str>,
+    /// The names that channels or names in a log are given, each as FROM=TO (`--channel`).
+    pub channels: Vec<&'a str>,
+    /// The columns that headings of a file are given, each as FROM=TO (`--map`).
+    pub maps: Vec<&'a str>,
     pub options: Options<'a>,
 }
 
@@ -119,8 +125,8 @@ pub fn other_call_error(alloc: Global, message: &str) -> Error
     words_error(alloc, ErrorKind::InvalidSubcommand, message)
 }
 
-/// What the arguments ask for, by what was found of them. Error: `--width`, `--time` or `--from` has a value that
-/// it does not take, or options do not go together.
+/// What the arguments ask for, by what was found of them. Error: `--width`, `--time`, `--from`, `--channel` or `--map`
+/// has a value that it does not take, or options do not go together.
 fn read_matches<'a>(alloc: Global, matches: &ArgMatches<'a>) -> Result<Asked<'a>, Error>
     ensures asked { (r : AskedBytes) → IsFound (subcommand_rows_of matches.now) r → IsRead r result }
     ensures kinds { ComesTo (found_kinds (subcommand_rows_of matches.now) (is_live (subcommand_rows_of matches.now))) is_run result }
@@ -152,22 +158,25 @@ fn read_asked<'a>(
     ensures asked { IfOk result (λ q. (r : AskedBytes) → r.verb ≡ form.now.verb → IsChosen choices r.options
         → IsAskedBy (rows_of (found_of found.now)) r → asked_of q ≡ r) }
 {
+    let (more, inputs) = files_in(alloc, found, form.more)?;
+    let (channels, maps) = renames_in(alloc, found)?;
     Ok(Asked {
         verb: form.verb,
         first: name_in(found, Some(form.first)),
         second: name_in(found, form.second),
         third: name_in(found, form.third),
         number: number_in(found, form.number),
-        more: names_in(alloc, found, form.more)?,
-        inputs: texts_in(alloc, found, IN.id)?,
+        more,
+        inputs,
+        channels,
+        maps,
         options: options_in(found, choices),
     })
 }
 
 /// The name that is given, if the command takes it. By the rules of the command line it is there then.
 fn name_in<'a>(found: &ArgMatches<'a>, form: Option<NameForm>) -> &'a str
-    ensures { (text : Text) → MatchOption (option_map (λ n. n.id.now) form) (text ≡ []) (λ id. first_of id (rows_of (found_of found.now)) ≡ Some text)
-        → result.now ≡ text }
+    ensures { (text : Text) → IsGivenText (rows_of (found_of found.now)) (name_id form) text → result.now ≡ text }
 {
     match form {
         Some(form) => found.get_str(form.id).unwrap_or(""),
@@ -177,8 +186,7 @@ fn name_in<'a>(found: &ArgMatches<'a>, form: Option<NameForm>) -> &'a str
 
 /// The number that is given, if the command is given one.
 fn number_in(found: &ArgMatches<'_>, form: Option<NumberForm>) -> u32
-    ensures { (n : ℕ) → MatchOption {T = Text × ℕ} (option_map (λ n. (n.id.now, n.most)) form) (n ≡ 0)
-        (λ number. number_of 0 number.1 (one_of number.0 (rows_of (found_of found.now))) ≡ Some (Some n)) → result ≡ n }
+    ensures { (n : ℕ) → IsGivenNumber (rows_of (found_of found.now)) (number_id form) n → result ≡ n }
 {
     match form {
         Some(form) => asked_number(found, form.id).unwrap_or(0),
@@ -203,8 +211,7 @@ fn names_in<'a>(
     form: Option<NameForm>,
 ) -> Result<Vec<&'a str>, AllocError>
     ensures { IfOk result (λ names. (texts : List Text)
-        → MatchOption (option_map (λ n. n.id.now) form) (texts ≡ []) (λ id. values_of id (rows_of (found_of found.now)) ≡ texts)
-        → texts_of names.items ≡ texts) }
+        → AreGivenTexts (rows_of (found_of found.now)) (name_id form) texts → texts_of names.items ≡ texts) }
 {
     match form {
         Some(form) => texts_in(alloc, found, form.id),
@@ -212,9 +219,37 @@ fn names_in<'a>(
     }
 }
 
+/// The names that are given as often as one likes, and the further logs of what came in.
+fn files_in<'a>(
+    alloc: Global,
+    found: &ArgMatches<'a>,
+    form: Option<NameForm>,
+) -> Result<(Vec<&'a str>, Vec<&'a str>), AllocError>
+    ensures more { IfOk result (λ files. (texts : List Text)
+        → AreGivenTexts (rows_of (found_of found.now)) (name_id form) texts → texts_of files.0.items ≡ texts) }
+    ensures inputs { IfOk result (λ files. texts_of files.1.items ≡ values_of (codes "in") (rows_of (found_of found.now))) }
+{
+    let more = names_in(alloc, found, form)?;
+    let inputs = texts_in(alloc, found, IN.id)?;
+    Ok((more, inputs))
+}
+
+/// The names that channels are given, and the columns that headings are given.
+fn renames_in<'a>(
+    alloc: Global,
+    found: &ArgMatches<'a>,
+) -> Result<(Vec<&'a str>, Vec<&'a str>), AllocError>
+    ensures channels { IfOk result (λ lists. texts_of lists.0.items ≡ values_of (codes "channel") (rows_of (found_of found.now))) }
+    ensures maps { IfOk result (λ lists. texts_of lists.1.items ≡ values_of (codes "map") (rows_of (found_of found.now))) }
+{
+    let channels = texts_in(alloc, found, CHANNEL.id)?;
+    let maps = texts_in(alloc, found, MAP.id)?;
+    Ok((channels, maps))
+}
+
 /// What is given of the options, with these choices. An option that the command has not is found nowhere.
 fn options_in<'a>(found: &ArgMatches<'a>, choices: Choices) -> Options<'a>
-    ensures { (o : OptionBytes) → IsChosen choices o → (name : Text) → AreOptions name (rows_of (found_of found.now)) o → given_of result ≡ o }
+    ensures { ReadsOptions choices (rows_of (found_of found.now)) (given_of result) }
 {
     Options {
         form: choices.form,
@@ -234,6 +269,7 @@ fn options_in<'a>(found: &ArgMatches<'a>, choices: Choices) -> Options<'a>
         slack: asked_number(found, SLACK.id),
         tolerance: asked_number(found, TOLERANCE.id),
         events: is_given(found, EVENTS.id),
+        text: is_given(found, TEXT.id),
         fields: fields_in(found),
     }
 }

@@ -4,7 +4,7 @@ ghost use Rattle.std.specs.List.{flat_map};
 ghost use Rattle.a429_text.specs.Fields.{Field};
 ghost use Rattle.a429_equipment.specs.TableRecord.{TableRecord};
 ghost use Rattle.a429_equipment.specs.declared.rows.ReceiverRow.{ReceiverRow};
-ghost use Rattle.a429_documents.specs.Diff.{item_named, list_rows, new_rows, number_named, of_both, place_rows};
+ghost use Rattle.a429_documents.specs.Diff.{item_named, new_rows, number_named, of_both, place_rows, table_rows};
 ghost use Rattle.a429_documents.specs.Diff as diff;
 
 use crate::diff::rows::{Subject, add_number};
@@ -115,7 +115,7 @@ fn add_boths<T: Named>(rows: &mut Rows, a: &Equipment, b: &Equipment, first: &[T
 /// Adds a row for each name whose number in the second table is another one than in the first, or that only one table has.
 /// Then adds the differences of the names that both have.
 pub fn add_list<T: Named>(rows: &mut Rows, change: &str, a: &Equipment, b: &Equipment)
-    ensures { rows.new ≡ rows.old ++ list_rows change.now T.name_of T.subject_of (T.change_rows a.now.receivers b.now.receivers) (T.list_of a.now) (T.list_of b.now) }
+    ensures { rows.new ≡ rows.old ++ table_rows change.now T.name_of T.subject_of T.change_rows T.list_of a.now b.now }
 {
     let (first, second) = (T::list(a), T::list(b));
     add_places(rows, change, first, second);

@@ -1,8 +1,7 @@
 //! The findings in the groups of an equipment.
 ghost use Rattle.std.specs.Prelude.{◌≡◌, ◌<◌, ◌≤◌, ◌++◌, ◌∷◌, [], length, map};
-ghost use Rattle.a429_text.specs.Sheets.{field_of};
 ghost use Rattle.a429_slots.specs.Planned.{HaveSources};
-ghost use Rattle.a429_documents.specs.Lint.{AreAsked, alike_row, alike_rows, are_alike, full_rows, group_finding, group_findings, group_row, is_full, needed_row, needs_too_many, of_each, one_is_any, output_name, too_many_rows, unfit_rows};
+ghost use Rattle.a429_documents.specs.Lint.{AreAsked, alike_row, alike_rows, are_alike, finding_row, full_rows, group_finding, group_findings, is_full, needed_row, needs_too_many, of_each, one_is_any, output_name, too_many_rows, unfit_rows};
 
 use crate::document::number;
 use crate::lint::GroupFinding;
@@ -30,7 +29,7 @@ fn add_finding<'a>(
     other: Cell<'a>,
     number: Cell<'a>,
 )
-    ensures { found.new ≡ found.old ++ group_row finding.now group.now (field_of source.entry) (field_of other.entry) (field_of number.entry) ∷ [] }
+    ensures { found.new ≡ found.old ++ finding_row finding.now group.now source.entry other.entry number.entry ∷ [] }
 {
     let nothing = Cell::Absent;
     found.add(&[

@@ -3,19 +3,19 @@
 ghost use Rattle.std.specs.Prelude.{◌≡◌, ◌||◌, ◌*◌, ◌^◌, ◌<◌, ◌≤◌, length, IfOk};
 ghost use Rattle.std.specs.List.{list_any};
 ghost use Rattle.a429_slots.specs.Tables.{groups_of, outputs_of};
-ghost use Rattle.a429_recordings.specs.JudgedPlans.{duties_of, duty_of, is_any_wide, is_wide, label_of, row_of, sdi_of, tolerance_of};
+ghost use Rattle.a429_recordings.specs.JudgedPlans.{duties_of, duty_of, is_any_wide, is_wide, label_of, period_at, row_of, sdi_of, shortest_period, tolerance_of};
 ghost use Rattle.a429_recordings.specs.SimulationRuns.{HasPlannedGroup};
 ghost use Rattle.a429_recordings.specs.Timeline.{rate_of, table_of};
 
 use a429_equipment::{Equipment, OutputRow};
 use a429_grid::SLOT_TIME;
-use a429_judge::{Duty, Facts, Judge, two_slots};
+use a429_judge::{Duty, Facts, Judge, default_tolerance};
 use a429_slots::{OUTPUTS, OutputId, Proposal};
 use a429_text::Gathered;
 use std::alloc::{AllocError, Global};
 
-/// A plan, the words that are judged by it, and the tolerance of their times in microseconds. `None`: two slots of the
-/// group.
+/// A plan, the words that are judged by it, and the tolerance of their times in microseconds. `None`: the default one of
+/// each group.
 #[derive(Clone, Copy)]
 pub struct Judging<'a> {
     pub proposal: &'a Proposal<OUTPUTS>,
@@ -74,14 +74,41 @@ fn sdi_of(equipment: &Equipment, source: usize) -> Option<u8>
     }
 }
 
-/// The tolerance in microseconds: the one that is given, otherwise two slots at this bit rate.
-fn tolerance_of(tolerance: Option<u32>, rate: u32) -> u64
-    requires { 1 ≤ rate }
-    ensures { result ≡ tolerance_of tolerance rate }
+/// The period of an output of a group, in slots.
+fn period_at(proposal: &Proposal<OUTPUTS>, group: usize, output: usize) -> u32
+    requires known { HasPlannedGroup proposal.now group }
+    requires output { output < length (outputs_of (table_of proposal.now group)) }
+    ensures { result ≡ period_at proposal.now group output }
+{
+    let place = proposal.plan().group(group).place(OutputId::new(output));
+    place.period.slots()
+}
+
+/// The shortest period of a group's outputs, in slots.
+fn shortest_period(proposal: &Proposal<OUTPUTS>, group: usize) -> u32
+    requires { HasPlannedGroup proposal.now group }
+    ensures { result ≡ shortest_period proposal.now group }
+{
+    let plan = proposal.plan().group(group);
+    let mut shortest = plan.frame();
+    for output in 0..plan.outputs() {
+        shortest = u32::min(shortest, period_at(proposal, group, output));
+    }
+    shortest
+}
+
+/// The tolerance of a group in microseconds: the one that is given, otherwise two slots, or half the shortest period if that
+/// is less.
+fn tolerance_of(proposal: &Proposal<OUTPUTS>, tolerance: Option<u32>, group: usize) -> u64
+    requires { HasPlannedGroup proposal.now group }
+    ensures { result ≡ tolerance_of proposal.now tolerance group }
 {
     match tolerance {
         Some(tolerance) => u64::from(tolerance),
-        None => two_slots(rate),
+        None => {
+            let rate = rate_of(proposal, group);
+            default_tolerance(rate, shortest_period(proposal, group))
+        }
     }
 }
 
@@ -113,7 +140,7 @@ pub fn duty_of(
             least: u64::from(row.min_us),
             greatest: u64::from(row.max_us),
             hold: row.hold,
-            tolerance: tolerance_of(tolerance, rate),
+            tolerance: tolerance_of(proposal, tolerance, group),
         },
     }
 }

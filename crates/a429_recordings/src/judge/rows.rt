@@ -2,7 +2,7 @@
 ghost use Rattle.std.specs.Prelude.{◌≡◌, ◌<◌, ◌++◌, ◌∷◌, [], length, map, IfOk, OnOk};
 ghost use Rattle.std.specs.List.{flat_map, list_any, range_with_len};
 ghost use Rattle.a429_slots.specs.Tables.{groups_of, outputs_of};
-ghost use Rattle.a429_recordings.specs.JudgedPlans.{duties_of, is_bad, is_bad_at, is_found, is_found_in, judged_group, judged_row, judged_rows, outputs_at};
+ghost use Rattle.a429_recordings.specs.JudgedPlans.{duties_of, is_any_bad, is_bad, is_bad_at, is_found, is_found_in, judged_group, judged_outputs, judged_row, judged_rows};
 ghost use Rattle.a429_recordings.specs.SimulationRuns.{HasPlannedGroup};
 ghost use Rattle.a429_recordings.specs.Timeline.{table_of};
 
@@ -61,10 +61,9 @@ fn add_outputs(
 ) -> Result<bool, AllocError>
     requires known { HasPlannedGroup judging.now.proposal.now group }
     requires duties { duties.now ≡ duties_of judging.now.proposal.now judging.now.tolerance group }
-    ensures rows { OnOk result (rows.new ≡ rows.old ++ map (judged_row judging.now.proposal.now judging.now.tolerance judging.now.judge.now group)
-        (outputs_at judging.now.proposal.now group)) }
-    ensures bad { IfOk result (λ bad. bad ≡ list_any (is_bad_at judging.now.proposal.now judging.now.tolerance judging.now.judge.now group)
-        (outputs_at judging.now.proposal.now group)) }
+    ensures rows { OnOk result (rows.new ≡ rows.old
+        ++ judged_outputs judging.now.proposal.now judging.now.tolerance judging.now.judge.now group) }
+    ensures bad { IfOk result (λ bad. bad ≡ is_any_bad judging.now.proposal.now judging.now.tolerance judging.now.judge.now group) }
 {
     let mut found = false;
     for output in 0..judging.proposal.plan().group(group).outputs() {

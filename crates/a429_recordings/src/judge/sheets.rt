@@ -6,6 +6,7 @@ use crate::judge::JudgeForm;
 use crate::judge::duties::Judging;
 use crate::judge::events::{EVENT_COLUMNS, add_events};
 use crate::judge::rows::add_groups;
+use a429_console::hints::Seen;
 use a429_text::{Rows, Sheet, SheetForm};
 use std::alloc::{AllocError, Global};
 
@@ -33,8 +34,13 @@ pub struct Judged {
     pub found: bool,
 }
 
-/// A row for each output and each group. Error: an allocation failed.
-fn row_sheet(alloc: Global, judging: &Judging<'_>, form: SheetForm) -> Result<Judged, AllocError>
+/// A row for each output and each group, which are kept in `seen` too. Error: an allocation failed.
+fn row_sheet(
+    alloc: Global,
+    judging: &Judging<'_>,
+    form: SheetForm,
+    seen: &mut Seen,
+) -> Result<Judged, AllocError>
     ensures { IfOk result (IsJudgeSheet false judging.now form) }
 {
     let mut rows = Rows::new(alloc);
@@ -44,6 +50,7 @@ fn row_sheet(alloc: Global, judging: &Judging<'_>, form: SheetForm) -> Result<Ju
         rows,
     };
     let text = sheet.render(alloc, form)?;
+    seen.findings = Some(sheet);
     Ok(Judged { text, found })
 }
 
@@ -68,12 +75,13 @@ pub fn judge_sheet(
     judging: &Judging<'_>,
     events: bool,
     form: SheetForm,
+    seen: &mut Seen,
 ) -> Result<Judged, AllocError>
     ensures { IfOk result (IsJudgeSheet events judging.now form) }
 {
     if events {
         event_sheet(alloc, judging, form)
     } else {
-        row_sheet(alloc, judging, form)
+        row_sheet(alloc, judging, form, seen)
     }
 }

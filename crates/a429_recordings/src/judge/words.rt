@@ -1,12 +1,12 @@
 //! Words of the logs of a box.
 ghost use Rattle.std.specs.Prelude.{◌≡◌, ◌==◌, ◌<◌, length, option_map, position, IfOk, IfSome};
 ghost use Rattle.a429_logs.specs.LogRows.{stated_by};
-ghost use Rattle.a429_console.specs.Files.{bytes_of};
-ghost use Rattle.a429_recordings.specs.BoxLogs.{AreOrdered, IsLogsReading, at_number, box_word, bus_named, bus_place, place_named, sent_place};
+ghost use Rattle.a429_console.specs.Files.{bytes_of, texts_of};
+ghost use Rattle.a429_recordings.specs.BoxLogs.{AreOrdered, IsLogsReading, at_number, box_word, box_word_by, bus_named, bus_place, place_named, sent_place};
 ghost use Rattle.a429_console.specs.Names.{number_named};
 ghost use Rattle.a429_recordings.specs.LogItems.{AddsLog, refusal_for};
 
-use crate::logs::{ReadFault, faulty};
+use crate::logs::{ReadFault, faulty, with_name};
 use a429_console::hints::{LogRefusal, Seen, SeenLog};
 use a429_console::refusals::CommandRefusal;
 use a429_logs::{LogReader, Reading, StatedWord};
@@ -161,22 +161,24 @@ fn refusal_of(log: BoxLog, word: StatedWord<'_>) -> LogRefusal {
     }
 }
 
-/// Adds the words of a log; the answer is how the next log is read. Error: the number of its first faulty line, from 1,
-/// or an allocation failed.
-fn add_words(
+/// Adds the words of a log, with channels taken as names; the answer is how the next log is read. Error: the number of its
+/// first faulty line, from 1, or an allocation failed.
+fn add_words<'a>(
     plan: &Plan<OUTPUTS>,
     names: &Names,
+    channels: &'a [&'a str],
     log: BoxLog,
     reading: Reading,
-    text: &[u8],
+    text: &'a [u8],
     words: &mut Vec<BoxWord>,
 ) -> Result<Reading, ReadFault>
-    ensures { AddsLog (box_word plan.now names.now log) reading text.now words.old.items words.new.items result }
+    ensures { AddsLog (box_word_by plan.now names.now (texts_of channels.now) log) reading text.now words.old.items words.new.items
+        result }
 {
     let mut reader = LogReader::open(reading, text);
     while let Some(entry) = reader.next() {
         let entry = match entry {
-            Ok(entry) => entry,
+            Ok(entry) => with_name(channels, entry),
             Err(fault) => return Err(faulty(
                 &reader,
                 reading,
@@ -217,26 +219,27 @@ fn refusal_for(
     }
 }
 
-/// Reads logs, one after another as if they were one. Error: the number of the first faulty line, from 1 in its log. A
-/// line is faulty as the reader of logs says, or if there is no place of its name, or its word is at 10^14 us or later. The
-/// faulty line is kept in `seen`.
-pub fn read_words(
+/// Reads logs, one after another as if they were one, with channels taken as names. Error: the number of the first faulty
+/// line, from 1 in its log. A line is faulty as the reader of logs says, or if there is no place of its name, or its word is
+/// at 10^14 us or later. The faulty line is kept in `seen`.
+pub fn read_words<'a>(
     alloc: Global,
     plan: &Plan<OUTPUTS>,
     names: &Names,
+    channels: &'a [&'a str],
     log: BoxLog,
     reading: Reading,
-    texts: &[Vec<u8>],
+    texts: &'a [Vec<u8>],
     seen: &mut Seen,
 ) -> Result<BoxWords, CommandRefusal>
-    ensures read { IsLogsReading (box_word plan.now names.now log) reading (bytes_of texts.now) result }
+    ensures read { IsLogsReading (box_word_by plan.now names.now (texts_of channels.now) log) reading (bytes_of texts.now) result }
     ensures ordered { IfOk result (λ read. AreOrdered read.words.items) }
 {
     let mut words = Vec::new(alloc);
     let mut next = reading;
     for number in 0..texts.len() {
         let text = texts[number].as_slice();
-        match add_words(plan, names, log, next, text, &mut words) {
+        match add_words(plan, names, channels, log, next, text, &mut words) {
             Ok(after) => next = after,
             Err(fault) => return Err(refusal_for(alloc, names, number, text, fault, seen)),
         }

@@ -57,7 +57,7 @@ impl OutputSend {
     /// How long after another send it begins, in microseconds, rounded up, at a rate in bit/s.
     fn time_since(self, rate: u32, last: Option<OutputSend>) -> Option<u64>
         requires rate { 1 ≤ rate }
-        requires few { self.slot < 8192000000 }
+        requires few { self.slot < 300000000000 }
         ensures { result ≡ time_since rate last self }
     {
         let last = last?;
@@ -67,7 +67,7 @@ impl OutputSend {
     /// How long before the end of its slot its word came in, in microseconds, rounded up, at a rate in bit/s.
     fn lateness(self, rate: u32) -> u64
         requires rate { 1 ≤ rate }
-        requires few { self.slot < 8192000000 }
+        requires few { self.slot < 300000000000 }
         ensures { result ≡ lateness rate self }
     {
         micros_of(rate, self.slot + 1).saturating_sub(self.time)
@@ -86,7 +86,7 @@ impl OutputSend {
     /// Its lateness, if the last send had another word.
     fn late_if_other(self, rate: u32, last: Option<OutputSend>) -> Option<u64>
         requires rate { 1 ≤ rate }
-        requires few { self.slot < 8192000000 }
+        requires few { self.slot < 300000000000 }
         ensures { result ≡ late_if_other rate last self }
     {
         if self.is_other(last) {
@@ -114,7 +114,7 @@ impl OutputFigures {
     /// What is kept after one more send, at the bit rate of the output's group.
     pub fn after(self, rate: u32, send: OutputSend) -> OutputFigures
         requires rate { 1 ≤ rate }
-        requires few { send.slot < 8192000000 }
+        requires few { send.slot < 300000000000 }
         ensures { result ≡ figures_after rate self send }
     {
         let between = send.time_since(rate, self.last);
@@ -154,7 +154,7 @@ fn place_of(group: usize, source: usize) -> Option<usize>
 /// A group sends a word of a source, at the bit rate of the group.
 fn note_send(figures: &mut Vec<OutputFigures>, sent: SentWord, rate: u32)
     requires rate { 1 ≤ rate }
-    requires few { sent.send.slot < 8192000000 }
+    requires few { sent.send.slot < 300000000000 }
     ensures { figures.new.items ≡ figures_with figures.old.items sent rate }
 {
     let Some(at) = place_of(sent.group, sent.source) else {

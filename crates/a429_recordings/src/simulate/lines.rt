@@ -155,7 +155,7 @@ impl Setting {
     fn slot_begin(&self, group: usize, slot: u64) -> SlotBegin
         requires names { HasStationNames self.now.names self.now.proposal }
         requires known { HasPlannedGroup self.now.proposal group }
-        requires few { slot < 8192000000 }
+        requires few { slot < 300000000000 }
         ensures { BeginsSlot self.now.proposal self.now.csv group slot result }
     {
         let rate = rate_of(&self.proposal, group);

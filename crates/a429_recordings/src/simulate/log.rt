@@ -1,11 +1,11 @@
 //! Logs of words at receivers of a station.
 ghost use Rattle.std.specs.Prelude.{◌≡◌, IfOk};
 ghost use Rattle.a429_logs.specs.LogRows.{stated_by};
-ghost use Rattle.a429_console.specs.Files.{bytes_of};
+ghost use Rattle.a429_console.specs.Files.{bytes_of, texts_of};
 ghost use Rattle.a429_recordings.specs.LogItems.{AddsLog, refusal_for};
-ghost use Rattle.a429_recordings.specs.SimulationLog.{AreInTime, IsLogReading, word_for};
+ghost use Rattle.a429_recordings.specs.SimulationLog.{AreInTime, IsLogReading, log_word_by, word_for};
 
-use crate::logs::{ReadFault, faulty};
+use crate::logs::{ReadFault, faulty, with_name};
 use a429_console::hints::{LogRefusal, Seen, SeenLog};
 use a429_console::refusals::CommandRefusal;
 use a429_logs::{LogReader, Reading, StatedWord};
@@ -37,20 +37,21 @@ fn word_for(names: &Names, word: StatedWord<'_>) -> Option<LogWord>
     })
 }
 
-/// Adds the words of a log for the receivers of these names; the answer is how the next log is read. Error: the number
-/// of its first faulty line, from 1, or an allocation failed.
-fn add_words(
+/// Adds the words of a log for the receivers of these names, with channels taken as names; the answer is how the next log
+/// is read. Error: the number of its first faulty line, from 1, or an allocation failed.
+fn add_words<'a>(
     names: &Names,
+    channels: &'a [&'a str],
     reading: Reading,
-    log: &[u8],
+    log: &'a [u8],
     words: &mut Vec<LogWord>,
 ) -> Result<Reading, ReadFault>
-    ensures { AddsLog (word_for names.now) reading log.now words.old.items words.new.items result }
+    ensures { AddsLog (log_word_by names.now (texts_of channels.now)) reading log.now words.old.items words.new.items result }
 {
     let mut reader = LogReader::open(reading, log);
     while let Some(entry) = reader.next() {
         let entry = match entry {
-            Ok(entry) => entry,
+            Ok(entry) => with_name(channels, entry),
             Err(fault) => return Err(faulty(
                 &reader,
                 reading,
@@ -99,24 +100,25 @@ fn refusal_for(
     }
 }
 
-/// Reads logs, one after another as if they were one, for the receivers of these names. Error: the number of the first
-/// faulty line, from 1 in its log. A line is faulty as the reader of logs says, or if its word is at no receiver, or at
-/// 10^14 us or later. The faulty line is kept in `seen`.
-pub fn read_words(
+/// Reads logs, one after another as if they were one, for the receivers of these names, with channels taken as names. Error:
+/// the number of the first faulty line, from 1 in its log. A line is faulty as the reader of logs says, or if its word is at
+/// no receiver, or at 10^14 us or later. The faulty line is kept in `seen`.
+pub fn read_words<'a>(
     alloc: Global,
     names: &Names,
+    channels: &'a [&'a str],
     reading: Reading,
-    logs: &[Vec<u8>],
+    logs: &'a [Vec<u8>],
     seen: &mut Seen,
 ) -> Result<Vec<LogWord>, CommandRefusal>
-    ensures words { IsLogReading names.now reading (bytes_of logs.now) result }
+    ensures words { IsLogReading names.now (texts_of channels.now) reading (bytes_of logs.now) result }
     ensures in_time { IfOk result (λ words. AreInTime words.items) }
 {
     let mut words = Vec::new(alloc);
     let mut next = reading;
     for number in 0..logs.len() {
         let log = logs[number].as_slice();
-        match add_words(names, next, log, &mut words) {
+        match add_words(names, channels, next, log, &mut words) {
             Ok(after) => next = after,
             Err(fault) => return Err(refusal_for(alloc, names, number, log, fault, seen)),
         }

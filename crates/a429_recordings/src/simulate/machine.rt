@@ -127,7 +127,7 @@ impl Run {
     /// A group goes on to its next frame, if this slot is the last of one.
     pub fn turn_after(&mut self, proposal: &Proposal<OUTPUTS>, group: usize, slot: u64)
         requires known { HasPlannedGroup proposal.now group }
-        requires few { slot < 8192000000 }
+        requires few { slot < 300000000000 }
         ensures { TakesQuietly proposal.now (turn_after proposal.now group slot) self.old self.new }
     {
         calls_are_answered();

@@ -7,7 +7,7 @@ ghost use Rattle.a429_recordings.specs.Timeline.{end_of};
 use crate::simulate::log::LogWord;
 use crate::simulate::machine::{Happening, Run};
 use crate::simulate::moments::{Moment, Timeline};
-use crate::simulate::tracks::{end_of, silent_until, tracks_of};
+use crate::simulate::tracks::{end_of, tracks_of};
 use a429_console::refusals::CommandRefusal;
 use a429_core::laws::{calls_are_answered, sent_cells_are_answered};
 use a429_slots::{OUTPUTS, Proposal};
@@ -44,7 +44,7 @@ impl Player {
         calls_are_answered();
         sent_cells_are_answered();
         let last = end_of(proposal, &words, until);
-        let tracks = tracks_of(alloc, proposal, silent_until(&words, last), last)?;
+        let tracks = tracks_of(alloc, proposal, &words, last)?;
         let mut run = Run::open(alloc, proposal)?;
         run.put_at(&tracks);
         let timeline = Timeline {
@@ -57,6 +57,13 @@ impl Player {
             timeline,
             slot: None,
         })
+    }
+
+    /// The words that it plays.
+    pub fn words(&self) -> &[LogWord]
+        ensures { result.now ≡ self.now.timeline.words.items }
+    {
+        &self.timeline.words
     }
 
     /// The next cell with a word in the slot that is under way. `None` if it has no more. Then the slot is over, and

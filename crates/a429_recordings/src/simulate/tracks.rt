@@ -4,8 +4,8 @@ ghost use Rattle.a429_equipment.specs.Sound.{OfEach};
 ghost use Rattle.a429_slots.specs.Tables.{groups_of};
 ghost use Rattle.a429_slots.specs.Planned.{IsPlanOf};
 ghost use Rattle.a429_documents.specs.Document.{slots_us};
-ghost use Rattle.a429_recordings.specs.Tracks.{GoesBefore, SlotsAreCounted, IsNextTrack, IsTrack, IsTracking, advanced, next_at, silent_until, slots_before};
-ghost use Rattle.a429_recordings.specs.Timeline.{end_of, last_time, longest_frame, rate_of};
+ghost use Rattle.a429_recordings.specs.Tracks.{GoesBefore, SlotsAreCounted, IsNextTrack, IsTrack, IsTracking, advanced, next_at, silent_until};
+ghost use Rattle.a429_recordings.specs.Timeline.{end_of, first_time, last_time, longest_frame, rate_of, slots_before};
 ghost use Rattle.a429_recordings.specs.SimulationRuns.{HasPlannedGroup};
 ghost use Rattle.a429_recordings.specs.SimulationLog.{AreInTime};
 ghost use Rattle.a429_recordings.specs.declared.simulate.tracks.Track.{Track as TheTrack};
@@ -17,7 +17,7 @@ use a429_grid::SLOT_TIME;
 use a429_slots::{OUTPUTS, Plan, Proposal};
 use std::alloc::Global;
 
-/// How many frames a group sends at most.
+/// How many frames a group sends at most from the first word on.
 const MOST_FRAMES: u64 = 1_000_000;
 
 /// A group: the bit rate of its buses, how many slots it sends in all, and which is next.
@@ -108,34 +108,36 @@ pub fn rate_of(proposal: &Proposal<OUTPUTS>, group: usize) -> u32
 /// How long a number of slots lasts at a rate in bit/s, in microseconds, rounded up.
 pub fn micros_of(rate: u32, slots: u64) -> u64
     requires rate { 1 ≤ rate }
-    requires few { slots ≤ 8192000000 }
+    requires few { slots ≤ 300000000000 }
     ensures value { result ≡ slots_us rate slots }
     ensures few { result ≤ 36000000 * slots }
 {
     (SLOT_TIME * slots).div_ceil(u64::from(rate))
 }
 
-/// How many slots begin at this time in microseconds or before, at a rate in bit/s. `None` if they are more than a
-/// million frames of this length.
-fn count_slots(rate: u32, frame: u32, last: u64) -> Option<u64>
-    requires { (1 ≤ frame) × (frame ≤ 8192) }
-    ensures { SlotsAreCounted rate frame last result }
+/// How many slots begin before this time in microseconds, at a rate in bit/s.
+fn slots_before(rate: u32, time: u64) -> u64
+    requires few { time * rate < 2 ^ 64 }
+    ensures { result ≡ slots_before rate time }
+{
+    (time * u64::from(rate)).div_ceil(SLOT_TIME)
+}
+
+/// How many slots begin at the last time or before, at a rate in bit/s. `None` if those from the first time on are more
+/// than a million frames of this length. Times are in microseconds.
+fn count_slots(rate: u32, frame: u32, first: u64, last: u64) -> Option<u64>
+    requires rate { rate ≤ 100000 }
+    requires frame { (1 ≤ frame) × (frame ≤ 8192) }
+    requires first { first < 100000000000000 }
+    ensures { SlotsAreCounted rate frame first last result }
 {
     let lasting = last.checked_mul(u64::from(rate))?;
     let slots = lasting / SLOT_TIME + 1;
-    if slots > MOST_FRAMES * u64::from(frame) {
+    if slots > slots_before(rate, first) + MOST_FRAMES * u64::from(frame) {
         None
     } else {
         Some(slots)
     }
-}
-
-/// How many slots begin before this time in microseconds, at a rate in bit/s.
-fn slots_before(rate: u32, time: u64) -> u64
-    requires few { time * rate < 2 ^ 63 }
-    ensures { result ≡ slots_before rate time }
-{
-    (time * u64::from(rate)).div_ceil(SLOT_TIME)
 }
 
 /// How long the longest frame of a group lasts, in microseconds, rounded up.
@@ -153,6 +155,18 @@ fn longest_frame(equipment: &Equipment, plan: &Plan<OUTPUTS>) -> u64
         );
     }
     longest
+}
+
+/// When the first word comes in, in microseconds; with no word, 0.
+fn first_time(words: &[LogWord]) -> u64
+    requires { AreInTime words.now }
+    ensures value { result ≡ first_time words.now }
+    ensures few { result < 100000000000000 }
+{
+    match words.first() {
+        None => 0,
+        Some(word) => word.time,
+    }
 }
 
 /// When the last word comes in, in microseconds; with no word, 0.
@@ -181,7 +195,7 @@ pub fn end_of(proposal: &Proposal<OUTPUTS>, words: &[LogWord], until: Option<u64
 
 /// The time before which no group sends a word, in microseconds: that of the first word, or the last time at which slots
 /// begin if that is earlier.
-pub fn silent_until(words: &[LogWord], last: u64) -> u64
+fn silent_until(words: &[LogWord], last: u64) -> u64
     ensures value { result ≡ silent_until words.now last }
     ensures within { result ≤ last }
 {
@@ -191,22 +205,24 @@ pub fn silent_until(words: &[LogWord], last: u64) -> u64
     }
 }
 
-/// Each group before its first slot at this start or after it, with slots that begin up to the last time. Both are in
-/// microseconds. Error: a group would send more than a million frames.
+/// Each group before its first slot that does not begin before the first of these words, with slots that begin up to the
+/// last time in microseconds. Error: a group would send more than a million frames from the first word on.
 pub fn tracks_of(
     alloc: Global,
     proposal: &Proposal<OUTPUTS>,
-    start: u64,
+    words: &[LogWord],
     last: u64,
 ) -> Result<Vec<Track>, CommandRefusal>
-    requires within { start ≤ last }
-    ensures { IsTracking proposal.now start last result }
+    requires { AreInTime words.now }
+    ensures { IsTracking proposal.now words.now last result }
 {
     let (equipment, plan) = (proposal.equipment(), proposal.plan());
+    let first = first_time(words);
+    let start = silent_until(words, last);
     let mut tracks = Vec::new(alloc);
     for group in 0..plan.groups() {
         let rate = equipment.group_rate(group);
-        let Some(slots) = count_slots(rate, plan.group(group).frame(), last) else {
+        let Some(slots) = count_slots(rate, plan.group(group).frame(), first, last) else {
             return Err(CommandRefusal::TooMuch);
         };
         tracks.push(Track {

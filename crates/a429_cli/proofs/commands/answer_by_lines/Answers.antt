@@ -1,9 +1,11 @@
 use Rattle.a429_console.proofs.ReadingParts.{read_weaker}
-use Rattle.std.proofs.Common.{◌∷◌, inl, refl}
+use Rattle.std.proofs.Common.{◌∷◌, List, ℕ, inl, refl, subst, sym}
 use Rattle.std.proofs.lemmas.Result.{IfOk-weaker}
 use Rattle.a429_console.specs.Files.{texts_of}
 use Rattle.a429_console.specs.Requests.{given_of}
-use Rattle.a429_recordings.specs.SimulationReplies.{IsSimulation, simulation_form}
+use Rattle.a429_recordings.specs.LogItems.{channels_named, logs_named}
+use Rattle.a429_recordings.specs.declared.simulate.SimulationForm.{SimulationForm}
+use Rattle.a429_recordings.specs.SimulationReplies.{IsSimulation, SimulatesSpacedWords, simulation_form}
 use Rattle.a429_cli.specs.LineReplies.{IsLinesReply}
 use Rattle.a429_replay.specs.Replaying.{IsReplay, TakesFurther}
 use Rattle.a429_cli.proofs.commands.answer_by_lines.Goals as goal
@@ -27,19 +29,39 @@ returns-in-Replay-clause-read g c =
 pub returns-in-Simulate-clause-read : goal.returns-in-Simulate-clause-read
 returns-in-Simulate-clause-read g c =
     rw c.in-Simulate.is (read_weaker c.simulate.ensures.simulated (λ file is. IfOk-weaker c.simulate.result _ _ (λ status told.
-    let names = c.args.asked.now.second.now ∷ texts_of c.args.asked.now.more.items in
-    let reply : IsSimulation file c.args.asked.now.first.now names (simulation_form (given_of c.args.asked.now.options)) status told.0 = rw (c.of-form.ensures, c.deref-in-Simulate.ensures.value) at told.1 in
+    let a = c.args.asked.now in
+    let names = c.simulated_logs.result in
+    let form = simulation_form (given_of a.options) in
+    let by_form : IsSimulation file a.first.now (logs_named names) (channels_named names) form status told.0 =
+    subst (λ (f : SimulationForm). IsSimulation file a.first.now (logs_named names) (channels_named names) f status told.0) c.of-form.ensures told.1 in
+    let by_logs : IsSimulation file a.first.now (a.second.now ∷ texts_of a.more.items) (channels_named names) form status told.0 =
+    subst (λ (logs : List (List ℕ)). IsSimulation file a.first.now logs (channels_named names) form status told.0) c.simulated_logs.ensures.logs by_form in
+    let reply : IsSimulation file a.first.now (a.second.now ∷ texts_of a.more.items) (texts_of a.channels.items) form status told.0 =
+    subst (λ (channels : List (List ℕ)). IsSimulation file a.first.now (a.second.now ∷ texts_of a.more.items) channels form status told.0) c.simulated_logs.ensures.channels by_logs in
     (told.0, inl reply, told.2))
     is))
 
-pub returns-in-Lines-clause-taken : goal.returns-in-Lines-clause-taken
-returns-in-Lines-clause-taken g c = read_weaker c.tell_lines.ensures.told (λ file is takes. refl)
+pub returns-in-Lines-clause-silent : goal.returns-in-Lines-clause-silent
+returns-in-Lines-clause-silent g c = read_weaker c.tell_lines.ensures.told (λ file is takes. refl)
 
-pub returns-in-Simulate-clause-taken : goal.returns-in-Simulate-clause-taken
-returns-in-Simulate-clause-taken g c = read_weaker c.simulate.ensures.simulated (λ file is takes. refl)
+pub returns-in-Simulate-clause-silent : goal.returns-in-Simulate-clause-silent
+returns-in-Simulate-clause-silent g c =
+    rw c.in-Simulate.is
+    (read_weaker c.simulate.ensures.silent (λ file is spaced.
+    let a = c.args.asked.now in
+    let names = c.simulated_logs.result in
+    let logs = a.second.now ∷ texts_of a.more.items in
+    let channels = texts_of a.channels.items in
+    let by_form : SimulatesSpacedWords file a.first.now logs channels c.of-form.result =
+    subst (λ (f : SimulationForm). SimulatesSpacedWords file a.first.now logs channels f) (sym c.of-form.ensures) spaced in
+    let by_logs : SimulatesSpacedWords file a.first.now (logs_named names) channels c.of-form.result =
+    subst (λ (ls : List (List ℕ)). SimulatesSpacedWords file a.first.now ls channels c.of-form.result) (sym c.simulated_logs.ensures.logs) by_form in
+    let these : SimulatesSpacedWords file a.first.now (logs_named names) (channels_named names) c.of-form.result =
+    subst (λ (cs : List (List ℕ)). SimulatesSpacedWords file a.first.now (logs_named names) cs c.of-form.result) (sym c.simulated_logs.ensures.channels) by_logs in
+    is these))
 
-pub returns-in-Replay-clause-taken : goal.returns-in-Replay-clause-taken
-returns-in-Replay-clause-taken g c =
+pub returns-in-Replay-clause-silent : goal.returns-in-Replay-clause-silent
+returns-in-Replay-clause-silent g c =
     rw c.in-Replay.is
     (read_weaker c.replay.ensures.taken (λ file is takes.
     let takes_these : TakesFurther file c.args.asked.now.first.now c.args.asked.now.second.now (texts_of c.deref-in-Replay.result.now) = rw c.deref-in-Replay.ensures.value takes in

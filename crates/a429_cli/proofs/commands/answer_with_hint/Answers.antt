@@ -8,7 +8,7 @@ returns-clause-read g c = (c.answer-result.new.files, c.answer-result.ensures.re
 pub returns-clause-quiet : goal.returns-clause-quiet
 returns-clause-quiet g c = (
   c.answer-result.new.files,
-  read_weaker c.answer-result.ensures.taken (λ file same takes.
-      let none : c.answer-result.new.faults.items ≡ [] = same takes ∙ c.new-faults.ensures.items in
+  read_weaker c.answer-result.ensures.silent (λ file same takes.
+      let none : c.answer-result.new.warnings.items ≡ [] = same takes ∙ c.new-warnings.ensures.items in
       c.tell_result.ensures.quiet (c.deref.ensures.value ∙ none)),
 )

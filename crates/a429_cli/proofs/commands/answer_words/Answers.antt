@@ -5,7 +5,7 @@ use Rattle.clap.specs.Words.{Kinds}
 use Rattle.a429_console.specs.Ends.{EndsOrFails, writing}
 use Rattle.a429_console.specs.Outputs.{IsMemoryReply, IsPut}
 use Rattle.a429_console.specs.Readings.{HasReadFrom}
-use Rattle.a429_cli.specs.Replies.{IsReplyOrMemory, TakesEach, trouble_of}
+use Rattle.a429_cli.specs.Replies.{IsReplyOrMemory, IsSilent, trouble_of}
 use Rattle.a429_console.specs.Files.{texts_of}
 use Rattle.a429_console.specs.Requests.{AskedBytes}
 use Rattle.a429_console.specs.Usage.{is_run, kinds_of_words}
@@ -56,7 +56,7 @@ pub returns-in-Ok-clause-quiet : goal.returns-in-Ok-clause-quiet
 returns-in-Ok-clause-quiet g c = λ r other asks.
     let same = c.in-Ok.ensures.asked r asks in
     subst (λ (a : AskedBytes). HasReadFrom g.F.FileReader.answers
-    (λ file. TakesEach file a → IfOk c.answer_here.result (λ status. status ≡ 0 → c.answer_here.new.err ≡ c.args.err.now)) c.args.files.now) same
+    (λ file. IsSilent file a → IfOk c.answer_here.result (λ status. status ≡ 0 → c.answer_here.new.err ≡ c.args.err.now)) c.args.files.now) same
     (c.answer_here.ensures.quiet (ap (λ (a : AskedBytes). is_run a.verb) same ∙ other))
 
 pub returns-in-Err-clause-quiet : goal.returns-in-Err-clause-quiet

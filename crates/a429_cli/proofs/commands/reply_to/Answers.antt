@@ -1,12 +1,9 @@
-use Rattle.std.proofs.Common.{◌∷◌, ℕ, List, Bor, refl, subst}
+use Rattle.std.proofs.Common.{ℕ, List, Bor, refl, subst}
 use Rattle.a429_console.proofs.ReadingParts.{read_none, read_weaker}
 use Rattle.a429_console.specs.Files.{texts_of}
 use Rattle.a429_console.specs.Requests.{asked_of}
 use Rattle.a429_console.specs.declared.arguments.forms.Verb.TheVariants as verb
-use Rattle.a429_recordings.specs.Surveys.{IsNoSurvey}
-use Rattle.a429_recordings.specs.declared.survey.SurveyForm.{SurveyForm}
-use Rattle.a429_cli.specs.SurveyReplies.{IsSurveyed}
-use Rattle.a429_cli.specs.WholeReplies.{Replies}
+use Rattle.a429_cli.specs.Importing.{IsImportReply}
 use Rattle.a429_cli.proofs.WholeAnswers.{given_by}
 use Rattle.a429_cli.proofs.commands.reply_to.Goals as goal
 
@@ -20,7 +17,11 @@ returns-in-Encode g c =
 
 pub returns-in-Import : goal.returns-in-Import
 returns-in-Import g c =
-    given_by g.F.FileReader.answers c.args.files.now c.import_reply.new.files (asked_of c.args.asked.now) c.import_reply.result c.args.asked.now.verb verb.Import c.in-Import.is c.import_reply.ensures
+    let asked = c.args.asked.now in
+    given_by g.F.FileReader.answers c.args.files.now c.import_reply.new.files (asked_of asked) c.import_reply.result asked.verb verb.Import c.in-Import.is
+    (read_weaker c.import_reply.ensures
+    (λ file is.
+    subst (λ (maps : List (Bor (List ℕ))). IsImportReply file (texts_of maps) asked.first.now c.import_reply.result) c.deref.ensures.value is))
 
 pub returns-in-Plan : goal.returns-in-Plan
 returns-in-Plan g c =
@@ -60,13 +61,7 @@ returns-in-Draw g c =
 
 pub returns-in-Survey : goal.returns-in-Survey
 returns-in-Survey g c =
-    let asked = c.args.asked.now in
-    given_by g.F.FileReader.answers c.args.files.now c.survey_reply.new.files (asked_of asked) c.survey_reply.result asked.verb verb.Survey c.in-Survey.is
-    (read_weaker c.survey_reply.ensures
-    (λ file is.
-    subst (λ (f : SurveyForm). Replies (IsSurveyed file (asked.first.now ∷ texts_of asked.more.items) f) (IsNoSurvey file (asked.first.now ∷ texts_of asked.more.items) f) c.survey_reply.result) c.of-survey.ensures
-    (subst (λ (more : List (Bor (List ℕ))). Replies (IsSurveyed file (asked.first.now ∷ texts_of more) c.of-survey.result) (IsNoSurvey file (asked.first.now ∷ texts_of more) c.of-survey.result) c.survey_reply.result)
-    c.deref.ensures.value is)))
+    given_by g.F.FileReader.answers c.args.files.now c.survey_reply.new.files (asked_of c.args.asked.now) c.survey_reply.result c.args.asked.now.verb verb.Survey c.in-Survey.is c.survey_reply.ensures
 
 pub returns-in-Judge : goal.returns-in-Judge
 returns-in-Judge g c =

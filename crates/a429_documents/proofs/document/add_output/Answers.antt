@@ -17,6 +17,6 @@ returns c =
     let below : row.source < length c.sources-sources.result.now = subst (λ (ss : List SourceRow). row.source < length ss) (sym rows) c.requires.source in
     let there : slice_get e.sources row.source ≡ Some source =
     ap (λ (ss : List SourceRow). slice_get ss row.source) (sym rows) ∙ read_is c.sources-sources.result.now row.source source below c.index-sources-output.is in
-    let is = output_row_is e c.args.group.now row c.args.table.now c.args.number c.place-place.result c.limits-limits.result source c.requires.known c.place-place.ensures.place c.limits-limits.ensures.limits there in
-    let same = ap (λ (rs : List ReceiverRow). icd_row rs c.args.group.now source row c.place-place.result c.limits-limits.result) c.receivers.ensures.rows ∙ is in
+    let is = output_row_is c.args.keeps_zeros e c.args.group.now row c.args.table.now c.args.number c.place-place.result c.limits-limits.result source c.requires.known c.place-place.ensures.place c.limits-limits.ensures.limits there in
+    let same = ap (λ (rs : List ReceiverRow). icd_row c.args.keeps_zeros rs c.args.group.now source row c.place-place.result c.limits-limits.result) c.receivers.ensures.rows ∙ is in
     c.add_row.ensures ∙ ap (λ (r : List Field). c.args.rows.now ++ r ∷ []) same

@@ -13,9 +13,9 @@ loop-number-preserved c =
     let k = c.loop-number.number in
     let none : OutputRow = record { source = 0; min_us = 0; max_us = 0; hold = None } in
     let below : k < length (outputs_of t) = omega (arith, c.requires.planned) in
-    outputs_more c.args.equipment.now c.args.group.now c.args.outputs.now t k c.new.result (get_or c.args.outputs.now k none) (output_row c.args.equipment.now c.args.group.now (get_or c.args.outputs.now k none) (placed_at t c.new.result)) c.loop-number.rows c.add_output.new.rows _
-    (slice_get-get_or c.args.outputs.now k none c.loop-number-test.true) below c.new.ensures c.loop-number.invariant refl c.add_output.ensures
+    outputs_more c.args.keeps_zeros c.args.equipment.now c.args.group.now c.args.outputs.now t k c.new-id.result (get_or c.args.outputs.now k none) (output_row c.args.keeps_zeros c.args.equipment.now c.args.group.now (get_or c.args.outputs.now k none) (placed_at t c.new-id.result)) c.loop-number.rows c.add_output.new.rows _
+    (slice_get-get_or c.args.outputs.now k none c.loop-number-test.true) below c.new-id.ensures c.loop-number.invariant refl c.add_output.ensures
 
 pub returns : goal.returns
 returns c =
-    outputs_whole c.args.equipment.now c.args.group.now c.args.outputs.now (outputs_of c.args.table.now) c.loop-number.number c.loop-number.rows _ c.loop-number-test.false c.loop-number.invariant
+    outputs_whole c.args.keeps_zeros c.args.equipment.now c.args.group.now c.args.outputs.now (outputs_of c.args.table.now) c.loop-number.number c.loop-number.rows _ c.loop-number-test.false c.loop-number.invariant

@@ -7,7 +7,7 @@ returns c =
       c.number.ensures,
       c.as_str-2.ensures,
       c.receiver_name.ensures,
-      c.value.ensures,
+      c.label_cell.ensures,
       c.sdi_cell.ensures,
       c.number-2.ensures,
       c.number-3.ensures,

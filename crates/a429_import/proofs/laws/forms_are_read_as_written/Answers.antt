@@ -1,4 +1,5 @@
 use Rattle.std.proofs.Common.{refl}
+use Rattle.std.specs.Path.{rsplit_once}
 use Rattle.a429_word.specs.Decimal.{decimal_number, is_numeral}
 use Rattle.a429_word.specs.Texts.{label_value}
 use Rattle.a429_import.specs.ImportFields.{hold_in, label_in, millis_in, number_in, rate_in, sdi_in}
@@ -23,11 +24,15 @@ returns-clause-fields c = record {
 
 pub returns-clause-millis : goal.returns-clause-millis
 unfolding millis_in decimal_number is_numeral
-returns-clause-millis c = record { whole = refl; point = refl; no_comma = refl; comma = refl; zeros = refl; too_fine = refl; no_digit = refl }
+returns-clause-millis c = record { whole = refl; point = refl; no_comma = refl; comma = refl; zeros = refl; too_fine = refl; no_digit = refl; thousands = refl; one = refl; small = refl; decimals = refl }
 
 pub returns-clause-headings : goal.returns-clause-headings
 unfolding is_named heading_among
 returns-clause-headings c = record { any_case = refl; millis = refl; unit = refl; other = refl; below = refl; none = refl }
+
+pub returns-clause-maps : goal.returns-clause-maps
+unfolding is_named heading_among rsplit_once
+returns-clause-maps c = record { named = refl; last_mark = refl; first = refl; other = refl; no_heading = refl; no_column = refl; found = refl }
 
 pub returns-clause-alone : goal.returns-clause-alone
 unfolding numbers_of column_field is_column_in_millis is_named rate_in number_in decimal_number is_numeral label_in label_value sdi_in hold_in

@@ -7,6 +7,7 @@ use Rattle.csv.specs.declared.parser.Config.{Config}
 use Rattle.csv.specs.declared.parser.State.TheVariants as st
 use Rattle.csv.proofs.ReadFacts.{rows-end, rows-more}
 use Rattle.a429_import.specs.declared.lines.CsvLine.{CsvLine}
+use Rattle.a429_import.specs.ImportMaps.{given_texts}
 use Rattle.a429_import.specs.Imports.{has_text, separated}
 use Rattle.a429_import.proofs.ImportForms.{lines_are, one_more_separator}
 use Rattle.a429_import.proofs.ImportReading.{ok_is}
@@ -61,4 +62,4 @@ returns c =
     let s = rw c.in-None.is at ((c.next.ensures.steps inv.turns inv.plain).0 inv.ready) in
     let ended : AreRecords (separated c.form_of-form.result.separator) st.StartRecord (strip_bom c.form_of-form.result.text.now) (map (λ (l : CsvLine). fields_of l.fields) inv.all) =
     (c.loop-row.row-iterator.rdr.state, inv.rest, inv.reached, rows-end (λ (s : Bor (List ℕ)). Some s.now) c.loop-row.row-iterator.rdr c.next.new.self.rdr [] (separated c.form_of-form.result.separator) inv.rest inv.config inv.source s) in
-    lines_are c.args.text.now c.form_of-form.result inv.all c.loop-row.lines.items c.form_of-form.ensures.separator c.form_of-form.ensures.text ended inv.separators inv.filled
+    lines_are (given_texts c.args.maps.now) c.args.text.now c.form_of-form.result inv.all c.loop-row.lines.items c.form_of-form.ensures.separator c.form_of-form.ensures.text ended inv.separators inv.filled

@@ -5,7 +5,8 @@ use Rattle.csv.specs.Records.{fields_of}
 use Rattle.csv.specs.declared.parser.State.TheVariants as st
 use Rattle.csv.specs.declared.reader.Trim.TheVariants as trim
 use Rattle.a429_import.specs.declared.lines.CsvLine.{CsvLine}
-use Rattle.a429_import.specs.ImportReading.{StandsFor}
+use Rattle.a429_import.specs.ImportMaps.{given_texts}
+use Rattle.a429_import.specs.ImportReading.{IsOfNamed, StandsFor}
 use Rattle.a429_import.specs.Imports.{has_text, separated}
 use Rattle.a429_import.proofs.reading.read_lines.Given as goal
 
@@ -20,5 +21,5 @@ invariant-loop-row l = record {
   all : List CsvLine;
   reached : Reached (separated l.form.separator) st.StartRecord (strip_bom l.form.text.now) (map (λ line. fields_of line.fields) all) l.row-iterator.rdr.state rest;
   separators : AllByRecursion (λ line. line.separator ≡ l.form.separator) all;
-  known : StandsFor l.read (filter (λ line. has_text (fields_of line.fields)) all);
+  known : IsOfNamed (given_texts l.maps) l.is_below (StandsFor l.read) (filter (λ line. has_text (fields_of line.fields)) all);
 }

@@ -1,13 +1,14 @@
-use Rattle.std.proofs.Common.{◌++◌, ◌∙◌, List, subst, sym}
+use Rattle.std.proofs.Common.{◌++◌, ◌∙◌, ℕ, List, subst, sym}
+use Rattle.std.specs.Prelude.{IfOk}
 use Rattle.a429_import.specs.declared.lines.CsvLine.{CsvLine}
-use Rattle.a429_import.specs.ImportReading.{StandsFor}
-use Rattle.a429_import.proofs.ImportReading.{not_filled, one_filled}
+use Rattle.a429_import.specs.ImportMaps.{given_texts}
+use Rattle.a429_import.specs.ImportReading.{IsOfNamed, StandsFor}
+use Rattle.a429_import.proofs.ImportReading.{one_filled}
 use Rattle.a429_import.proofs.reading.take_filled.Goals as goal
 
 pub returns-then-has_text : goal.returns-then-has_text
-returns-then-has_text c = λ lines known.
-    subst (λ (ls : List CsvLine). StandsFor c.take_line.new.read (lines ++ ls)) (sym (one_filled c.args.line (sym c.has_text.ensures ∙ c.if-has_text.true))) (c.take_line.ensures lines known)
-
-pub returns-else-has_text : goal.returns-else-has_text
-returns-else-has_text c = λ lines known.
-    subst (λ (ls : List CsvLine). StandsFor c.args.read.now ls) (sym (not_filled lines c.args.line (sym c.has_text.ensures ∙ c.if-has_text.false))) known
+returns-then-has_text c =
+    let maps : List (List ℕ) = given_texts c.args.maps.now in
+    subst (λ (ls : List CsvLine).
+    IfOk c.take_named.result (λ below. (lines : List CsvLine) → IsOfNamed maps c.args.is_below (StandsFor c.args.read.now) lines → IsOfNamed maps below (StandsFor c.take_named.new.read) (lines ++ ls)))
+    (sym (one_filled c.args.line (sym c.has_text.ensures ∙ c.if-has_text.true))) c.take_named.ensures

@@ -37,7 +37,7 @@ returns-in-Ok-clause-report g c =
     let further = bytes_of c.args.further.now in
     let answers = c.deref.result.now in
     let answered : AreAnswers between.begin further answers between.end =
-    subst (λ (xs : List SubmitAnswer). AreAnswers between.begin further xs between.end) (sym (c.deref.ensures.value ∙ c.hand_faults.ensures.answers))
+    subst (λ (xs : List SubmitAnswer). AreAnswers between.begin further xs between.end) (sym (c.deref.ensures.value ∙ c.hand_warnings.ensures.answers))
     (subst (λ (tables : List (Vec ℕ Global)). AreAnswers between.begin (bytes_of tables) c.live_planned.new.control.answers.items between.end) c.new-control.ensures.tables (between.done c.new-control.ensures.none)) in
     let heard = heard_rows t ran.course words (length t.receivers) report.sources.items report.receivers.items
     (subst (λ l. AllOfThree (IsHeardIn GivesFrom all_given t ran.course) l report.sources.items report.receivers.items) (search rules) ran.heard) in
@@ -57,7 +57,7 @@ returns-in-Ok-clause-taken g c = λ all.
     let answered : AreAnswers between.begin further c.live_planned.new.control.answers.items between.end =
     subst (λ (tables : List (Vec ℕ Global)). AreAnswers between.begin (bytes_of tables) c.live_planned.new.control.answers.items between.end) c.new-control.ensures.tables (between.done c.new-control.ensures.none) in
     let taken = subst (λ (t : TableRecord). AllByRecursion (IsTakenBy t) further) (sym between.station) all in
-    c.hand_faults.ensures.taken (none_refused c.plans_are_unique.ensures.either between.begin between.end further c.live_planned.new.control.answers.items answered taken)
+    c.hand_warnings.ensures.taken (none_refused c.plans_are_unique.ensures.either between.begin between.end further c.live_planned.new.control.answers.items answered taken)
 
 pub returns-clause-report : goal.returns-clause-report
 returns-clause-report g c =

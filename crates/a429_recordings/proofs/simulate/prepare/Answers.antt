@@ -1,13 +1,12 @@
 use Rattle.std.proofs.Common.{◌≡◌, ◌∙◌, ap, inl, inr, subst, List, ℕ}
 use Rattle.std.specs.Prelude.{Err, Ok}
 use Rattle.std.proofs.lemmas.Result.{err_from_is_err_and}
-use Rattle.a429_console.specs.Files.{bytes_of}
 use Rattle.a429_console.specs.RefusalText.{OrMemory}
 use Rattle.a429_console.specs.Names.{Naming}
 use Rattle.a429_console.specs.Tables.{IsProposedBy, IsTableRefusal}
 use Rattle.a429_console.proofs.Refused.{failed, or_memory_weaker}
 use Rattle.a429_recordings.specs.SimulationLog.{IsLogFault, log_words}
-use Rattle.a429_recordings.specs.SimulationReplies.{BeginsLog, BeginsNoLog, IsUnsimulated, files_of}
+use Rattle.a429_recordings.specs.SimulationReplies.{BeginsNoLog, IsUnsimulated, files_of}
 use Rattle.a429_recordings.proofs.simulate.prepare.Goals as goal
 
 pub returns-in_err-setting : goal.returns-in_err-setting
@@ -28,19 +27,18 @@ returns-in_err-player c =
     let q = s.proposal in
     let names = c.in_ok-setting.ensures.1 in
     let proposed = subst (λ (t : List ℕ). IsProposedBy t q) c.deref.ensures.value c.in_ok-setting.ensures.0 in
-    let fault = subst (λ (ts : List (List ℕ)). OrMemory (BeginsNoLog s ts c.args.form) e) (ap bytes_of c.deref-2.ensures.value) c.in_err-player.ensures in
-    let why : BeginsNoLog s i.logs c.args.form e → IsUnsimulated i c.args.form e = λ why. elim why [
-      | inl one ↦ inl (inr (q, proposed, subst (λ (n : Naming). IsLogFault n c.args.form.reading i.logs e) names one))
+    let why : BeginsNoLog s i c.args.form e → IsUnsimulated i c.args.form e = λ why. elim why [
+      | inl one ↦ inl (inr (q, proposed, subst (λ (n : Naming). IsLogFault n i.channels c.args.form.reading i.logs e) names one))
       | inr more ↦ inr (
         q,
         more.0,
-        record { proposed = proposed; words_are = subst (λ (n : Naming). log_words n c.args.form.reading i.logs ≡ Ok more.0) names more.1 },
+        record { proposed = proposed; words_are = subst (λ (n : Naming). log_words n i.channels c.args.form.reading i.logs ≡ Ok more.0) names more.1 },
         more.2,
         more.3,
       )
     ] in
     failed c.from_residual-in_err-player.result _ (OrMemory (IsUnsimulated i c.args.form)) e (p.1 ∙ ap Err p.2)
-    (or_memory_weaker (BeginsNoLog s i.logs c.args.form) (IsUnsimulated i c.args.form) e why fault)
+    (or_memory_weaker (BeginsNoLog s i c.args.form) (IsUnsimulated i c.args.form) e why c.in_err-player.ensures)
 
 pub returns : goal.returns
 returns c =
@@ -48,10 +46,10 @@ returns c =
     let s = c.in_ok-setting.setting in
     let names = c.in_ok-setting.ensures.1 in
     let proposed = subst (λ (t : List ℕ). IsProposedBy t s.proposal) c.deref.ensures.value c.in_ok-setting.ensures.0 in
-    let start = subst (λ (ts : List (List ℕ)). BeginsLog s ts c.args.form c.in_ok-player.player) (ap bytes_of c.deref-2.ensures.value) c.in_ok-player.ensures in
+    let start = c.in_ok-player.ensures in
     record {
       words = start.0;
-      simulated = record { proposed = proposed; words_are = subst (λ (n : Naming). log_words n c.args.form.reading i.logs ≡ Ok start.0) names start.1 };
+      simulated = record { proposed = proposed; words_are = subst (λ (n : Naming). log_words n i.channels c.args.form.reading i.logs ≡ Ok start.0) names start.1 };
       csv = c.in_ok-setting.ensures.2 ∙ c.is_csv.ensures;
       begin = start.2.0;
       ready = record { names = names; playable = start.2.1 };

@@ -1,18 +1,18 @@
-use Rattle.std.proofs.Common.{◌∙◌, ◌∷◌, ap, inl, inr}
+use Rattle.std.proofs.Common.{◌∙◌, ap, inl, inr, refl}
 use Rattle.std.specs.Prelude.{Err}
 use Rattle.std.proofs.lemmas.Result.{err_from_is_err_and}
 use Rattle.a429_console.specs.FileReadings.{IsFileRefusal, IsFirstUnreadLog}
-use Rattle.a429_console.specs.Files.{texts_of}
 use Rattle.a429_console.specs.RefusalText.{OrMemory}
 use Rattle.a429_console.proofs.ReadingParts.{read_then, read_weaker}
 use Rattle.a429_console.proofs.Refused.{failed, or_memory_weaker}
+use Rattle.a429_recordings.specs.LogItems.{logs_named}
 use Rattle.a429_recordings.specs.SimulationReplies.{IsUnreadFile}
 use Rattle.a429_recordings.proofs.simulate.read_input.Goals as goal
 
 pub returns-in_err-table : goal.returns-in_err-table
 returns-in_err-table g c =
     let table = c.args.table.now in
-    let logs = c.args.log.now ∷ texts_of c.args.more.now in
+    let logs = logs_named c.args.names in
     let e = c.in_err-table.field-0.0 in
     let p = err_from_is_err_and c.from_residual.result c.from_residual.ensures.1 in
     read_weaker c.in_err-table.ensures (λ file bad. failed c.from_residual.result _ (OrMemory (IsUnreadFile file table logs)) e (p.1 ∙ ap Err p.2)
@@ -21,7 +21,7 @@ returns-in_err-table g c =
 pub returns-in_err-logs : goal.returns-in_err-logs
 returns-in_err-logs g c =
     let table = c.args.table.now in
-    let logs = c.args.log.now ∷ texts_of c.args.more.now in
+    let logs = logs_named c.args.names in
     let e = c.in_err-logs.field-0.0 in
     let p = err_from_is_err_and c.from_residual-in_err-logs.result c.from_residual-in_err-logs.ensures.1 in
     read_then c.in_ok-table.ensures c.in_err-logs.ensures
@@ -29,4 +29,4 @@ returns-in_err-logs g c =
     (or_memory_weaker (IsFirstUnreadLog file logs) (IsUnreadFile file table logs) e (λ one. inr (c.in_ok-table.table.items, read, one)) bad))
 
 pub returns : goal.returns
-returns g c = read_then c.in_ok-table.ensures c.in_ok-logs.ensures (λ file table logs. (table, logs))
+returns g c = read_then c.in_ok-table.ensures c.in_ok-logs.ensures (λ file table logs. (table, logs, refl))

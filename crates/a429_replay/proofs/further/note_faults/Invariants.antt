@@ -6,6 +6,6 @@ use Rattle.a429_replay.proofs.further.note_faults.Given as goal
 
 abbrev pub invariant-loop-table : goal.invariant-loop-table
 invariant-loop-table l = record {
-  none : AllByRecursion (IsTakenBy l.station) l.fn.further.items → l.faults.items ≡ l.initial.faults.items;
+  none : AllByRecursion (IsTakenBy l.station) l.fn.further.items → l.warnings.items ≡ l.initial.warnings.items;
   left : AllByRecursion (IsTakenBy l.station) l.fn.further.items → AllByRecursion (IsTakenBy l.station) (into_iter_items l.table-iterator);
 }

@@ -4,9 +4,9 @@ use Rattle.std.proofs.Math.ListN.{drop_of_length-le}
 use Rattle.a429_logs.specs.Logs.{reading_after, series_entries}
 use Rattle.a429_logs.specs.declared.reading.Reading.{Reading}
 use Rattle.a429_logs.proofs.NeverFall.{series_fall}
-use Rattle.a429_console.specs.Files.{bytes_of}
+use Rattle.a429_console.specs.Files.{bytes_of, texts_of}
 use Rattle.a429_console.specs.RefusalText.{OrMemory}
-use Rattle.a429_recordings.specs.BoxLogs.{box_word, reading_behind}
+use Rattle.a429_recordings.specs.BoxLogs.{box_word_by, reading_behind}
 use Rattle.a429_recordings.specs.LogItems.{IsItemFault, items_of}
 use Rattle.a429_recordings.proofs.BoxWords.{ordered}
 use Rattle.a429_recordings.proofs.LogLines.{AreBefore, before_all, before_more, before_none, fault_told, logs_left}
@@ -14,13 +14,13 @@ use Rattle.a429_recordings.proofs.judge.words.read_words.Goals as goal
 
 pub loop-number-init : goal.loop-number-init
 loop-number-init c = record {
-  words = rw c.new-words.ensures.items (before_none (box_word c.args.plan.now c.args.names.now c.args.log) c.args.reading (bytes_of c.args.texts.now));
+  words = rw c.new-words.ensures.items (before_none (box_word_by c.args.plan.now c.args.names.now (texts_of c.args.channels.now) c.args.log) c.args.reading (bytes_of c.args.texts.now));
   next = refl;
 }
 
 pub loop-number-preserved : goal.loop-number-preserved
 loop-number-preserved c =
-    let f = box_word c.args.plan.now c.args.names.now c.args.log in
+    let f = box_word_by c.args.plan.now c.args.names.now (texts_of c.args.channels.now) c.args.log in
     let logs = c.args.texts.now in
     let all = bytes_of logs in
     let k = c.loop-number.number in
@@ -36,7 +36,7 @@ loop-number-preserved c =
 
 pub returns-in-Err-clause-read : goal.returns-in-Err-clause-read
 returns-in-Err-clause-read c =
-    let f = box_word c.args.plan.now c.args.names.now c.args.log in
+    let f = box_word_by c.args.plan.now c.args.names.now (texts_of c.args.channels.now) c.args.log in
     let logs = c.args.texts.now in
     let all = bytes_of logs in
     let k = c.loop-number.number in
@@ -49,7 +49,7 @@ returns-in-Err-clause-read c =
 
 pub returns-clause-read : goal.returns-clause-read
 returns-clause-read c =
-    let f = box_word c.args.plan.now c.args.names.now c.args.log in
+    let f = box_word_by c.args.plan.now c.args.names.now (texts_of c.args.channels.now) c.args.log in
     let all = bytes_of c.args.texts.now in
     let none : bytes_of (drop c.loop-number.number c.args.texts.now) ≡ [] = ap bytes_of (drop_of_length-le c.args.texts.now c.loop-number-test.false) in
     let its : items_of f c.args.reading all ≡ Ok c.loop-number.words.items = before_all f c.args.reading all c.loop-number.next c.loop-number.words.items
@@ -58,9 +58,9 @@ returns-clause-read c =
 
 pub returns-clause-ordered : goal.returns-clause-ordered
 returns-clause-ordered c =
-    let f = box_word c.args.plan.now c.args.names.now c.args.log in
+    let f = box_word_by c.args.plan.now c.args.names.now (texts_of c.args.channels.now) c.args.log in
     let all = bytes_of c.args.texts.now in
     let none : bytes_of (drop c.loop-number.number c.args.texts.now) ≡ [] = ap bytes_of (drop_of_length-le c.args.texts.now c.loop-number-test.false) in
     let its : items_of f c.args.reading all ≡ Ok c.loop-number.words.items = before_all f c.args.reading all c.loop-number.next c.loop-number.words.items
     (subst (λ (ls : List (List ℕ)). AreBefore f c.args.reading all c.loop-number.next ls c.loop-number.words.items) none c.loop-number.invariant.words) in
-    ordered c.args.plan.now c.args.names.now c.args.log c.args.reading.clock.last (series_entries c.args.reading all) c.loop-number.words.items (series_fall c.args.reading all) its
+    ordered c.args.plan.now c.args.names.now (texts_of c.args.channels.now) c.args.log c.args.reading.clock.last (series_entries c.args.reading all) c.loop-number.words.items (series_fall c.args.reading all) its

@@ -1,14 +1,17 @@
 use Rattle.std.proofs.Common.{◌≡◌, length}
+use Rattle.a429_console.specs.Files.{texts_of}
 use Rattle.a429_console.specs.Lines.{entries_before}
 use Rattle.a429_logs.specs.Logs.{log_entries, reading_after}
 use Rattle.a429_logs.specs.LogsLeft.{entries_left, reading_left}
 use Rattle.a429_recordings.specs.LogItems.{items_from}
-use Rattle.a429_recordings.specs.SimulationLog.{word_for}
+use Rattle.a429_recordings.specs.SimulationLog.{log_word_by}
 use Rattle.a429_recordings.proofs.simulate.log.add_words.Given as goal
 
 abbrev pub invariant-loop-entry : goal.invariant-loop-entry
 invariant-loop-entry l = record {
-  read : entries_before l.fn.words.items (items_from (word_for l.names) (log_entries l.fn.reading l.log)) ≡ entries_before l.words.items (items_from (word_for l.names) (entries_left l.reader));
+  read :
+      entries_before l.fn.words.items (items_from (log_word_by l.names (texts_of l.channels)) (log_entries l.fn.reading l.log))
+      ≡ entries_before l.words.items (items_from (log_word_by l.names (texts_of l.channels)) (entries_left l.reader));
   after : reading_left l.reader ≡ reading_after l.fn.reading l.log;
 }
 

@@ -15,8 +15,8 @@ returns c =
     let last : ℕ = end_of q words c.args.until in
     let tracks = c.in_ok-tracks.tracks.items in
     let same : c.end_of-last.result ≡ last = c.end_of-last.ensures ∙ ap (λ (ws : List LogWord). end_of q ws c.args.until) c.deref.ensures.value in
-    let start : c.silent_until.result ≡ silent_until words last =
-    c.silent_until.ensures.value ∙ (ap (λ (ws : List LogWord). silent_until ws c.end_of-last.result) c.deref-2.ensures.value ∙ ap (silent_until words) same) in
+    let start : silent_until c.deref-2.result.now c.end_of-last.result ≡ silent_until words last =
+    ap (λ (ws : List LogWord). silent_until ws c.end_of-last.result) c.deref-2.ensures.value ∙ ap (silent_until words) same in
     let made = c.in_ok-tracks.ensures in
     let are = subst (λ (n : ℕ). AreTracks q n tracks) same made.0 in
     let starts = subst (λ (n : ℕ). OfEach (StartsAt n) tracks) start made.3 in

@@ -1,0 +1,100 @@
+//! What a command warns of, if it is not refused.
+ghost use Rattle.std.specs.Prelude.{◌≡◌, IsNone};
+ghost use Rattle.a429_console.specs.declared.refusals.CommandRefusal.TheVariants.{Memory};
+
+use crate::hints::SeenTable;
+use crate::refusals::CommandRefusal;
+use a429_equipment::{Equipment, Name};
+use a429_table::FaultKind;
+use std::alloc::Global;
+
+/// Why the plan of a further table cannot be published.
+#[derive(Drop)]
+pub enum FurtherCause {
+    /// The table has a fault of this kind.
+    Fault(FaultKind),
+    /// The table has outputs without a period.
+    Unfit,
+    /// The group needs this number of buses, which is more than 16.
+    TooManyBuses {
+        group: String,
+        needed: usize,
+    },
+    /// The table is of another station than the one that runs.
+    OtherStation {
+        running: Equipment,
+        other: Equipment,
+    },
+}
+
+impl FurtherCause {
+    /// The cause by the refusal of the table. `None` if an allocation fails.
+    pub fn of(alloc: Global, refusal: &CommandRefusal) -> Option<FurtherCause>
+        ensures { refusal.now ≡ Memory → IsNone result }
+    {
+        match refusal {
+            CommandRefusal::Table(kind, _) => Some(FurtherCause::Fault(*kind)),
+            CommandRefusal::Unfit { .. } => Some(FurtherCause::Unfit),
+            CommandRefusal::TooManyBuses { group, needed } => {
+                let group = String::from_str(alloc, group.as_str()).ok()?;
+                Some(FurtherCause::TooManyBuses {
+                    group,
+                    needed: *needed,
+                })
+            }
+            _ => None,
+        }
+    }
+
+    /// The cause of a table of another station than the one that runs. `None` if an allocation fails.
+    pub fn of_stations(
+        alloc: Global,
+        running: &Equipment,
+        other: &Equipment,
+    ) -> Option<FurtherCause> {
+        let running = running.copied(alloc).ok()?;
+        let other = other.copied(alloc).ok()?;
+        Some(FurtherCause::OtherStation { running, other })
+    }
+}
+
+/// A further table whose plan cannot be published.
+#[derive(Drop)]
+pub struct FurtherFault {
+    /// Its number among the further tables, from 1.
+    pub number: usize,
+    pub cause: FurtherCause,
+    pub table: SeenTable,
+}
+
+/// What an answer that is no refusal warns of.
+#[derive(Drop)]
+pub enum Warning {
+    /// The plan of a further table cannot be published.
+    Further(FurtherFault),
+    /// In a log too many words in a row come to the receiver of this name more closely than a bus can carry them.
+    CloseWords(Name),
+}
+
+impl Warning {
+    /// Notes a further table whose plan cannot be published, unless an allocation fails.
+    pub fn note_further(
+        warnings: &mut Vec<Warning>,
+        number: usize,
+        cause: FurtherCause,
+        table: SeenTable,
+    ) {
+        let _ = warnings.push(Warning::Further(FurtherFault {
+            number,
+            cause,
+            table,
+        }));
+    }
+
+    /// Notes a receiver to which words come too closely, unless an allocation fails.
+    pub fn note_close_words(alloc: Global, warnings: &mut Vec<Warning>, receiver: &Name) {
+        if let Ok(name) = receiver.copied(alloc) {
+            let _ = warnings.push(Warning::CloseWords(name));
+        }
+    }
+}

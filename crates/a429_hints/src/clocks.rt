@@ -1,0 +1,80 @@
+//! The hint about two logs of `judge` that are not on one clock.
+
+use crate::hint::HintText;
+use a429_text::{Sheet, SheetForm};
+
+/// A box with fewer sends says nothing of clocks.
+const FEWEST_SENDS: u64 = 4;
+
+/// How many sends there are, how many of them have a word that is not right, and how many come at a wrong interval.
+#[derive(Clone, Copy)]
+struct Sends {
+    sent: u64,
+    wrong: u64,
+    unsteady: u64,
+}
+
+/// The number in the field of a row under a name of the heading. `None` if there is no such field, or no number in it.
+fn number_under(heading: &str, row: &str, name: &str) -> Option<u64> {
+    let mut fields = row.split(',');
+    for column in heading.split(',') {
+        let field = fields.next()?;
+        if column == name {
+            return field.parse::<u64>().ok();
+        }
+    }
+    None
+}
+
+/// The sends of a row. `None` if it is no row of an output.
+fn sends_of(heading: &str, row: &str) -> Option<Sends> {
+    let sent = number_under(heading, row, "sent")?;
+    let wrong = number_under(heading, row, "wrong")?;
+    let stale = number_under(heading, row, "stale")?;
+    let soon = number_under(heading, row, "soon")?;
+    let late = number_under(heading, row, "late")?;
+    Some(Sends {
+        sent,
+        wrong: wrong.saturating_add(stale),
+        unsteady: soon.saturating_add(late),
+    })
+}
+
+/// The sends of all rows of comma-separated values.
+fn all_sends(text: &str) -> Sends {
+    let mut all = Sends {
+        sent: 0,
+        wrong: 0,
+        unsteady: 0,
+    };
+    let mut lines = text.split('\n');
+    let heading = lines.next().unwrap_or("");
+    for row in lines {
+        if let Some(sends) = sends_of(heading, row) {
+            all.sent = all.sent.saturating_add(sends.sent);
+            all.wrong = all.wrong.saturating_add(sends.wrong);
+            all.unsteady = all.unsteady.saturating_add(sends.unsteady);
+        }
+    }
+    all
+}
+
+/// Whether most words are not right, though hardly any comes at a wrong interval.
+fn look_shifted(sends: Sends) -> bool {
+    sends.sent >= FEWEST_SENDS && sends.wrong > sends.sent / 2 && sends.unsteady <= sends.sent / 10
+}
+
+/// Says that a log of what was sent may have another clock than the log of what came in, by the rows of `judge`.
+pub fn tell_clocks(heard: &str, judged: &Sheet, hint: &mut HintText) {
+    let Ok(bytes) = judged.render(hint.alloc, SheetForm::Csv) else {
+        return hint.give_up();
+    };
+    let text = str::from_utf8(&bytes).unwrap_or("");
+    if look_shifted(all_sends(text)) {
+        hint.begin(
+            ": most words are wrong or stale, and hardly any is soon or late: perhaps this log and ",
+        );
+        hint.say_quoted("", heard);
+        hint.end(" are not on one clock; then shift the times of one of them");
+    }
+}

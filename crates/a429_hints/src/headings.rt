@@ -1,0 +1,167 @@
+//! Hints about the heading of rows of comma-separated values that `import` refuses.
+
+use crate::hint::HintText;
+use crate::lists::{LISTED, say_more};
+use crate::nearest::Nearest;
+use crate::sheets::Sheet;
+use a429_import::{
+    CsvLine, IMPORT_COLUMNS, ImportColumn, column_in, is_column, is_column_named, is_met,
+};
+use a429_text::renames::halves;
+use std::alloc::{AllocError, Global};
+use std::cmp::min;
+
+/// Says which of the texts HEADING=COLUMN is not met. If all are, names each column that the heading lacks or has twice.
+pub fn tell_heading(sheet: Sheet, maps: &[&str], hint: &mut HintText) {
+    hint.turn_to_line(sheet.titles.number as usize);
+    let mut are_met = true;
+    for text in maps {
+        if !is_met(sheet.titles, *text) {
+            are_met = false;
+            tell_map(sheet.titles, *text, hint);
+        }
+    }
+    if are_met {
+        tell_columns(sheet, hint);
+    }
+}
+
+/// Says why a text HEADING=COLUMN is not met.
+fn tell_map(titles: &CsvLine, text: &str, hint: &mut HintText) {
+    hint.begin(": --map ");
+    hint.say_quoted("", text);
+    let column = column_in(text);
+    if !is_column(column) {
+        hint.say_quoted(": there is no column ", text_of(column));
+        return hint.end(
+            "; the columns are group, rate, source, receiver, label, sdi, min_us or min_ms, max_us or max_ms, hold and filters",
+        );
+    }
+    let name = match halves(text.as_bytes()) {
+        Some((name, _)) => text_of(name),
+        None => "",
+    };
+    hint.say_quoted(": the heading has no ", name);
+    say_nearest_field(titles, name, hint);
+    say_fields(titles, hint);
+    hint.end("");
+}
+
+/// Names each column that the heading lacks or has twice.
+fn tell_columns(sheet: Sheet, hint: &mut HintText) {
+    let mut unlike: usize = 0;
+    for column in IMPORT_COLUMNS.as_slice() {
+        let times = times_in(&sheet.heading.line, *column);
+        if times > 1 {
+            tell_twice(column.name(), times, hint);
+        } else if times == 0 && column.is_needed() && !tell_missing(sheet, column.name(), hint) {
+            unlike = unlike.saturating_add(1);
+        }
+    }
+    if unlike > 0 {
+        tell_unlike(sheet, unlike, hint);
+    }
+}
+
+/// Names the columns that the heading lacks and that no field is like, and the fields of the heading.
+fn tell_unlike(sheet: Sheet, count: usize, hint: &mut HintText) {
+    hint.begin(if count == 1 {
+        ": this column is missing:"
+    } else {
+        ": these columns are missing:"
+    });
+    for column in IMPORT_COLUMNS.as_slice() {
+        let is_missing = times_in(&sheet.heading.line, *column) == 0 && column.is_needed();
+        if is_missing && nearest_field(hint.alloc, sheet.titles, column.name()).is_none() {
+            hint.say_text(" ", column.name());
+        }
+    }
+    say_fields(sheet.titles, hint);
+    hint.end("");
+}
+
+/// Says how many times the heading has a column.
+fn tell_twice(name: &str, times: usize, hint: &mut HintText) {
+    hint.begin(": the column ");
+    hint.say(name);
+    hint.say_count(" is in the heading ", times);
+    hint.end(" times; name it once");
+}
+
+/// Says that the heading lacks a column, and which field is like it. The answer is whether one is.
+fn tell_missing(sheet: Sheet, name: &str, hint: &mut HintText) -> bool {
+    let Some(near) = nearest_field(hint.alloc, sheet.titles, name) else {
+        return false;
+    };
+    hint.begin(": the column ");
+    hint.say_text(name, " is missing; the nearest is ");
+    hint.say_quoted("", near);
+    hint.say_short("; rename it, or add --map \"", near);
+    hint.say_text("=", name);
+    hint.end("\"");
+    true
+}
+
+/// Names the fields of a heading.
+fn say_fields(titles: &CsvLine, hint: &mut HintText) {
+    hint.say("; the heading has");
+    for place in 0..min(titles.len(), LISTED) {
+        hint.say_quoted(" ", text_of(titles.field(place)));
+    }
+    say_more(titles.len(), hint);
+}
+
+/// How many fields of a heading name this column.
+fn times_in(heading: &CsvLine, column: ImportColumn) -> usize {
+    let mut times: usize = 0;
+    for place in 0..heading.len() {
+        if is_column_named(column, heading.field(place)) {
+            times = times.saturating_add(1);
+        }
+    }
+    times
+}
+
+/// A field as a text; the empty text if it is not UTF-8.
+fn text_of(field: &[u8]) -> &str {
+    str::from_utf8(field).unwrap_or("")
+}
+
+/// The letters and digits of a text, in lower case: names of one column differ in case, spaces and signs.
+fn letters(alloc: Global, text: &str) -> Result<String, AllocError> {
+    text.chars()
+        .filter(|c| c.is_ascii_alphanumeric())
+        .map(|c| c.to_ascii_lowercase())
+        .collect(alloc)
+}
+
+/// Whether two texts have the same letters and digits.
+fn are_alike(alloc: Global, a: &str, b: &str) -> bool {
+    match (letters(alloc, a), letters(alloc, b)) {
+        (Ok(a), Ok(b)) => a.as_str() == b.as_str(),
+        _ => false,
+    }
+}
+
+/// The field of a heading that is nearest to a name. Fields that name a column are left out.
+fn nearest_field<'a>(alloc: Global, titles: &'a CsvLine, name: &'a str) -> Option<&'a str> {
+    let mut nearest = Nearest::to(name);
+    for place in 0..titles.len() {
+        let text = text_of(titles.field(place));
+        if is_column(titles.field(place)) {
+            continue;
+        }
+        if are_alike(alloc, text, name) {
+            return Some(text);
+        }
+        nearest = nearest.or(alloc, text);
+    }
+    nearest.name()
+}
+
+/// Says which field of a heading is nearest to a name.
+fn say_nearest_field(titles: &CsvLine, name: &str, hint: &mut HintText) {
+    if let Some(near) = nearest_field(hint.alloc, titles, name) {
+        hint.say_quoted("; the nearest is ", near);
+    }
+}

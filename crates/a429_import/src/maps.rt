@@ -1,0 +1,184 @@
+//! The heading of rows, by texts HEADING=COLUMN: such a text says that a heading is the name of a column.
+ghost use Rattle.std.specs.Prelude.{◌≡◌, ◌++◌, ◌∷◌, [], IfOk, List, OnOk, map, option_map, true};
+ghost use Rattle.std.specs.List.{find, list_all, list_any};
+ghost use Rattle.csv.specs.Records.{fields_of, partial_of};
+ghost use Rattle.a429_import.specs.declared.lines.CsvLine.{CsvLine};
+ghost use Rattle.a429_import.specs.ImportRows.{is_column};
+ghost use Rattle.a429_import.specs.ImportMaps.{AreNamedBy, IsNamedBy, column_in, is_about, is_met, mapped, names_by, plain, same_heading, given_texts};
+
+use crate::columns::is_column;
+use crate::lines::CsvLine;
+use a429_text::renames::halves;
+use csv::ByteRecord;
+use std::alloc::{AllocError, Global};
+
+/// A byte of a heading: in any case, and a space for an underline.
+fn plain(byte: u8) -> u8
+    ensures { result ≡ plain byte }
+{
+    if byte == b'_' {
+        b' '
+    } else {
+        byte.to_ascii_lowercase()
+    }
+}
+
+/// Whether two headings are the same: in any case, and with spaces for underlines.
+pub fn same_heading(a: &[u8], b: &[u8]) -> bool
+    ensures { result ≡ same_heading a.now b.now }
+{
+    a.len() == b.len() && a.iter().zip(b).all(|(a, b)| plain(*a) == plain(*b))
+}
+
+/// Whether the HEADING of a text is this field.
+pub fn is_about(field: &[u8], text: &str) -> bool
+    ensures { result ≡ is_about field.now text.now }
+{
+    match halves(text.as_bytes()) {
+        Some((heading, _)) => same_heading(heading, field),
+        None => false,
+    }
+}
+
+/// The COLUMN of a text; empty if it has no `=`.
+pub fn column_in(text: &str) -> &[u8]
+    ensures { result.now ≡ column_in text.now }
+{
+    match halves(text.as_bytes()) {
+        Some((_, column)) => column,
+        None => &[],
+    }
+}
+
+/// The first text that is about a field.
+fn text_about<'a>(maps: &[&'a str], field: &[u8]) -> Option<&'a str>
+    ensures { option_map (λ text. text.now) result ≡ find (is_about field.now) (given_texts maps.now) }
+{
+    for text in maps {
+        if is_about(field, *text) {
+            return Some(*text);
+        }
+    }
+    None
+}
+
+/// Whether the name of a field of a heading is that of a column: COLUMN of the first text that is about it, or its own.
+pub fn names_column_by(maps: &[&str], field: &[u8]) -> bool
+    ensures { result ≡ is_column (mapped (given_texts maps.now) field.now) }
+{
+    match text_about(maps, field) {
+        Some(text) => is_column(column_in(text)),
+        None => is_column(field),
+    }
+}
+
+/// Adds the name of a field of a heading: COLUMN of the first text that is about it, or its own. Error: an allocation
+/// failed.
+fn push_mapped(names: &mut ByteRecord, maps: &[&str], field: &[u8]) -> Result<(), AllocError>
+    requires { partial_of names.old ≡ [] }
+    ensures fields { OnOk result (fields_of names.new ≡ fields_of names.old ++ mapped (given_texts maps.now) field.now ∷ []) }
+    ensures partial { OnOk result (partial_of names.new ≡ []) }
+{
+    match text_about(maps, field) {
+        Some(text) => names.push_field(column_in(text)),
+        None => names.push_field(field),
+    }
+}
+
+/// Whether HEADING of a text is a field of the heading.
+fn has_heading(heading: &CsvLine, text: &str) -> bool
+    ensures { result ≡ list_any (λ field. is_about field text.now) (fields_of heading.now.fields) }
+{
+    for place in 0..heading.len() {
+        if is_about(heading.field(place), text) {
+            return true;
+        }
+    }
+    false
+}
+
+/// Whether COLUMN of a text is the name of a column, and HEADING a field of the heading.
+pub fn is_met(heading: &CsvLine, text: &str) -> bool
+    ensures { result ≡ is_met (fields_of heading.now.fields) text.now }
+{
+    is_column(column_in(text)) && has_heading(heading, text)
+}
+
+/// The same for all texts.
+fn are_met(heading: &CsvLine, maps: &[&str]) -> bool
+    ensures { result ≡ list_all (is_met (fields_of heading.now.fields)) (given_texts maps.now) }
+{
+    for text in maps {
+        if !is_met(heading, *text) {
+            return false;
+        }
+    }
+    true
+}
+
+/// Adds the names of the fields of a heading. Error: an allocation failed.
+fn push_all_mapped(
+    names: &mut ByteRecord,
+    maps: &[&str],
+    heading: &CsvLine,
+) -> Result<(), AllocError>
+    requires none { fields_of names.old ≡ [] }
+    requires partial { partial_of names.old ≡ [] }
+    ensures { OnOk result (fields_of names.new ≡ map (mapped (given_texts maps.now)) (fields_of heading.now.fields)) }
+{
+    for place in 0..heading.len() {
+        push_mapped(names, maps, heading.field(place))?;
+    }
+    Ok(())
+}
+
+/// The same, if all texts are met; otherwise adds nothing.
+fn push_names(names: &mut ByteRecord, maps: &[&str], heading: &CsvLine) -> Result<(), AllocError>
+    requires none { fields_of names.old ≡ [] }
+    requires partial { partial_of names.old ≡ [] }
+    ensures { OnOk result (fields_of names.new ≡ names_by (given_texts maps.now) (fields_of heading.now.fields)) }
+{
+    if are_met(heading, maps) {
+        push_all_mapped(names, maps, heading)
+    } else {
+        Ok(())
+    }
+}
+
+/// The names of the fields of a heading. Error: an allocation failed.
+fn names_of(alloc: Global, maps: &[&str], heading: &CsvLine) -> Result<ByteRecord, AllocError>
+    ensures { IfOk result (λ names. fields_of names ≡ names_by (given_texts maps.now) (fields_of heading.now.fields)) }
+{
+    let mut names = ByteRecord::new(alloc);
+    push_names(&mut names, maps, heading)?;
+    Ok(names)
+}
+
+/// A heading with its names by texts HEADING=COLUMN. It has no name if one of the texts is not met: its COLUMN is no
+/// column, or the heading has not its HEADING. Error: an allocation failed.
+pub fn named_by(alloc: Global, maps: &[&str], heading: &CsvLine) -> Result<CsvLine, AllocError>
+    ensures { IfOk result (λ named. IsNamedBy (given_texts maps.now) heading.now named) }
+{
+    Ok(CsvLine {
+        number: heading.number,
+        separator: heading.separator,
+        fields: names_of(alloc, maps, heading)?,
+    })
+}
+
+/// A line with its names, if it is the heading; another line as it is. Error: an allocation failed.
+pub fn named_line(
+    alloc: Global,
+    maps: &[&str],
+    is_below: bool,
+    line: CsvLine,
+) -> Result<CsvLine, AllocError>
+    ensures { IfOk result (λ named. (lines before : List CsvLine) → AreNamedBy (given_texts maps.now) is_below lines before
+        → AreNamedBy (given_texts maps.now) true (lines ++ line ∷ []) (before ++ named ∷ [])) }
+{
+    if is_below {
+        Ok(line)
+    } else {
+        named_by(alloc, maps, &line)
+    }
+}
