@@ -42,7 +42,7 @@ _a429() {
         encode) options="--sdi --ssm --data --bnr --bits --bcd $options" ;;
         load) options="--limit --csv --json $options" ;;
         slots) options="--group --all --c --csv --json $options" ;;
-        import) options="--map $options" ;;
+        import) options="--map --names $options" ;;
         icd) options="--csv --text --json $options" ;;
         margin | lint) options="--csv --json $options" ;;
         diff) options="--all --csv --json $options" ;;

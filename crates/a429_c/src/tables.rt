@@ -9,9 +9,8 @@ ghost use Rattle.a429_c.specs.declared.tables.TableRefusal.{TableRefusal};
 
 use crate::refusal_text::RefusalText;
 use crate::statuses::{Status, table_code};
-use a429_console::hints::SeenTable;
+use a429_console::planning::propose;
 use a429_console::refusals::CommandRefusal;
-use a429_console::refusals::tables::propose;
 use a429_slots::{OUTPUTS, Proposal};
 use std::alloc::Global;
 use std::io::Write;
@@ -36,10 +35,9 @@ pub(crate) fn read_proposal(alloc: Global, table: &[u8]) -> Result<Proposal<OUTP
     if table.len() > TABLE_LIMIT {
         return Err(TableRefusal::Call(Status::TooLarge));
     }
-    let mut seen = SeenTable::nothing();
-    match propose(alloc, table, &mut seen) {
+    match propose(alloc, table) {
         Ok(proposal) => Ok(proposal),
-        Err(refusal) => Err(TableRefusal::Table(refusal)),
+        Err(refusal) => Err(TableRefusal::Table(refusal.into_parts().0)),
     }
 }
 

@@ -86,4 +86,4 @@ icd_csv a = sheet_text Csv icd_columns (icd_rows false a.station a.plan)
 abbrev pub ImportedIcdIsSamePlan : Type 0
 ImportedIcdIsSamePlan =
     (bytes : List ℕ) (a : Proposed) (result : Result (Vec ℕ Global) ImportFault) → IsWholeInIcd bytes a
-    → IsImport [] (icd_csv a) result → ImportsPlan a result
+    → IsImport [] false (icd_csv a) result → ImportsPlan a result

@@ -1,8 +1,7 @@
-pub mod Refused
+pub mod Refusals
 pub mod ReportLines
 pub mod Left
 pub mod Ran
-pub mod Quiet
 pub mod WholeAnswers
 pub mod Imported
 pub mod LiveAnswers

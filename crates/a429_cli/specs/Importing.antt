@@ -1,16 +1,18 @@
 -- The command `import`: what it writes, and its status (profile: import).
-use Rattle.std.specs.Prelude.{◌≡◌, ◌⊎◌, ℕ, false, List, Option, Result, Ok, Err, Some}
+use Rattle.std.specs.Prelude.{◌≡◌, ◌⊎◌, ◌<◌, ℕ, Bool, List, Option, Result, Ok, Err, Some, Vec, slice_get}
+use Rattle.std.specs.List.{AllByRecursion}
+use Rattle.std.specs.declared.alloc.Global.{Global}
+use Rattle.a429_grid.specs.Grid.{HasNoGridPeriod}
+use Rattle.a429_equipment.specs.TableRecord.{TableRecord}
+use Rattle.a429_equipment.specs.declared.rows.GroupRow.{GroupRow}
+use Rattle.a429_equipment.specs.declared.rows.OutputRow.{OutputRow}
 use Rattle.a429_table.specs.Reading.{reading}
 use Rattle.a429_table.specs.declared.fault.TableFault.TheVariants as fault
-use Rattle.a429_import.specs.ImportRows.{rows_stated}
-use Rattle.a429_import.specs.ImportTables.{record_stated}
-use Rattle.a429_import.specs.Imports.{AreNamedLines, IsImport, is_wide_text}
+use Rattle.a429_import.specs.Imports.{IsImport}
 use Rattle.a429_import.specs.declared.fault.CsvFaultKind.{CsvFaultKind}
 use Rattle.a429_import.specs.declared.fault.CsvFaultKind.TheVariants as rows
 use Rattle.a429_import.specs.declared.fault.ImportFault.{ImportFault}
 use Rattle.a429_import.specs.declared.fault.ImportFault.TheVariants as wrong
-use Rattle.a429_import.specs.declared.lines.CsvLine.{CsvLine}
-use Rattle.a429_import.specs.declared.rows.ImportRow.{ImportRow}
 use Rattle.a429_cli.specs.WholeReplies.{Replies}
 use Rattle.a429_cli.specs.declared.replies.reply.Reply.{Reply}
 use Rattle.a429_console.specs.FileReadings.{IsFileRefusal, readable}
@@ -33,29 +35,47 @@ import_refusal (wrong.Wide line) = refused.Csv line csv.Wide
 import_refusal (wrong.Table fault.NoMemory) = refused.Memory
 import_refusal (wrong.Table (fault.At kind place)) = refused.Table kind place
 
--- a text is read as the record that the rows of a file's bytes state, of which none has too many fields. The heading is read by texts HEADING=COLUMN
-abbrev pub IsImportText : List (List ℕ) → List ℕ → List ℕ → Type 0
-IsImportText maps bytes text =
-    (is_wide_text maps bytes ≡ false) × (lines : List CsvLine) × AreNamedLines maps bytes lines
-    × ((rows : List ImportRow) × (rows_stated lines ≡ Ok rows) × (reading text ≡ Ok (record_stated rows)))
+-- the rows of a file's bytes are imported as this text. The heading is read by texts HEADING=COLUMN, and names are made if the flag is set
+abbrev pub IsImportText : List (List ℕ) → Bool → List ℕ → List ℕ → Type 0
+IsImportText maps names bytes text = (table : Vec ℕ Global) × IsImport maps names bytes (Ok table) × (text ≡ table.items)
 
 -- the bytes state no table for this fault
-abbrev pub IsImportFault : List (List ℕ) → List ℕ → ImportFault → Type 0
-IsImportFault maps bytes fault = IsImport maps bytes (Err fault)
+abbrev pub IsImportFault : List (List ℕ) → Bool → List ℕ → ImportFault → Type 0
+IsImportFault maps names bytes fault = IsImport maps names bytes (Err fault)
 
 -- why the bytes are refused: the first fault of their rows, otherwise that of the table which these state
-abbrev pub IsImportRefusal : List (List ℕ) → List ℕ → CommandRefusal → Type 0
-IsImportRefusal maps bytes refusal = (fault : ImportFault) × IsImportFault maps bytes fault × (refusal ≡ import_refusal fault)
+abbrev pub IsImportRefusal : List (List ℕ) → Bool → List ℕ → CommandRefusal → Type 0
+IsImportRefusal maps names bytes refusal = (fault : ImportFault) × IsImportFault maps names bytes fault × (refusal ≡ import_refusal fault)
 
--- a text is read as the record that the rows in a file state, and the status is 0
-abbrev pub IsImported : (List ℕ → Option (List ℕ)) → List (List ℕ) → List ℕ → ℕ → List ℕ → Type 0
-IsImported file maps name status text = (bytes : List ℕ) × (readable (file name) ≡ Some bytes) × IsImportText maps bytes text × (status ≡ 0)
+-- the rows in a file are imported as this text, and the status is 0
+abbrev pub IsImported : (List ℕ → Option (List ℕ)) → List (List ℕ) → Bool → List ℕ → ℕ → List ℕ → Type 0
+IsImported file maps names name status text = (bytes : List ℕ) × (readable (file name) ≡ Some bytes) × IsImportText maps names bytes text × (status ≡ 0)
 
 -- why there is none: the file, or what is in it
-abbrev pub IsNoImport : (List ℕ → Option (List ℕ)) → List (List ℕ) → List ℕ → CommandRefusal → Type 0
-IsNoImport file maps name refusal =
-    IsFileRefusal file name refusal ⊎ ((bytes : List ℕ) × (readable (file name) ≡ Some bytes) × IsImportRefusal maps bytes refusal)
+abbrev pub IsNoImport : (List ℕ → Option (List ℕ)) → List (List ℕ) → Bool → List ℕ → CommandRefusal → Type 0
+IsNoImport file maps names name refusal =
+    IsFileRefusal file name refusal ⊎ ((bytes : List ℕ) × (readable (file name) ≡ Some bytes) × IsImportRefusal maps names bytes refusal)
 
 -- the reply for a file, or its refusal
-abbrev pub IsImportReply : (List ℕ → Option (List ℕ)) → List (List ℕ) → List ℕ → Result Reply CommandRefusal → Type 0
-IsImportReply file maps name result = Replies (IsImported file maps name) (IsNoImport file maps name) result
+abbrev pub IsImportReply : (List ℕ → Option (List ℕ)) → List (List ℕ) → Bool → List ℕ → Result Reply CommandRefusal → Type 0
+IsImportReply file maps names name result = Replies (IsImported file maps names name) (IsNoImport file maps names name) result
+
+-- ---- intervals that may be milliseconds
+
+-- the interval of an output is below 1000 microseconds, and no period of the grid is within it at this bit rate
+abbrev pub IsShortInterval : ℕ → OutputRow → Type 0
+IsShortInterval rate row = (row.min_us < 1000) × (row.max_us < 1000) × HasNoGridPeriod row.min_us row.max_us rate
+
+-- the intervals of a group are not all so
+abbrev pub HasNoShortGroup : TableRecord → Type 0
+HasNoShortGroup t =
+    (g : ℕ) (group : GroupRow) (rows : List OutputRow) → slice_get t.groups g ≡ Some group → slice_get t.outputs g ≡ Some rows
+    → ¬ (AllByRecursion (IsShortInterval group.rate) rows)
+
+-- a text is read as a table without such a group, if it is read as one
+abbrev pub StatesNoShortGroup : List ℕ → Type 0
+StatesNoShortGroup text = (t : TableRecord) → reading text ≡ Ok t → HasNoShortGroup t
+
+-- the table that the rows in a file state has no such group
+abbrev pub ImportsNoShortGroup : (List ℕ → Option (List ℕ)) → List (List ℕ) → Bool → List ℕ → Type 0
+ImportsNoShortGroup file maps names name = (status : ℕ) (text : List ℕ) → IsImported file maps names name status text → StatesNoShortGroup text

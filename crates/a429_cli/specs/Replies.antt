@@ -17,7 +17,7 @@ use Rattle.a429_cli.specs.Encoding.{IsEncoded, IsNotEncoded}
 use Rattle.a429_cli.specs.Loads.{IsLoadOf}
 use Rattle.a429_cli.specs.SlotReplies.{IsNoSlots, IsSlotsOf, slots_form}
 use Rattle.a429_cli.specs.Findings.{IsDiffOf, IsLinted, IsNoDiff, IsNoLint}
-use Rattle.a429_cli.specs.Importing.{IsImported, IsNoImport}
+use Rattle.a429_cli.specs.Importing.{ImportsNoShortGroup, IsImported, IsNoImport}
 use Rattle.a429_live.specs.LiveReplies.{IsLiveReply, TakesLive}
 use Rattle.a429_replay.specs.Replaying.{IsReplay, TakesFurther}
 use Rattle.a429_recordings.specs.SimulationReplies.{IsSimulation, SimulatesSpacedWords, simulation_form}
@@ -50,7 +50,7 @@ HasStatusOf words result = (r : AskedBytes) → is_run r.verb ≡ false → Asks
 abbrev pub IsAnswerOf : Verb → (List ℕ → Option (List ℕ)) → AskedBytes → ℕ → List ℕ → Type 0
 IsAnswerOf verb.Word file r = IsWordOf r.first
 IsAnswerOf verb.Encode file r = IsEncoded r.first r.options.fields
-IsAnswerOf verb.Import file r = IsImported file r.maps r.first
+IsAnswerOf verb.Import file r = IsImported file r.maps r.options.names r.first
 IsAnswerOf verb.Plan file r = IsPlanTextOf file told.Plan r.first
 IsAnswerOf verb.Check file r = IsCheckOf file r.first r.second
 IsAnswerOf verb.Icd file r = IsPlanTextOf file (told.Document r.options.form r.options.text) r.first
@@ -68,7 +68,7 @@ IsAnswerOf _ file r = λ status bytes. ⊥
 abbrev pub IsNoAnswer : Verb → (List ℕ → Option (List ℕ)) → AskedBytes → CommandRefusal → Type 0
 IsNoAnswer verb.Word file r = IsNoWord r.first
 IsNoAnswer verb.Encode file r = IsNotEncoded r.first r.options.fields
-IsNoAnswer verb.Import file r = IsNoImport file r.maps r.first
+IsNoAnswer verb.Import file r = IsNoImport file r.maps r.options.names r.first
 IsNoAnswer verb.Check file r = IsNoCheck file r.first r.second
 IsNoAnswer verb.Slots file r = IsNoSlots file r.first r.options.group
 IsNoAnswer verb.Lint file r = IsNoLint file r.first
@@ -86,8 +86,10 @@ IsReplyOf verb.Simulate file r = IsSimulation file r.first (r.second ∷ r.more)
 IsReplyOf verb.Live file r = IsLiveReply file r
 IsReplyOf v file r = IsReplyBy (trouble_of v) (IsAnswerOf v file r) (IsNoAnswer v file r)
 
--- a command has nothing to warn of: the station takes the plans of all further tables, and the words of the log are apart
+-- A command has nothing to warn of: the station takes the plans of all further tables, the words of the log are apart, and no group of the
+-- imported table has intervals that may be milliseconds.
 abbrev pub HasNoWarning : Verb → (List ℕ → Option (List ℕ)) → AskedBytes → Type 0
+HasNoWarning verb.Import file r = ImportsNoShortGroup file r.maps r.options.names r.first
 HasNoWarning verb.Replay file r = TakesFurther file r.first r.second r.more
 HasNoWarning verb.Simulate file r = SimulatesSpacedWords file r.first (r.second ∷ r.more) r.channels (simulation_form r.options)
 HasNoWarning verb.Live file r = TakesLive file r

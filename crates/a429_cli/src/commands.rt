@@ -25,15 +25,16 @@ use crate::runs::{is_run, is_whole, trouble_of};
 use crate::slots::{SlotsForm, slots_reply};
 use crate::surveys::survey_reply;
 use crate::word::word_reply;
+use a429_console::answered::{Answered, status_of};
 use a429_console::arguments::forms::Verb;
 use a429_console::arguments::replies::explain;
 use a429_console::arguments::requests::{Asked, other_call_error, parse};
 use a429_console::files::FileReader;
 use a429_console::hints::warnings::Warning;
-use a429_console::hints::{Hints, Seen, tell_hints};
+use a429_console::hints::{Hints, tell_hints};
 use a429_console::output::endings::tell_fault;
 use a429_console::output::{Output, OutputFault};
-use a429_console::refusals::CommandRefusal;
+use a429_console::refusals::Refused;
 use a429_recordings::simulate::{LogNames, SimulationForm, simulate};
 use a429_replay::replay::replay;
 use std::alloc::Global;
@@ -122,21 +123,20 @@ fn answer_here<H: Hints, F: FileReader, O: Output, V: Output>(
 }
 
 /// Writes to `err` what can be done about a refusal, or warnings, if the output took the answer.
-fn tell_result<H: Hints, V: Output>(
+pub fn tell_result<H: Hints, V: Output>(
     alloc: Global,
     asked: &Asked,
-    answered: Result<u8, OutputFault>,
-    seen: &Seen,
+    answered: &Result<Answered, OutputFault>,
     warnings: &[Warning],
     hints: &H,
     err: &mut V,
 )
-    ensures quiet { warnings.now ≡ [] → IfOk answered (λ status. status ≡ 0 → err.new ≡ err.old) }
-    ensures left { OnErr answered (err.new ≡ err.old) }
+    ensures quiet { warnings.now ≡ [] → IfOk answered.now (λ status. status ≡ 0 → err.new ≡ err.old) }
+    ensures left { OnErr answered.now (err.new ≡ err.old) }
     ensures once { (V.failures err.new).count ≤ (V.failures err.old).count + 1 }
 {
-    if let Ok(status) = answered {
-        tell_hints(alloc, asked, status, seen, warnings, hints, err);
+    if let Ok(answered) = answered {
+        tell_hints(alloc, asked, answered, warnings, hints, err);
     }
 }
 
@@ -161,26 +161,28 @@ fn answer_with_hint<H: Hints, F: FileReader, O: Output, V: Output>(
     ensures left { OnErr result (err.new ≡ err.old) }
     ensures once { (V.failures err.new).count ≤ (V.failures err.old).count + 1 }
 {
-    let mut seen = Seen::nothing();
     let mut warnings = Vec::new(alloc);
-    let result = answer(alloc, asked, files, &mut seen, &mut warnings, out);
-    tell_result(alloc, asked, result, &seen, &warnings, hints, err);
+    let result = answer(alloc, asked, files, &mut warnings, out);
+    tell_result(alloc, asked, &result, &warnings, hints, err);
+    let status = status_of(&result);
     // `drop` keeps the proof short: a drop in place goes through all parts.
-    drop(seen);
+    drop(result);
     drop(warnings);
-    result
+    status
 }
 
-/// What a command answers that prints nothing before it has its whole answer.
+/// What a command answers that prints nothing before it has its whole answer. What it warns of is noted.
 fn reply_to<F: FileReader>(
     alloc: Global,
     asked: &Asked,
     files: &mut F,
-    seen: &mut Seen,
-) -> Result<Reply, CommandRefusal>
+    warnings: &mut Vec<Warning>,
+) -> Result<Reply, Refused>
     requires { is_whole asked.now.verb ≡ true }
-    ensures { HasRead F.answers (λ file. Replies (IsAnswerOf asked.now.verb file (asked_of asked.now))
+    ensures replied { HasRead F.answers (λ file. Replies (IsAnswerOf asked.now.verb file (asked_of asked.now))
         (IsNoAnswer asked.now.verb file (asked_of asked.now)) result) files.old files.new }
+    ensures silent { HasRead F.answers (λ file. IsSilent file (asked_of asked.now)
+        → warnings.new.items ≡ warnings.old.items) files.old files.new }
 {
     let Asked {
         first,
@@ -193,27 +195,27 @@ fn reply_to<F: FileReader>(
     match asked.verb {
         Verb::Word => word_reply(alloc, first),
         Verb::Encode => encode_reply(alloc, first, &options.fields),
-        Verb::Import => import_reply(alloc, files, first, maps, seen),
-        Verb::Plan => plan_reply(alloc, files, first, PlanText::Plan, seen),
-        Verb::Check => check_reply(alloc, files, first, second, seen),
+        Verb::Import => import_reply(alloc, files, first, maps, options.names, warnings),
+        Verb::Plan => plan_reply(alloc, files, first, PlanText::Plan),
+        Verb::Check => check_reply(alloc, files, first, second),
         Verb::Icd => {
             let kind = PlanText::Document(form, options.text);
-            plan_reply(alloc, files, first, kind, seen)
+            plan_reply(alloc, files, first, kind)
         }
-        Verb::Margin => plan_reply(alloc, files, first, PlanText::Margin(form), seen),
-        Verb::Load => load_reply(alloc, files, first, options.limit, form, seen),
+        Verb::Margin => plan_reply(alloc, files, first, PlanText::Margin(form)),
+        Verb::Load => load_reply(alloc, files, first, options.limit, form),
         Verb::Slots => {
             let form = SlotsForm::of(options);
-            slots_reply(alloc, files, first, options.group, form, seen)
+            slots_reply(alloc, files, first, options.group, form)
         }
-        Verb::Lint => lint_reply(alloc, files, first, form, seen),
-        Verb::Diff => diff_reply(alloc, files, first, second, options.all, form, seen),
+        Verb::Lint => lint_reply(alloc, files, first, form),
+        Verb::Diff => diff_reply(alloc, files, first, second, options.all, form),
         Verb::Draw => {
             let picture = Picture::of(options);
-            drawing_reply(alloc, files, first, options.group, picture, seen)
+            drawing_reply(alloc, files, first, options.group, picture)
         }
-        Verb::Survey => survey_reply(alloc, files, asked, seen),
-        Verb::Judge => judge_reply(alloc, files, asked, seen),
+        Verb::Survey => survey_reply(alloc, files, asked),
+        Verb::Judge => judge_reply(alloc, files, asked),
         Verb::Lines | Verb::Replay | Verb::Simulate | Verb::Live => unreachable!(),
     }
 }
@@ -223,19 +225,21 @@ fn answer_whole<F: FileReader, O: Output>(
     alloc: Global,
     asked: &Asked,
     files: &mut F,
-    seen: &mut Seen,
+    warnings: &mut Vec<Warning>,
     out: &mut O,
-) -> Result<u8, OutputFault>
+) -> Result<Answered, OutputFault>
     requires { is_whole asked.now.verb ≡ true }
     ensures read { HasRead F.answers (λ file. IfOk result
         (IsPut (IsReplyOrMemory file (asked_of asked.now)) (O.contents out.old) (O.contents out.new))) files.old files.new }
+    ensures silent { HasRead F.answers (λ file. IsSilent file (asked_of asked.now)
+        → warnings.new.items ≡ warnings.old.items) files.old files.new }
     ensures status { IfOk result (λ status. status ≤ trouble_of asked.now.verb) }
     ensures few { IfOk result (λ status. status ≤ 2) }
     ensures flushed { OnOk result (IsTrue (O.is_flushed out.new)) }
     ensures faults { CountsFault result (O.failures out.old) (O.failures out.new) }
 {
-    let reply = reply_to(alloc, asked, files, seen);
-    put_reply(alloc, reply, trouble_of(asked.verb), seen, out)
+    let reply = reply_to(alloc, asked, files, warnings);
+    put_reply(alloc, reply, trouble_of(asked.verb), out)
 }
 
 /// The names of the logs that a request has after its table.
@@ -255,10 +259,9 @@ fn answer_by_lines<F: FileReader, O: Output>(
     alloc: Global,
     asked: &Asked,
     files: &mut F,
-    seen: &mut Seen,
     warnings: &mut Vec<Warning>,
     out: &mut O,
-) -> Result<u8, OutputFault>
+) -> Result<Answered, OutputFault>
     requires run { is_run asked.now.verb ≡ false }
     requires whole { is_whole asked.now.verb ≡ false }
     ensures read { HasRead F.answers (λ file. IfOk result
@@ -277,8 +280,8 @@ fn answer_by_lines<F: FileReader, O: Output>(
         ..
     } = asked;
     match asked.verb {
-        Verb::Lines => tell_lines(alloc, files, first, more, seen, out),
-        Verb::Replay => replay(alloc, files, first, second, more, seen, warnings, out),
+        Verb::Lines => tell_lines(alloc, files, first, more, out),
+        Verb::Replay => replay(alloc, files, first, second, more, warnings, out),
         Verb::Simulate => {
             let form = SimulationForm::of(options);
             simulate(
@@ -287,7 +290,6 @@ fn answer_by_lines<F: FileReader, O: Output>(
                 first,
                 simulated_logs(asked),
                 form,
-                seen,
                 warnings,
                 out,
             )
@@ -301,10 +303,9 @@ fn answer<F: FileReader, O: Output>(
     alloc: Global,
     asked: &Asked,
     files: &mut F,
-    seen: &mut Seen,
     warnings: &mut Vec<Warning>,
     out: &mut O,
-) -> Result<u8, OutputFault>
+) -> Result<Answered, OutputFault>
     requires { is_run asked.now.verb ≡ false }
     ensures read { HasRead F.answers (λ file. IfOk result
         (IsPut (IsReplyOrMemory file (asked_of asked.now)) (O.contents out.old) (O.contents out.new))) files.old files.new }
@@ -316,8 +317,8 @@ fn answer<F: FileReader, O: Output>(
     ensures faults { CountsFault result (O.failures out.old) (O.failures out.new) }
 {
     if is_whole(asked.verb) {
-        answer_whole(alloc, asked, files, seen, out)
+        answer_whole(alloc, asked, files, warnings, out)
     } else {
-        answer_by_lines(alloc, asked, files, seen, warnings, out)
+        answer_by_lines(alloc, asked, files, warnings, out)
     }
 }

@@ -11,9 +11,9 @@ use crate::replies::reply::Reply;
 use a429_console::arguments::requests::Options;
 use a429_console::files::FileReader;
 use a429_console::files::reading::read_file;
-use a429_console::hints::Seen;
-use a429_console::refusals::CommandRefusal;
-use a429_console::refusals::tables::{no_group, propose};
+use a429_console::planning::{propose, with_plan};
+use a429_console::refusals::tables::no_group;
+use a429_console::refusals::{CommandRefusal, Refused};
 use a429_documents::{Drawing, DrawingFault, DrawingForm, draw_text, page_text};
 use a429_equipment::GroupRow;
 use a429_slots::{OUTPUTS, Proposal};
@@ -84,11 +84,7 @@ fn refusal_of(fault: DrawingFault) -> CommandRefusal
 }
 
 /// A picture of what is drawn: an image, or a page with it. An allocation that fails is refused.
-fn picture_text(
-    alloc: Global,
-    drawing: &Drawing<'_>,
-    is_page: bool,
-) -> Result<Reply, CommandRefusal>
+fn picture_text(alloc: Global, drawing: &Drawing<'_>, is_page: bool) -> Result<Reply, Refused>
     ensures done { IfOk result (λ reply. reply.status ≡ 0) }
     ensures refused { IfErr result (λ refusal. refusal ≡ Memory) }
 {
@@ -99,7 +95,7 @@ fn picture_text(
     };
     match text {
         Ok(text) => Ok(Reply::done(text)),
-        Err(_) => Err(CommandRefusal::Memory),
+        Err(_) => Err(Refused::plain(CommandRefusal::Memory)),
     }
 }
 
@@ -109,13 +105,13 @@ fn image_numbered(
     proposal: &Proposal<OUTPUTS>,
     number: Option<usize>,
     picture: Picture,
-) -> Result<Reply, CommandRefusal>
+) -> Result<Reply, Refused>
     requires { IfSome number (λ number. number < length (groups_of proposal.now.plan)) }
     ensures { GivesNumbered proposal.now number picture result }
 {
     match Drawing::of(alloc, proposal, number, picture.form) {
         Ok(drawing) => picture_text(alloc, &drawing, picture.is_page),
-        Err(fault) => Err(refusal_of(fault)),
+        Err(fault) => Err(Refused::plain(refusal_of(fault))),
     }
 }
 
@@ -126,7 +122,7 @@ fn image_of(
     proposal: &Proposal<OUTPUTS>,
     group: Option<&str>,
     picture: Picture,
-) -> Result<Reply, CommandRefusal>
+) -> Result<Reply, Refused>
     ensures { GivesNamedImage proposal.now (option_copied group.entry) picture result }
 {
     let _plan = proposal.plan();
@@ -142,16 +138,12 @@ pub fn drawing_reply<F: FileReader>(
     name: &str,
     group: Option<&str>,
     picture: Picture,
-    seen: &mut Seen,
-) -> Result<Reply, CommandRefusal>
+) -> Result<Reply, Refused>
     ensures { HasRead F.answers (λ file. Replies (IsImageOf file name.now (option_copied group.entry) picture)
         (IsNoImage file name.now (option_copied group.entry) picture) result) files.old files.new }
 {
-    let table = read_file(alloc, files, name, seen)?;
-    let proposal = propose(alloc, &table, &mut seen.table)?;
+    let table = read_file(alloc, files, name)?;
+    let proposal = propose(alloc, &table)?;
     let image = image_of(alloc, &proposal, group, picture);
-    if image.is_err() {
-        seen.proposal = Some(proposal);
-    }
-    image
+    with_plan(image, proposal)
 }

@@ -7,7 +7,7 @@ ghost use Rattle.a429_cli.specs.WholeReplies.{Replies};
 use crate::replies::reply::Reply;
 use a429_console::arguments::requests::FieldOptions;
 use a429_console::output::from_end::push_hex;
-use a429_console::refusals::CommandRefusal;
+use a429_console::refusals::{CommandRefusal, Refused};
 use a429_word::{Label, Sdi, Ssm, Word, decimal_number, raw_word};
 use std::alloc::Global;
 
@@ -160,18 +160,14 @@ fn given_word(label: Label, fields: &FieldOptions<'_>) -> Option<Word>
 
 /// The word of a label, an SDI, an SSM and data: eight hexadecimal digits on a line, with status 0. A text that is no label is
 /// refused (`label-text`), otherwise data that is not in its form or does not fit its bits (`data-text`).
-pub fn encode_reply(
-    alloc: Global,
-    label: &str,
-    fields: &FieldOptions<'_>,
-) -> Result<Reply, CommandRefusal>
+pub fn encode_reply(alloc: Global, label: &str, fields: &FieldOptions<'_>) -> Result<Reply, Refused>
     ensures { Replies (IsEncoded label.now (fields_of fields.now)) (IsNotEncoded label.now (fields_of fields.now)) result }
 {
     let Some(label) = Label::of_digits(label.as_bytes()) else {
-        return Err(CommandRefusal::LabelText);
+        return Err(Refused::plain(CommandRefusal::LabelText));
     };
     let Some(word) = given_word(label, fields) else {
-        return Err(CommandRefusal::DataText);
+        return Err(Refused::plain(CommandRefusal::DataText));
     };
     let mut line = Vec::new(alloc);
     push_hex(&mut line, b"", word.raw())?;

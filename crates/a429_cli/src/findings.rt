@@ -2,17 +2,19 @@
 ghost use Rattle.std.specs.Prelude.{◌≡◌, ◌≤◌, IfOk, MatchResult};
 ghost use Rattle.a429_console.specs.Readings.{HasRead};
 ghost use Rattle.a429_console.specs.RefusalText.{OrMemory};
+ghost use Rattle.a429_console.specs.Tables.{IsProposedBy, IsTableRefusal};
 ghost use Rattle.a429_cli.specs.Findings.{AnswersDiff, IsDiffBetween, IsFound, IsLint, IsLinted, IsNoDiffBetween, IsNoLint, found_status, names_of};
 ghost use Rattle.a429_cli.specs.WholeReplies.{Replies};
 
 use crate::replies::reply::Reply;
+use a429_console::answered::Found;
 use a429_console::files::FileReader;
 use a429_console::files::reading::read_file;
-use a429_console::hints::Seen;
-use a429_console::refusals::CommandRefusal;
-use a429_console::refusals::tables::{propose, read_table};
+use a429_console::planning::{propose, read_table};
+use a429_console::refusals::Refused;
 use a429_documents::{diff_sheet, lint_sheet};
 use a429_equipment::Equipment;
+use a429_slots::{OUTPUTS, Proposal};
 use a429_text::{Rows, Sheet, SheetForm};
 use std::alloc::{AllocError, Global};
 
@@ -31,22 +33,20 @@ fn found_reply(alloc: Global, sheet: &Sheet, form: SheetForm) -> Result<Reply, A
 {
     let status = found_status(&sheet.rows)?;
     let bytes = sheet.render(alloc, form)?;
-    Ok(Reply { bytes, status })
+    Ok(Reply {
+        bytes,
+        status,
+        found: Found::Nothing,
+    })
 }
 
-/// The likely mistakes in an equipment. The rows are kept for a hint.
-fn lint(
-    alloc: Global,
-    equipment: &Equipment,
-    form: SheetForm,
-    seen: &mut Seen,
-) -> Result<Reply, AllocError>
+/// The likely mistakes in an equipment. Its rows are left for a hint.
+fn lint(alloc: Global, equipment: &Equipment, form: SheetForm) -> Result<Reply, AllocError>
     ensures { IfOk result (λ reply. IsLint form equipment.now reply.status reply.bytes.items) }
 {
     let sheet = lint_sheet(alloc, equipment)?;
-    let reply = found_reply(alloc, &sheet, form);
-    seen.findings = Some(sheet);
-    reply
+    let reply = found_reply(alloc, &sheet, form)?;
+    Ok(reply.with(Found::Rows(sheet)))
 }
 
 /// The likely mistakes in the table in a file, a row for each finding. The status is 0 if there is none, otherwise 1. The
@@ -56,13 +56,22 @@ pub fn lint_reply<F: FileReader>(
     files: &mut F,
     name: &str,
     form: SheetForm,
-    seen: &mut Seen,
-) -> Result<Reply, CommandRefusal>
+) -> Result<Reply, Refused>
     ensures { HasRead F.answers (λ file. Replies (IsLinted file form name.now) (IsNoLint file name.now) result) files.old files.new }
 {
-    let table = read_file(alloc, files, name, seen)?;
-    let equipment = read_table(alloc, &table, &mut seen.table)?;
-    Ok(lint(alloc, &equipment, form, seen)?)
+    let table = read_file(alloc, files, name)?;
+    let equipment = read_table(alloc, &table)?;
+    Ok(lint(alloc, &equipment, form)?)
+}
+
+/// The proposal of the bytes of the second of two tables. Error: the table's fault, otherwise the first fault of its plan.
+fn propose_second(alloc: Global, table: &[u8]) -> Result<Proposal<OUTPUTS>, Refused>
+    ensures { MatchResult result (IsProposedBy table.now) (OrMemory (IsTableRefusal table.now)) }
+{
+    match propose(alloc, table) {
+        Ok(proposal) => Ok(proposal),
+        Err(refusal) => Err(refusal.of_second_table()),
+    }
 }
 
 /// What changes from the plan of a table to that of another. The first table is refused first, then its plan, then the
@@ -73,13 +82,11 @@ fn diff_between(
     other: &[u8],
     all: bool,
     form: SheetForm,
-    seen: &mut Seen,
-) -> Result<Reply, CommandRefusal>
+) -> Result<Reply, Refused>
     ensures { Replies (IsDiffBetween all form table.now other.now) (IsNoDiffBetween table.now other.now) result }
 {
-    let first = propose(alloc, table, &mut seen.table)?;
-    seen.is_second = true;
-    let second = propose(alloc, other, &mut seen.table)?;
+    let first = propose(alloc, table)?;
+    let second = propose_second(alloc, other)?;
     let sheet = diff_sheet(alloc, &first, &second, all);
     Ok(found_reply(alloc, &sheet, form)?)
 }
@@ -94,11 +101,10 @@ pub fn diff_reply<F: FileReader>(
     other: &str,
     all: bool,
     form: SheetForm,
-    seen: &mut Seen,
-) -> Result<Reply, CommandRefusal>
+) -> Result<Reply, Refused>
     ensures { HasRead F.answers (λ file. AnswersDiff file all form table.now other.now result) files.old files.new }
 {
-    let table = read_file(alloc, files, table, seen)?;
-    let other = read_file(alloc, files, other, seen)?;
-    diff_between(alloc, &table, &other, all, form, seen)
+    let table = read_file(alloc, files, table)?;
+    let other = read_file(alloc, files, other)?;
+    diff_between(alloc, &table, &other, all, form)
 }

@@ -1,14 +1,18 @@
 //! The command `import`: an equipment table from rows of comma-separated values.
 ghost use Rattle.std.specs.Prelude.{◌≡◌};
 ghost use Rattle.a429_console.specs.Readings.{HasRead};
-ghost use Rattle.a429_cli.specs.Importing.{IsImportReply, csv_kind, import_refusal};
+ghost use Rattle.a429_cli.specs.Importing.{ImportsNoShortGroup, IsImportReply, csv_kind, import_refusal};
 ghost use Rattle.a429_import.specs.ImportMaps.{given_texts};
 
+mod short_intervals;
+
+use crate::import::short_intervals::note_short_intervals;
 use crate::replies::reply::Reply;
 use a429_console::files::FileReader;
 use a429_console::files::reading::read_file;
-use a429_console::hints::{Seen, SeenRows};
-use a429_console::refusals::{CommandRefusal, CsvKind};
+use a429_console::hints::warnings::Warning;
+use a429_console::refusals::evidence::{Evidence, RowsEvidence};
+use a429_console::refusals::{CommandRefusal, CsvKind, Refused};
 use a429_import::{CsvFaultKind, ImportFault, import_table};
 use a429_table::TableFault;
 use std::alloc::Global;
@@ -44,34 +48,41 @@ fn import_refusal(fault: &ImportFault) -> CommandRefusal
 }
 
 /// Rows that are refused, for a hint, by their bytes.
-fn seen_rows(bytes: Vec<u8>, fault: &ImportFault) -> SeenRows {
+fn rows_evidence(bytes: Vec<u8>, fault: &ImportFault) -> RowsEvidence {
     let column = match fault {
         ImportFault::Csv { column, .. } => *column,
         _ => None,
     };
-    SeenRows {
+    RowsEvidence {
         bytes,
         column: column.map(|column| column.name()),
     }
 }
 
-/// The table that the rows in a file state, with status 0. Their heading is read by texts HEADING=COLUMN. The file is refused first, then the first of the rows that has a
-/// fault, then the table.
+/// The table that the rows in a file state, with status 0. Their heading is read by texts HEADING=COLUMN. With `names`,
+/// texts of groups, sources and receivers become names. The file is refused first, then the first of the rows that has a
+/// fault, then the table. Each group of the table whose intervals may be milliseconds is noted.
 pub fn import_reply<F: FileReader>(
     alloc: Global,
     files: &mut F,
     name: &str,
     maps: &[&str],
-    seen: &mut Seen,
-) -> Result<Reply, CommandRefusal>
-    ensures { HasRead F.answers (λ file. IsImportReply file (given_texts maps.now) name.now result) files.old files.new }
+    names: bool,
+    warnings: &mut Vec<Warning>,
+) -> Result<Reply, Refused>
+    ensures replied { HasRead F.answers (λ file. IsImportReply file (given_texts maps.now) names name.now result) files.old files.new }
+    ensures silent { HasRead F.answers (λ file. ImportsNoShortGroup file (given_texts maps.now) names name.now
+        → warnings.new.items ≡ warnings.old.items) files.old files.new }
 {
-    let bytes = read_file(alloc, files, name, seen)?;
-    match import_table(alloc, maps, &bytes) {
-        Ok(text) => Ok(Reply::done(text)),
+    let bytes = read_file(alloc, files, name)?;
+    match import_table(alloc, maps, names, &bytes) {
+        Ok(text) => {
+            note_short_intervals(alloc, &text, warnings);
+            Ok(Reply::done(text))
+        }
         Err(fault) => {
-            seen.rows = Some(seen_rows(bytes, &fault));
-            Err(import_refusal(&fault))
+            let rows = rows_evidence(bytes, &fault);
+            Err(Refused::with(import_refusal(&fault), Evidence::Rows(rows)))
         }
     }
 }

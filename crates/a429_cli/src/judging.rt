@@ -9,8 +9,7 @@ ghost use Rattle.a429_cli.specs.WholeReplies.{Replies};
 use crate::replies::reply::Reply;
 use a429_console::arguments::requests::Asked;
 use a429_console::files::FileReader;
-use a429_console::hints::Seen;
-use a429_console::refusals::CommandRefusal;
+use a429_console::refusals::Refused;
 use a429_recordings::judge::{JudgeForm, JudgeNames, judge_logs};
 use std::alloc::Global;
 
@@ -41,16 +40,16 @@ pub fn judge_reply<F: FileReader>(
     alloc: Global,
     files: &mut F,
     asked: &Asked,
-    seen: &mut Seen,
-) -> Result<Reply, CommandRefusal>
+) -> Result<Reply, Refused>
     ensures { HasRead F.answers (λ file. Replies (IsJudgement file (asked_of asked.now))
         (IsUnjudged file (asked_of asked.now)) result) files.old files.new }
 {
     let form = JudgeForm::of(&asked.options);
-    match judge_logs(alloc, files, names_in(asked), form, seen) {
+    match judge_logs(alloc, files, names_in(asked), form) {
         Ok(judged) => Ok(Reply {
             bytes: judged.text,
             status: judge_status(judged.found),
+            found: judged.rows,
         }),
         Err(refusal) => Err(refusal),
     }

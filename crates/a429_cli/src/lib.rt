@@ -35,14 +35,15 @@ mod slots;
 mod surveys;
 mod word;
 
+pub use a429_console::answered::Answered;
 pub use a429_console::arguments::given::{Arguments, given_words};
 pub use a429_console::arguments::requests::Asked;
 pub use a429_console::files::disk::DiskFiles;
 pub use a429_console::files::memory::MemoryFiles;
 pub use a429_console::files::{FileFault, FileReader, FileTrouble, LARGEST_FILE};
-pub use a429_console::hints::{Hints, Seen};
+pub use a429_console::hints::Hints;
 pub use a429_console::output::{CountedWriter, Output, OutputFault};
-pub use a429_console::refusals::CommandRefusal;
+pub use a429_console::refusals::{CommandRefusal, Refused};
 pub use a429_live::{NoProgress, Progress, ProgressLine};
 pub use commands::command;
 pub use live::command_live;

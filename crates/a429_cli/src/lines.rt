@@ -11,12 +11,13 @@ ghost use Rattle.a429_console.specs.Outputs.{CountsFault, IsPut};
 pub mod reports;
 
 use crate::lines::reports::{print_report, push_rest};
+use a429_console::answered::{Answered, plain_answer};
 use a429_console::files::FileReader;
 use a429_console::files::reading::read_file;
-use a429_console::hints::{Seen, SeenLine};
 use a429_console::output::endings::finish;
 use a429_console::output::{Output, OutputFault};
-use a429_console::refusals::{CommandRefusal, refuse};
+use a429_console::refusals::evidence::Evidence;
+use a429_console::refusals::{CommandRefusal, Refused, refuse};
 use a429_filter::{Filter, FilterSet};
 use a429_line::{LineReader, first_bad_byte};
 use std::alloc::Global;
@@ -53,35 +54,21 @@ fn read_filters(texts: &[&str]) -> Result<FilterSet, CommandRefusal>
     Ok(filters)
 }
 
-/// The line of the byte at this place, up to that byte, for a hint. `None` if an allocation fails.
-fn line_at(alloc: Global, bytes: &[u8], place: usize) -> Option<SeenLine> {
-    let before = bytes.get(..place)?;
-    let feeds = before.iter().filter(|byte| **byte == b'\n').count();
-    SeenLine::of(alloc, before, feeds.saturating_add(1)).ok()
-}
-
-/// Keeps the byte at this place, and its line up to that byte, for a hint. If an allocation fails, no line is kept.
-fn keep_byte(alloc: Global, bytes: &[u8], place: usize, seen: &mut Seen) {
-    seen.line = line_at(alloc, bytes, place);
-    seen.byte = bytes.get(place).copied();
-}
-
 /// Reads a line file, and the filters of its receiver. Error: the file, then a filter, then a byte.
 fn read_line<F: FileReader>(
     alloc: Global,
     files: &mut F,
     name: &str,
     filters: &[&str],
-    seen: &mut Seen,
-) -> Result<LineInput, CommandRefusal>
+) -> Result<LineInput, Refused>
     ensures { HasRead F.answers (λ file. IsLineReading file name.now (texts_of filters.now) result) files.old files.new }
 {
-    let bytes = read_file(alloc, files, name, seen)?;
+    let bytes = read_file(alloc, files, name)?;
     let filters = read_filters(filters)?;
     match first_bad_byte(&bytes) {
         Some(place) => {
-            keep_byte(alloc, &bytes, place, seen);
-            Err(CommandRefusal::LineByte(place))
+            let evidence = Evidence::of_byte(alloc, &bytes, place);
+            Err(Refused::with(CommandRefusal::LineByte(place), evidence))
         }
         None => Ok(LineInput { bytes, filters }),
     }
@@ -134,16 +121,15 @@ pub fn tell_lines<F: FileReader, O: Output>(
     files: &mut F,
     name: &str,
     filters: &[&str],
-    seen: &mut Seen,
     out: &mut O,
-) -> Result<u8, OutputFault>
+) -> Result<Answered, OutputFault>
     ensures told { HasToldLines F.answers O.contents name.now (texts_of filters.now) files.old files.new out.old out.new result }
     ensures status { IfOk result (λ status. status ≤ 1) }
     ensures flushed { OnOk result (IsTrue (O.is_flushed out.new)) }
     ensures faults { CountsFault result (O.failures out.old) (O.failures out.new) }
 {
-    match read_line(alloc, files, name, filters, seen) {
-        Ok(line) => tell_line(alloc, &line, out),
-        Err(refusal) => refuse(alloc, refusal, seen, out),
+    match read_line(alloc, files, name, filters) {
+        Ok(line) => plain_answer(tell_line(alloc, &line, out)),
+        Err(refusal) => refuse(alloc, refusal, out),
     }
 }

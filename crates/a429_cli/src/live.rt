@@ -10,11 +10,13 @@ ghost use Rattle.a429_live.specs.LiveReplies.{IsLiveReply, TakesLive};
 ghost use Rattle.a429_cli.specs.Replies.{IsReplyOrMemory, RepliesToLive, RepliesToLiveByReader, IsSilent};
 ghost use Rattle.a429_console.specs.Usage.{elsewhere, is_run, live_kinds_of_words};
 
+use crate::commands::tell_result;
 use crate::runs::is_run;
+use a429_console::answered::status_of;
 use a429_console::arguments::replies::explain;
 use a429_console::arguments::requests::{Asked, other_call_error, parse};
 use a429_console::files::FileReader;
-use a429_console::hints::{Hints, Seen, tell_hints};
+use a429_console::hints::Hints;
 use a429_console::output::endings::tell_fault;
 use a429_console::output::{Output, OutputFault};
 use a429_live::{Progress, run_station};
@@ -152,23 +154,12 @@ fn run_with_hint<
     ensures left { OnErr result (err.new ≡ err.old) }
     ensures once { (V.failures err.new).count ≤ (V.failures err.old).count + 1 }
 {
-    let mut seen = Seen::nothing();
     let mut warnings = Vec::new(alloc);
-    let result = run_station(
-        rt,
-        alloc,
-        files,
-        asked,
-        &mut seen,
-        &mut warnings,
-        out,
-        progress,
-    );
-    if let Ok(status) = result {
-        tell_hints(alloc, asked, status, &seen, &warnings, hints, err);
-    }
+    let result = run_station(rt, alloc, files, asked, &mut warnings, out, progress);
+    tell_result(alloc, asked, &result, &warnings, hints, err);
+    let status = status_of(&result);
     // `drop` keeps the proof short: a drop in place goes through all parts.
-    drop(seen);
+    drop(result);
     drop(warnings);
-    result
+    status
 }

@@ -6,11 +6,11 @@ ghost use Rattle.a429_cli.specs.PlanReplies.{IsNoPlan};
 ghost use Rattle.a429_cli.specs.WholeReplies.{Replies};
 
 use crate::replies::reply::Reply;
+use a429_console::answered::Found;
 use a429_console::files::FileReader;
 use a429_console::files::reading::read_file;
-use a429_console::hints::Seen;
-use a429_console::refusals::CommandRefusal;
-use a429_console::refusals::tables::propose;
+use a429_console::planning::propose;
+use a429_console::refusals::Refused;
 use a429_documents::load_sheet;
 use a429_slots::{OUTPUTS, Proposal};
 use a429_text::SheetForm;
@@ -48,6 +48,7 @@ fn load_of(
     Ok(Reply {
         bytes,
         status: above_status(load.above),
+        found: Found::Nothing,
     })
 }
 
@@ -59,11 +60,10 @@ pub fn load_reply<F: FileReader>(
     name: &str,
     limit: Option<u32>,
     form: SheetForm,
-    seen: &mut Seen,
-) -> Result<Reply, CommandRefusal>
+) -> Result<Reply, Refused>
     ensures { HasRead F.answers (λ file. Replies (IsLoadOf file limit form name.now) (IsNoPlan file name.now) result) files.old files.new }
 {
-    let table = read_file(alloc, files, name, seen)?;
-    let proposal = propose(alloc, &table, &mut seen.table)?;
+    let table = read_file(alloc, files, name)?;
+    let proposal = propose(alloc, &table)?;
     Ok(load_of(alloc, &proposal, limit, form)?)
 }

@@ -11,11 +11,13 @@ ghost use Rattle.a429_console.specs.Tables.{IsUnfitNamed};
 
 use crate::replies::reply::Reply;
 use a429_cert::{NoVerdict, Verdict, judge, plan_text};
+use a429_console::answered::{Found, Objection};
 use a429_console::files::FileReader;
 use a429_console::files::reading::read_file;
-use a429_console::hints::{Objection, Seen};
-use a429_console::refusals::CommandRefusal;
-use a429_console::refusals::tables::{propose, read_table, unfit};
+use a429_console::planning::{propose, read_table};
+use a429_console::refusals::evidence::TableEvidence;
+use a429_console::refusals::tables::unfit;
+use a429_console::refusals::{CommandRefusal, Refused};
 use a429_documents::{icd_sheet, margin_sheet};
 use a429_equipment::Equipment;
 use a429_slots::{OUTPUTS, Proposal};
@@ -23,6 +25,7 @@ use a429_text::SheetForm;
 use std::alloc::{AllocError, Global};
 use std::io;
 use std::io::Write;
+use std::marker::Model;
 
 /// What is printed of a plan.
 #[derive(Clone, Copy)]
@@ -59,51 +62,89 @@ pub fn plan_reply<F: FileReader>(
     files: &mut F,
     name: &str,
     kind: PlanText,
-    seen: &mut Seen,
-) -> Result<Reply, CommandRefusal>
+) -> Result<Reply, Refused>
     ensures { HasRead F.answers (λ file. Replies (IsPlanTextOf file kind name.now) (IsNoPlan file name.now) result) files.old files.new }
 {
-    let table = read_file(alloc, files, name, seen)?;
-    let proposal = propose(alloc, &table, &mut seen.table)?;
+    let table = read_file(alloc, files, name)?;
+    let proposal = propose(alloc, &table)?;
     let text = text_of(alloc, kind, &proposal)?;
     Ok(Reply::done(text))
 }
 
-/// The refusal of an unfit output, by the names of its group and its source. The equipment is kept for a hint.
-fn keep_unfit(
-    alloc: Global,
+/// What a verdict finds wrong, for a hint.
+fn objection_of(verdict: Verdict) -> Option<Objection> {
+    match verdict {
+        Verdict::Fewest => None,
+        Verdict::No(no) => Some(Objection {
+            line: no.line,
+            reason: no.reason.text(),
+        }),
+    }
+}
+
+/// A verdict on the text of a plan, and what it was judged by, for a hint. Clauses see the verdict.
+#[derive(Drop)]
+struct JudgedText {
+    verdict: Verdict,
     equipment: Equipment,
-    group: usize,
-    output: usize,
-    seen: &mut Seen,
-) -> CommandRefusal
+    text: Vec<u8>,
+}
+
+impl Model for JudgedText {
+    ghost use Rattle.a429_cert.specs.declared.verdicts.Verdict.{Verdict};
+
+    ghost Value = { Verdict };
+
+    ghost view = { λ j. j.verdict };
+}
+
+impl JudgedText {
+    ghost use Rattle.std.specs.Prelude.{◌≡◌};
+
+    /// The verdict.
+    fn verdict(&self) -> Verdict
+        ensures { result ≡ self.now }
+    {
+        self.verdict
+    }
+
+    /// What the verdict finds wrong, for a hint.
+    fn into_found(self) -> Found {
+        match objection_of(self.verdict) {
+            None => Found::Nothing,
+            Some(objection) => Found::Objection {
+                objection,
+                equipment: self.equipment,
+                text: self.text,
+            },
+        }
+    }
+}
+
+/// The refusal of an unfit output, by the names of its group and its source, with the equipment.
+fn refuse_unfit(alloc: Global, equipment: Equipment, group: usize, output: usize) -> Refused
     ensures { OrMemory (IsUnfitNamed equipment group output) result }
 {
     let refusal = unfit(alloc, &equipment, group, output);
-    seen.table.equipment = Some(equipment);
-    refusal
+    Refused::of_table(refusal, TableEvidence::of_equipment(equipment))
 }
 
 /// The verdict on a text by a table's bytes. Error: the table's fault, then the first output in table order whose
 /// interval fits no period of the grid.
-fn verdict_on(
-    alloc: Global,
-    table: &[u8],
-    text: &[u8],
-    seen: &mut Seen,
-) -> Result<Verdict, CommandRefusal>
-    ensures { MatchResult result (IsVerdictOnBytes table.now text.now) (OrMemory (IsUnjudged table.now)) }
+fn verdict_on(alloc: Global, table: &[u8], text: Vec<u8>) -> Result<JudgedText, Refused>
+    ensures { MatchResult result (IsVerdictOnBytes table.now text.items) (OrMemory (IsUnjudged table.now)) }
 {
-    let equipment = read_table(alloc, table, &mut seen.table)?;
-    match judge(alloc, &equipment, text) {
-        Ok(verdict) => {
-            seen.table.equipment = Some(equipment);
-            Ok(verdict)
-        }
+    let equipment = read_table(alloc, table)?;
+    match judge(alloc, &equipment, &text) {
+        Ok(verdict) => Ok(JudgedText {
+            verdict,
+            equipment,
+            text,
+        }),
         Err(NoVerdict::Unfit { group, output }) => {
-            Err(keep_unfit(alloc, equipment, group, output, seen))
+            Err(refuse_unfit(alloc, equipment, group, output))
         }
-        Err(NoVerdict::NoMemory) => Err(CommandRefusal::Memory),
+        Err(NoVerdict::NoMemory) => Err(Refused::plain(CommandRefusal::Memory)),
     }
 }
 
@@ -114,15 +155,12 @@ fn verdict_on_files<F: FileReader>(
     files: &mut F,
     table: &str,
     plan: &str,
-    seen: &mut Seen,
-) -> Result<Verdict, CommandRefusal>
+) -> Result<JudgedText, Refused>
     ensures { HasRead F.answers (λ file. IsJudging file table.now plan.now result) files.old files.new }
 {
-    let table = read_file(alloc, files, table, seen)?;
-    let text = read_file(alloc, files, plan, seen)?;
-    let verdict = verdict_on(alloc, &table, &text, seen);
-    seen.text = Some(text);
-    verdict
+    let table = read_file(alloc, files, table)?;
+    let text = read_file(alloc, files, plan)?;
+    verdict_on(alloc, &table, text)
 }
 
 /// Writes the line of a verdict.
@@ -143,27 +181,21 @@ fn status_of(verdict: Verdict) -> u8
     }
 }
 
-/// What a verdict finds wrong, for a hint.
-fn objection_to(verdict: Verdict) -> Option<Objection> {
-    match verdict {
-        Verdict::Fewest => None,
-        Verdict::No(no) => Some(Objection {
-            line: no.line,
-            reason: no.reason.text(),
-        }),
-    }
-}
-
 /// The line of a verdict, with its status. An allocation that fails is refused.
-fn verdict_reply(alloc: Global, verdict: Verdict) -> Result<Reply, CommandRefusal>
+fn verdict_reply(alloc: Global, verdict: JudgedText) -> Result<Reply, Refused>
     ensures { Replies (IsVerdictReply verdict) (λ refusal. ⊥) result }
 {
     let mut bytes = Vec::new(alloc);
-    let Ok(()) = write_verdict(&mut bytes, verdict) else {
-        return Err(CommandRefusal::Memory);
+    let Ok(()) = write_verdict(&mut bytes, verdict.verdict()) else {
+        return Err(Refused::plain(CommandRefusal::Memory));
     };
-    let status = status_of(verdict);
-    Ok(Reply { bytes, status })
+    let status = status_of(verdict.verdict());
+    let found = verdict.into_found();
+    Ok(Reply {
+        bytes,
+        status,
+        found,
+    })
 }
 
 /// The line of the verdict on the text in a file by the table in another. The status is 0 if the text shows the fewest
@@ -173,11 +205,9 @@ pub fn check_reply<F: FileReader>(
     files: &mut F,
     table: &str,
     plan: &str,
-    seen: &mut Seen,
-) -> Result<Reply, CommandRefusal>
+) -> Result<Reply, Refused>
     ensures { HasRead F.answers (λ file. AnswersCheck file table.now plan.now result) files.old files.new }
 {
-    let verdict = verdict_on_files(alloc, files, table, plan, seen)?;
-    seen.objection = objection_to(verdict);
+    let verdict = verdict_on_files(alloc, files, table, plan)?;
     verdict_reply(alloc, verdict)
 }

@@ -6,22 +6,21 @@ ghost use Rattle.a429_cli.specs.WholeReplies.{IsReplyPut};
 pub mod reply;
 
 use crate::replies::reply::Reply;
-use a429_console::hints::Seen;
+use a429_console::answered::{Answered, answer_with};
 use a429_console::output::endings::put_answer;
 use a429_console::output::{Output, OutputFault};
-use a429_console::refusals::{CommandRefusal, refuse_as};
+use a429_console::refusals::{Refused, refuse_as};
 use std::alloc::Global;
 
-/// Puts what a command answers, or the line of its refusal, which is kept in `seen`. If an allocation for that line
-/// fails, the line is `refused memory`. The status is that of the reply, or `trouble` after a refusal. Error: the
+/// Puts what a command answers, or the line of its refusal. If an allocation for that line fails, the line is `refused
+/// memory`. The status is that of the reply, or `trouble` after a refusal. Error: the
 /// output failed.
 pub fn put_reply<O: Output>(
     alloc: Global,
-    reply: Result<Reply, CommandRefusal>,
+    reply: Result<Reply, Refused>,
     trouble: u8,
-    seen: &mut Seen,
     out: &mut O,
-) -> Result<u8, OutputFault>
+) -> Result<Answered, OutputFault>
     requires { 1 ≤ trouble }
     ensures put { IfOk result (IsPut (IsReplyPut trouble reply) (O.contents out.old) (O.contents out.new)) }
     ensures status { IfOk result (λ status. status ≤ trouble) }
@@ -29,7 +28,7 @@ pub fn put_reply<O: Output>(
     ensures faults { CountsFault result (O.failures out.old) (O.failures out.new) }
 {
     match reply {
-        Ok(reply) => put_answer(&reply.bytes, reply.status, out),
-        Err(refusal) => refuse_as(alloc, refusal, trouble, seen, out),
+        Ok(reply) => answer_with(put_answer(&reply.bytes, reply.status, out), reply.found),
+        Err(refusal) => refuse_as(alloc, refusal, trouble, out),
     }
 }

@@ -11,9 +11,8 @@ use crate::replies::reply::Reply;
 use a429_console::arguments::requests::Options;
 use a429_console::files::FileReader;
 use a429_console::files::reading::read_file;
-use a429_console::hints::Seen;
-use a429_console::refusals::CommandRefusal;
-use a429_console::refusals::tables::propose;
+use a429_console::planning::{propose, with_plan};
+use a429_console::refusals::Refused;
 use a429_documents::{slot_header, slot_sheet};
 use a429_slots::{OUTPUTS, Proposal};
 use a429_text::SheetForm;
@@ -70,7 +69,7 @@ fn slots_of(
     proposal: &Proposal<OUTPUTS>,
     group: Option<&str>,
     form: SlotsForm,
-) -> Result<Reply, CommandRefusal>
+) -> Result<Reply, Refused>
     ensures { GivesSlots form proposal.now (option_copied group.entry) result }
 {
     let _plan = proposal.plan();
@@ -87,16 +86,12 @@ pub fn slots_reply<F: FileReader>(
     name: &str,
     group: Option<&str>,
     form: SlotsForm,
-    seen: &mut Seen,
-) -> Result<Reply, CommandRefusal>
+) -> Result<Reply, Refused>
     ensures { HasRead F.answers (λ file. Replies (IsSlotsOf file form name.now (option_copied group.entry))
         (IsNoSlots file name.now (option_copied group.entry)) result) files.old files.new }
 {
-    let table = read_file(alloc, files, name, seen)?;
-    let proposal = propose(alloc, &table, &mut seen.table)?;
+    let table = read_file(alloc, files, name)?;
+    let proposal = propose(alloc, &table)?;
     let reply = slots_of(alloc, &proposal, group, form);
-    if reply.is_err() {
-        seen.proposal = Some(proposal);
-    }
-    reply
+    with_plan(reply, proposal)
 }

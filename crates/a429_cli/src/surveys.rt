@@ -9,8 +9,7 @@ ghost use Rattle.a429_cli.specs.WholeReplies.{Replies};
 use crate::replies::reply::Reply;
 use a429_console::arguments::requests::Asked;
 use a429_console::files::FileReader;
-use a429_console::hints::Seen;
-use a429_console::refusals::CommandRefusal;
+use a429_console::refusals::Refused;
 use a429_recordings::survey::{LogNames, SurveyForm, survey_logs};
 use std::alloc::Global;
 
@@ -32,13 +31,12 @@ pub fn survey_reply<F: FileReader>(
     alloc: Global,
     files: &mut F,
     asked: &Asked,
-    seen: &mut Seen,
-) -> Result<Reply, CommandRefusal>
+) -> Result<Reply, Refused>
     ensures { HasRead F.answers (λ file. Replies (IsSurveyed file (asked_of asked.now))
         (IsUnsurveyed file (asked_of asked.now)) result) files.old files.new }
 {
     let form = SurveyForm::of(&asked.options);
-    match survey_logs(alloc, files, names_in(asked), form, seen) {
+    match survey_logs(alloc, files, names_in(asked), form) {
         Ok(text) => Ok(Reply::done(text)),
         Err(refusal) => Err(refusal),
     }

@@ -8,7 +8,7 @@ ghost use Rattle.a429_cli.specs.WordLines.{IsNoWord, IsWordOf, bcd_digits, bcd_l
 ghost use Rattle.a429_cli.specs.WholeReplies.{Replies};
 
 use crate::replies::reply::Reply;
-use a429_console::refusals::CommandRefusal;
+use a429_console::refusals::{CommandRefusal, Refused};
 use a429_word::{Label, Sdi, Ssm, Word, raw_word};
 use std::alloc::Global;
 use std::io;
@@ -95,18 +95,18 @@ fn write_word<W: Write>(out: &mut W, word: Word) -> io::Result<()>
 
 /// What the word of eight hexadecimal digits says, in either case, with status 0. Another text is refused (`word-text`), and
 /// one of even parity (`parity`).
-pub fn word_reply(alloc: Global, text: &str) -> Result<Reply, CommandRefusal>
+pub fn word_reply(alloc: Global, text: &str) -> Result<Reply, Refused>
     ensures { Replies (IsWordOf text.now) (IsNoWord text.now) result }
 {
     let Some(raw) = raw_word(text.as_bytes()) else {
-        return Err(CommandRefusal::WordText);
+        return Err(Refused::plain(CommandRefusal::WordText));
     };
     let Ok(word) = Word::from_raw(raw) else {
-        return Err(CommandRefusal::Parity);
+        return Err(Refused::plain(CommandRefusal::Parity));
     };
     let mut lines = Vec::new(alloc);
     match write_word(&mut lines, word) {
         Ok(()) => Ok(Reply::done(lines)),
-        Err(_) => Err(CommandRefusal::Memory),
+        Err(_) => Err(Refused::plain(CommandRefusal::Memory)),
     }
 }

@@ -7,6 +7,8 @@ mod failing;
 #[cfg(test)]
 mod files;
 #[cfg(test)]
+mod kept;
+#[cfg(test)]
 mod program;
 #[cfg(test)]
 mod progress;

@@ -9,7 +9,7 @@ use Rattle.clap.specs.Simple.{filled, with_index}
 use Rattle.clap.specs.Takes.{default_passes}
 use Rattle.clap.specs.Walk.{arg_by_id, arg_by_index}
 use Rattle.clap.proofs.OnLiterals.{clap_on_literals}
-use Rattle.a429_console.specs.CommandLine.{All, AsText, Bcd, Bits, Bnr, Channels, Code, Csv, Data, Events, From, Group, Html, Inputs, Json, Limit, Maps, OptionName, Rate, Rows, Sdi, Slack, Slots, Ssm, Summary, Time, Tolerance, Until, Width, command_line, many_rule, number_rule, options_of, required_rule, row_app, row_of}
+use Rattle.a429_console.specs.CommandLine.{All, AsText, Bcd, Bits, Bnr, Channels, Code, Csv, Data, Events, From, Group, Html, Inputs, Json, Limit, MakesNames, Maps, OptionName, Rate, Rows, Sdi, Slack, Slots, Ssm, Summary, Time, Tolerance, Until, Width, command_line, many_rule, number_rule, options_of, required_rule, row_app, row_of}
 use Rattle.a429_console.specs.declared.arguments.forms.Verb.{Verb}
 use Rattle.a429_console.specs.declared.arguments.forms.Verb.TheVariants as verb
 use Rattle.a429_console.proofs.CommandWords.{IsNamed, leaf}
@@ -114,7 +114,7 @@ plain_parts s all =
     }
 
 abbrev pub all_options : List OptionName
-all_options = Csv ∷ Json ∷ All ∷ Group ∷ Slots ∷ Width ∷ Html ∷ Time ∷ From ∷ Until ∷ Summary ∷ Code ∷ Limit ∷ Rate ∷ Rows ∷ Slack ∷ Inputs ∷ Channels ∷ Maps ∷ AsText ∷ Tolerance ∷ Events ∷ Sdi ∷ Ssm ∷ Data ∷ Bnr ∷ Bits ∷ Bcd ∷ []
+all_options = Csv ∷ Json ∷ All ∷ Group ∷ Slots ∷ Width ∷ Html ∷ Time ∷ From ∷ Until ∷ Summary ∷ Code ∷ Limit ∷ Rate ∷ Rows ∷ Slack ∷ Inputs ∷ Channels ∷ Maps ∷ AsText ∷ MakesNames ∷ Tolerance ∷ Events ∷ Sdi ∷ Ssm ∷ Data ∷ Bnr ∷ Bits ∷ Bcd ∷ []
 
 -- no two arguments have one id
 abbrev pub ids_are_new : Verb → List (Rule × Text) → Bool
@@ -170,7 +170,7 @@ module _ (first second third number : Text) where
   facts verb.Word = known (record { met = refl; leads = refl; label = refl; no_help = refl }) (refl, refl, tt) tt tt (inl refl, (inl refl, tt)) refl
   facts verb.Encode = known (record { met = refl; leads = refl; label = refl; no_help = refl }) (refl, refl, tt) tt (refl, refl, (refl, refl, (refl, refl, (refl, refl, (refl, refl, (refl, refl, tt)))))) (inl refl, (inl refl, (inl refl, (inl refl, (inl refl, (inl refl, (inl refl, (inl refl, tt)))))))) refl
   facts verb.Lines = known (record { met = refl; leads = refl; label = refl; no_help = refl }) (refl, refl, tt) (refl, refl) tt (inl refl, (inl refl, (inl refl, tt))) refl
-  facts verb.Import = known (record { met = refl; leads = refl; label = refl; no_help = refl }) (refl, refl, tt) tt (refl, refl, tt) (inl refl, (inl refl, (inl refl, tt))) refl
+  facts verb.Import = known (record { met = refl; leads = refl; label = refl; no_help = refl }) (refl, refl, tt) tt (refl, refl, (refl, refl, tt)) (inl refl, (inl refl, (inr (MakesNames, refl, refl, refl, refl), (inl refl, tt)))) refl
   facts verb.Plan = known (record { met = refl; leads = refl; label = refl; no_help = refl }) (refl, refl, tt) tt tt (inl refl, (inl refl, tt)) refl
   facts verb.Check = known (record { met = refl; leads = refl; label = refl; no_help = refl }) (refl, refl, (refl, refl, tt)) tt tt (inl refl, (inl refl, (inl refl, tt))) refl
   facts verb.Icd = known (record { met = refl; leads = refl; label = refl; no_help = refl }) (refl, refl, tt) tt (refl, refl, (refl, refl, (refl, refl, tt))) (inl refl, (inr (Csv, refl, refl, refl, refl), (inr (AsText, refl, refl, refl, refl), (inr (Json, refl, refl, refl, refl), (inl refl, tt))))) refl

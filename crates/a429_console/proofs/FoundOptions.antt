@@ -8,7 +8,7 @@ use Rattle.std.proofs.lemmas.Bool.{and_parts, or_parts}
 use Rattle.std.proofs.lemmas.Slice.Eq.{bytes_eq-Decides}
 use Rattle.clap.specs.Words.{Row, Rule, Text, first_of, one_of}
 use Rattle.clap.specs.Walk.{has_row}
-use Rattle.a429_console.specs.CommandLine.{All, AsText, Bcd, Bits, Bnr, Channels, Code, Csv, Data, Events, From, Group, Html, Inputs, Json, Limit, Maps, OptionName, Rate, Rows, Sdi, Slack, Slots, Ssm, Summary, Time, Tolerance, Until, Width, last_time, least_rate, most_bits, most_pair, most_percent, most_rate, most_slack, most_slots, most_tolerance, options_of, row_of}
+use Rattle.a429_console.specs.CommandLine.{All, AsText, Bcd, Bits, Bnr, Channels, Code, Csv, Data, Events, From, Group, Html, Inputs, Json, Limit, MakesNames, Maps, OptionName, Rate, Rows, Sdi, Slack, Slots, Ssm, Summary, Time, Tolerance, Until, Width, last_time, least_rate, most_bits, most_pair, most_percent, most_rate, most_slack, most_slots, most_tolerance, options_of, row_of}
 use Rattle.a429_console.specs.Requests.{AskedBytes, HasWords, OptionBytes, flag_word, has_one_value, has_option, is_csv, is_flag, is_json, origin_word, unit_word, word_given}
 use Rattle.a429_console.specs.RequestRows.{AreFields, AreOptions, form_of, is_set, is_value_given, lacks_csv, lacks_rows, number_of, origin_given, unit_given, values_of, width_given}
 use Rattle.a429_text.specs.declared.sheets.SheetForm.{SheetForm}
@@ -240,6 +240,7 @@ module _ (r : AskedBytes) (us : List (Rule × Text)) (f : Facts r.verb us) (has 
     events = flag_field Events r.options.events refl;
     fields = fields_are_read;
     text = flag_field AsText r.options.text refl;
+    names = flag_field MakesNames r.options.names refl;
     taken = rw (made_of v (is_value_given end_rows) (λ made. value_is ∙ has.encoded made), rows_are_had, csv_is_had, none_repeated Channels refl refl, none_repeated Maps refl refl) refl;
   }
 

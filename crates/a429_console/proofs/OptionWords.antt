@@ -8,7 +8,7 @@ use Rattle.clap.specs.Simple.{filled}
 use Rattle.clap.specs.Takes.{value_passes}
 use Rattle.clap.specs.Walk.{Held, Waiting, arg_by_id, arg_by_long, has_row, idle}
 use Rattle.clap.proofs.OnLiterals.{clap_on_literals}
-use Rattle.a429_console.specs.CommandLine.{All, AsText, Bcd, Bits, Bnr, Channels, Code, Csv, Data, Events, From, Group, Html, Inputs, Json, Limit, Maps, OptionName, Rate, Rows, Sdi, Slack, Slots, Ssm, Summary, Time, Tolerance, Until, Width, option_rule}
+use Rattle.a429_console.specs.CommandLine.{All, AsText, Bcd, Bits, Bnr, Channels, Code, Csv, Data, Events, From, Group, Html, Inputs, Json, Limit, MakesNames, Maps, OptionName, Rate, Rows, Sdi, Slack, Slots, Ssm, Summary, Time, Tolerance, Until, Width, option_rule}
 use Rattle.a429_console.specs.Requests.{OptionBytes, flag_word, is_csv, is_flag, is_json, option_words, word_given, words_of_options}
 use Rattle.a429_console.proofs.CommandWords.{row}
 use Rattle.a429_console.proofs.PlainWords.{IsPlainWord, TakesValues, at_word, for_none}
@@ -49,6 +49,7 @@ kind_of_option o Code word given = record { range = refl; action = refl; reading
 kind_of_option o Rows word given = record { range = refl; action = refl; reading = refl; missing = refl; passes = refl }
 kind_of_option o Events word given = record { range = refl; action = refl; reading = refl; missing = refl; passes = refl }
 kind_of_option o AsText word given = record { range = refl; action = refl; reading = refl; missing = refl; passes = refl }
+kind_of_option o MakesNames word given = record { range = refl; action = refl; reading = refl; missing = refl; passes = refl }
 kind_of_option o _ word given = record { range = refl; action = refl; reading = refl; trailing = refl }
 
 -- no two have one name
@@ -75,6 +76,7 @@ same_option Events Events is = refl
 same_option Channels Channels is = refl
 same_option Maps Maps is = refl
 same_option AsText AsText is = refl
+same_option MakesNames MakesNames is = refl
 same_option Sdi Sdi is = refl
 same_option Ssm Ssm is = refl
 same_option Data Data is = refl
@@ -97,6 +99,7 @@ flag_is_true Code o word flag given = flag_text o.code word given
 flag_is_true Rows o word flag given = flag_text o.rows word given
 flag_is_true Events o word flag given = flag_text o.events word given
 flag_is_true AsText o word flag given = flag_text o.text word given
+flag_is_true MakesNames o word flag given = flag_text o.names word given
 flag_is_true _ o word flag given = absurd (cc flag)
 
 -- ---- the words of several

@@ -101,6 +101,7 @@ pub data OptionName : Type 0 where
   Channels : OptionName
   Maps : OptionName
   AsText : OptionName
+  MakesNames : OptionName
   Tolerance : OptionName
   Events : OptionName
   Sdi : OptionName
@@ -131,6 +132,7 @@ option_rule Inputs = values_rule (codes "in")
 option_rule Channels = values_rule (codes "channel")
 option_rule Maps = values_rule (codes "map")
 option_rule AsText = flag_rule (codes "text")
+option_rule MakesNames = flag_rule (codes "names")
 option_rule Tolerance = number_value_rule (codes "tolerance") 0 most_tolerance
 option_rule Events = flag_rule (codes "events")
 option_rule Sdi = number_value_rule (codes "sdi") 0 most_pair
@@ -145,7 +147,7 @@ option_rule Bcd = value_rule (codes "bcd")
 -- the options of a command, in the order in which help lists them
 abbrev pub options_of : Verb → List OptionName
 options_of verb.Encode = Sdi ∷ Ssm ∷ Data ∷ Bnr ∷ Bits ∷ Bcd ∷ []
-options_of verb.Import = Maps ∷ []
+options_of verb.Import = Maps ∷ MakesNames ∷ []
 options_of verb.Icd = Csv ∷ AsText ∷ Json ∷ []
 options_of verb.Margin = Csv ∷ Json ∷ []
 options_of verb.Load = Limit ∷ Csv ∷ Json ∷ []

@@ -157,6 +157,7 @@ pub record AreOptions (name : Text) (rows : List Row) (o : OptionBytes) : Type 0
   pub events : is_set (one_of (codes "events") rows) ≡ o.events
   pub fields : AreFields rows o.fields
   pub text : is_set (one_of (codes "text") rows) ≡ o.text
+  pub names : is_set (one_of (codes "names") rows) ≡ o.names
   pub taken : are_refused name rows ≡ false
 
 -- these options are read: those that a command of any name is given, with these choices

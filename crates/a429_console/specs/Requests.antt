@@ -8,7 +8,7 @@ use Rattle.clap.specs.declared.builder.action.ArgAction.{ArgAction}
 use Rattle.clap.specs.declared.builder.action.ArgAction.TheVariants.{SetTrue}
 use Rattle.clap.specs.declared.error.Error.{Error}
 use Rattle.clap.specs.declared.error.kind.ErrorKind.TheVariants.{OutOfMemory}
-use Rattle.a429_console.specs.CommandLine.{All, AsText, Bcd, Bits, Bnr, Channels, Code, Csv, Data, Events, From, Group, Html, Inputs, Json, Limit, Maps, OptionName, Rate, Rows, Sdi, Slack, Slots, Ssm, Summary, Time, Tolerance, Until, Width, last_time, least_rate, most_bits, most_pair, most_percent, most_rate, most_slack, most_slots, most_tolerance, option_rule, options_of, row_of}
+use Rattle.a429_console.specs.CommandLine.{All, AsText, Bcd, Bits, Bnr, Channels, Code, Csv, Data, Events, From, Group, Html, Inputs, Json, Limit, MakesNames, Maps, OptionName, Rate, Rows, Sdi, Slack, Slots, Ssm, Summary, Time, Tolerance, Until, Width, last_time, least_rate, most_bits, most_pair, most_percent, most_rate, most_slack, most_slots, most_tolerance, option_rule, options_of, row_of}
 use Rattle.a429_console.specs.Files.{texts_of}
 use Rattle.a429_text.specs.declared.sheets.SheetForm.{SheetForm}
 use Rattle.a429_text.specs.declared.sheets.SheetForm.TheVariants as form
@@ -67,6 +67,8 @@ pub record OptionBytes : Type 0 where
   pub events : Bool
   -- labels are written so that a spreadsheet keeps their zeros
   pub text : Bool
+  -- texts that are no names become names
+  pub names : Bool
   pub fields : FieldBytes
 
 -- What is asked for, by the bytes of its texts: what contracts see of an `Asked`. A command that is given one name has no second one, and so with the
@@ -108,6 +110,7 @@ no_options = record {
   tolerance = None;
   events = false;
   text = false;
+  names = false;
   fields = no_fields;
 }
 
@@ -175,6 +178,7 @@ word_given o Inputs = None
 word_given o Channels = None
 word_given o Maps = None
 word_given o AsText = flag_word o.text
+word_given o MakesNames = flag_word o.names
 word_given o Tolerance = option_map decimal o.tolerance
 word_given o Events = flag_word o.events
 word_given o Sdi = option_map decimal o.fields.sdi
@@ -330,6 +334,7 @@ given_of o = record {
   tolerance = o.tolerance;
   events = o.events;
   text = o.text;
+  names = o.names;
   fields = fields_of o.fields;
 }
 

@@ -3,17 +3,21 @@ ghost use Rattle.std.specs.Prelude.{◌≡◌, IfOk, OnOk, IsTrue};
 ghost use Rattle.a429_console.specs.Outputs.{CountsFault};
 ghost use Rattle.a429_console.specs.RefusalText.{IsRefusalPut};
 
+pub mod evidence;
 pub mod names;
 pub mod tables;
 
-use crate::hints::Seen;
+use crate::answered::Answered;
 use crate::output::endings::{REFUSED_MEMORY, put_answer, refuse_memory_as};
 use crate::output::{Output, OutputFault};
+use crate::refusals::evidence::{Evidence, TableEvidence};
+use a429_slots::{OUTPUTS, Proposal};
 use a429_table::{FaultKind, TablePlace};
 use std::alloc::{AllocError, AllocFailed, Global};
 use std::error::Error;
 use std::fmt;
 use std::io::Write;
+use std::marker::Model;
 
 /// What is wrong with a row of comma-separated values.
 #[derive(Clone, Copy, Debug, PartialEq, Eq)]
@@ -160,40 +164,167 @@ impl<T: Drop> From<AllocFailed<T>> for CommandRefusal {
     }
 }
 
-/// Puts the line of a refusal, which is kept in `seen`, or the line `refused memory` if an allocation for it fails. The
-/// status is this one. Error: the output failed.
-pub fn refuse_as<O: Output>(
-    alloc: Global,
+/// A refusal, and what a hint needs beyond it. Clauses see the refusal.
+#[derive(Drop)]
+pub struct Refused {
     refusal: CommandRefusal,
+    evidence: Evidence,
+}
+
+impl Model for Refused {
+    ghost use Rattle.a429_console.specs.declared.refusals.CommandRefusal.{CommandRefusal};
+
+    ghost Value = { CommandRefusal };
+
+    ghost view = { λ r. r.refusal };
+}
+
+impl Refused {
+    ghost use Rattle.std.specs.Prelude.{◌≡◌};
+
+    /// A refusal with this evidence.
+    pub fn with(refusal: CommandRefusal, evidence: Evidence) -> Refused
+        ensures { result ≡ refusal }
+    {
+        Refused { refusal, evidence }
+    }
+
+    /// A refusal without evidence.
+    pub fn plain(refusal: CommandRefusal) -> Refused
+        ensures { result ≡ refusal }
+    {
+        Refused::with(refusal, Evidence::Nothing)
+    }
+
+    /// A refusal of a table.
+    pub fn of_table(refusal: CommandRefusal, table: TableEvidence) -> Refused
+        ensures { result ≡ refusal }
+    {
+        Refused::with(refusal, Evidence::of_table(table))
+    }
+
+    /// The same of the second of two tables.
+    pub fn of_second_table(self) -> Refused
+        ensures { result ≡ self }
+    {
+        Refused::with(self.refusal, self.evidence.of_second_table())
+    }
+
+    /// The same of a log after this number of other logs.
+    pub fn after_logs(self, before: usize) -> Refused
+        ensures { result ≡ self }
+    {
+        Refused::with(self.refusal, self.evidence.after_logs(before))
+    }
+
+    /// The same, with the plan of the table as evidence if it has none.
+    pub fn or_plan(self, proposal: Proposal<OUTPUTS>) -> Refused
+        ensures { result ≡ self }
+    {
+        Refused::with(self.refusal, self.evidence.or_plan(proposal))
+    }
+
+    /// The refusal without the evidence.
+    pub fn refusal(&self) -> &CommandRefusal
+        ensures { result.now ≡ self.now }
+    {
+        &self.refusal
+    }
+
+    /// The evidence.
+    pub fn evidence(&self) -> &Evidence {
+        &self.evidence
+    }
+
+    /// The refusal and the evidence, each by itself.
+    pub fn into_parts(self) -> (CommandRefusal, Evidence)
+        ensures { result.0 ≡ self }
+    {
+        (self.refusal, self.evidence)
+    }
+}
+
+impl From<CommandRefusal> for Refused {
+    ghost use Rattle.std.specs.Prelude.{◌≡◌};
+
+    ghost from_gives = { λ refusal e. e ≡ refusal };
+
+    fn from(refusal: CommandRefusal) -> Refused {
+        Refused::plain(refusal)
+    }
+}
+
+impl From<AllocError> for Refused {
+    ghost use Rattle.std.specs.Prelude.{◌≡◌};
+    ghost use Rattle.a429_console.specs.declared.refusals.CommandRefusal.TheVariants.{Memory};
+
+    ghost from_gives = { λ _ e. e ≡ Memory };
+
+    fn from(_error: AllocError) -> Refused {
+        Refused::plain(CommandRefusal::Memory)
+    }
+}
+
+impl<T: Drop> From<AllocFailed<T>> for Refused {
+    ghost use Rattle.std.specs.Prelude.{◌≡◌};
+    ghost use Rattle.a429_console.specs.declared.refusals.CommandRefusal.TheVariants.{Memory};
+
+    ghost from_gives = { λ _ e. e ≡ Memory };
+
+    fn from(_error: AllocFailed<T>) -> Refused {
+        Refused::plain(CommandRefusal::Memory)
+    }
+}
+
+/// Puts the line of a refusal, or the line `refused memory` if an allocation for it fails. The status is this one. Error:
+/// the output failed.
+fn put_refusal<O: Output>(
+    alloc: Global,
+    refusal: &CommandRefusal,
     status: u8,
-    seen: &mut Seen,
     out: &mut O,
 ) -> Result<u8, OutputFault>
     ensures status { IfOk result (λ answered. answered ≡ status) }
-    ensures line { OnOk result (IsRefusalPut refusal (O.contents out.old) (O.contents out.new)) }
+    ensures line { OnOk result (IsRefusalPut refusal.now (O.contents out.old) (O.contents out.new)) }
     ensures flushed { OnOk result (IsTrue (O.is_flushed out.new)) }
     ensures faults { CountsFault result (O.failures out.old) (O.failures out.new) }
 {
     let mut line = Vec::new(alloc);
-    let written = writeln!(line, "{refusal}");
-    seen.refusal = Some(refusal);
-    match written {
+    match writeln!(line, "{refusal}") {
         Ok(()) => put_answer(&line, status, out),
         Err(_) => refuse_memory_as(status, out),
+    }
+}
+
+/// Puts the line of a refusal, or the line `refused memory` if an allocation for it fails. The status is this one, and the
+/// refusal is handed on for a hint. Error: the output failed.
+pub fn refuse_as<O: Output>(
+    alloc: Global,
+    refused: Refused,
+    status: u8,
+    out: &mut O,
+) -> Result<Answered, OutputFault>
+    ensures status { IfOk result (λ answered. answered ≡ status) }
+    ensures line { OnOk result (IsRefusalPut refused (O.contents out.old) (O.contents out.new)) }
+    ensures flushed { OnOk result (IsTrue (O.is_flushed out.new)) }
+    ensures faults { CountsFault result (O.failures out.old) (O.failures out.new) }
+{
+    match put_refusal(alloc, refused.refusal(), status, out) {
+        Ok(status) => Ok(Answered::of_refused(status, refused)),
+        Err(fault) => Err(fault),
     }
 }
 
 /// The same with status 1. Error: the output failed.
 pub fn refuse<O: Output>(
     alloc: Global,
-    refusal: CommandRefusal,
-    seen: &mut Seen,
+    refused: Refused,
     out: &mut O,
-) -> Result<u8, OutputFault>
+) -> Result<Answered, OutputFault>
     ensures status { IfOk result (λ status. status ≡ 1) }
-    ensures line { OnOk result (IsRefusalPut refusal (O.contents out.old) (O.contents out.new)) }
+    ensures line { OnOk result (IsRefusalPut refused (O.contents out.old) (O.contents out.new)) }
     ensures flushed { OnOk result (IsTrue (O.is_flushed out.new)) }
     ensures faults { CountsFault result (O.failures out.old) (O.failures out.new) }
 {
-    refuse_as(alloc, refusal, 1, seen, out)
+    refuse_as(alloc, refused, 1, out)
 }

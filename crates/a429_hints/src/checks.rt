@@ -3,7 +3,7 @@
 use crate::files::REFUSED_OUTPUT;
 use crate::hint::HintText;
 use crate::reasons::meaning;
-use a429_console::hints::Objection;
+use a429_console::answered::Objection;
 use a429_console::refusals::names::{group_name, source_name};
 use a429_console::texts::cut_at;
 use a429_equipment::{Equipment, OutputRow};

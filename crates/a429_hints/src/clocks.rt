@@ -1,7 +1,14 @@
-//! The hint about two logs of `judge` that are not on one clock.
+//! Hints about two logs of `judge` that are not on one clock.
 
 use crate::hint::HintText;
 use a429_text::{Sheet, SheetForm};
+
+/// Says that a log has no time in common with that of the words that came in.
+pub fn tell_apart(heard: &str, hint: &mut HintText) {
+    hint.begin(": no time is within this log and within ");
+    hint.say_quoted("", heard);
+    hint.end("; both logs need times of one clock");
+}
 
 /// A box with fewer sends says nothing of clocks.
 const FEWEST_SENDS: u64 = 4;

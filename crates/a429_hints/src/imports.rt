@@ -4,11 +4,16 @@ use crate::files::{REFUSED_OUTPUT, other_file};
 use crate::headings::tell_heading;
 use crate::hint::HintText;
 use crate::imported::tell_imported;
-use crate::sheets::{Sheet, begin_column, begin_row, is_of_output, tell_field, tell_no_group};
-use a429_console::hints::SeenRows;
+use crate::sheets::{
+    Sheet, begin_column, begin_row, is_of_names, is_of_output, tell_field, tell_no_group,
+};
+use a429_console::refusals::evidence::RowsEvidence;
 use a429_console::refusals::{CommandRefusal, CsvKind};
 use a429_filter::Filter;
-use a429_import::{CsvLine, Heading, ImportColumn, LineCount, csv_lines, form_fault, named_by};
+use a429_import::{
+    CsvLine, Heading, ImportColumn, LineCount, column_in, csv_lines, form_fault, is_column_named,
+    made_name, named_by,
+};
 
 /// How many bytes of a file are read for a hint.
 const LARGEST_READ: usize = 1_048_576;
@@ -16,9 +21,16 @@ const LARGEST_READ: usize = 1_048_576;
 /// How many faulty rows are shown.
 const FAULTY_ROWS: usize = 3;
 
-/// Says what is wrong with the rows of a file. Their heading is read by these texts HEADING=COLUMN.
-pub fn tell_rows(refusal: &CommandRefusal, maps: &[&str], seen: &SeenRows, hint: &mut HintText) {
-    if let Some(kind) = other_rows(&seen.bytes) {
+/// Says what is wrong with the rows of a file. Their heading is read by these texts HEADING=COLUMN. With the flag, texts
+/// become names.
+pub fn tell_rows(
+    refusal: &CommandRefusal,
+    maps: &[&str],
+    makes_names: bool,
+    evidence: &RowsEvidence,
+    hint: &mut HintText,
+) {
+    if let Some(kind) = other_rows(&evidence.bytes) {
         return hint.say_line(kind);
     }
     if let CommandRefusal::Csv {
@@ -28,7 +40,7 @@ pub fn tell_rows(refusal: &CommandRefusal, maps: &[&str], seen: &SeenRows, hint:
     {
         return tell_wide(*line, hint);
     }
-    let Ok(lines) = csv_lines(hint.alloc, maps, first_lines(&seen.bytes)) else {
+    let Ok(lines) = csv_lines(hint.alloc, maps, first_lines(&evidence.bytes)) else {
         return hint.give_up();
     };
     hint.turn_to_line(1);
@@ -36,7 +48,9 @@ pub fn tell_rows(refusal: &CommandRefusal, maps: &[&str], seen: &SeenRows, hint:
         [] => hint.say_line(
             "the heading is missing; it must name the columns group, rate, source, receiver, label, sdi, min_us and max_us",
         ),
-        [titles, rows @ ..] => tell_lines(titles, rows, refusal, maps, seen, hint),
+        [titles, rows @ ..] => {
+            tell_lines(titles, rows, refusal, maps, makes_names, evidence, hint);
+        }
     }
 }
 
@@ -46,7 +60,8 @@ fn tell_lines(
     rows: &[CsvLine],
     refusal: &CommandRefusal,
     maps: &[&str],
-    seen: &SeenRows,
+    makes_names: bool,
+    evidence: &RowsEvidence,
     hint: &mut HintText,
 ) {
     let Ok(named) = named_by(hint.alloc, maps, titles) else {
@@ -57,6 +72,7 @@ fn tell_lines(
         heading: &heading,
         titles,
         rows,
+        makes_names,
     };
     match refusal {
         CommandRefusal::Table(kind, place) => tell_imported(sheet, *kind, *place, hint),
@@ -64,7 +80,7 @@ fn tell_lines(
             kind: CsvKind::Column,
             ..
         } => tell_heading(sheet, maps, hint),
-        CommandRefusal::Csv { line, kind } => tell_faulty_rows(sheet, *line, *kind, seen, hint),
+        CommandRefusal::Csv { line, kind } => tell_faulty_rows(sheet, *line, *kind, evidence, hint),
         _ => {}
     }
 }
@@ -101,17 +117,23 @@ fn other_rows(bytes: &[u8]) -> Option<&'static str> {
 }
 
 /// Says what is wrong with the first faulty row, and with the next ones that are faulty by themselves.
-fn tell_faulty_rows(sheet: Sheet, line: u64, kind: CsvKind, seen: &SeenRows, hint: &mut HintText) {
+fn tell_faulty_rows(
+    sheet: Sheet,
+    line: u64,
+    kind: CsvKind,
+    evidence: &RowsEvidence,
+    hint: &mut HintText,
+) {
     let Some(row) = sheet.row_on(line) else {
         return;
     };
-    match (seen.column, kind) {
-        (None, _) if has_open_quote(&seen.bytes, line) => {
+    match (evidence.column, kind) {
+        (None, _) if has_open_quote(&evidence.bytes, line) => {
             begin_row(row, ": ", hint);
             return hint.end("the row has a quote that is not closed");
         }
         (None, _) => tell_count(sheet, row, hint),
-        (Some(column), CsvKind::Differs) => tell_difference(sheet, row, column, hint),
+        (Some(column), CsvKind::Differs) => tell_differs(sheet, row, column, hint),
         (Some(column), _) => tell_form(sheet, row, column, hint),
     }
     tell_later_rows(sheet, line, hint);
@@ -194,6 +216,53 @@ fn owner_of(column: &str) -> &'static str {
     }
 }
 
+/// Says why a row differs from an earlier one: their texts become one name, or it contradicts that row.
+fn tell_differs(sheet: Sheet, row: &CsvLine, column: &str, hint: &mut HintText) {
+    if !(sheet.makes_names && is_of_names(column) && tell_twin_text(sheet, row, column, hint)) {
+        tell_difference(sheet, row, column, hint);
+    }
+}
+
+/// Says which earlier text of a column becomes the same name as that of a row. The answer is whether there is one.
+fn tell_twin_text(sheet: Sheet, row: &CsvLine, column: &str, hint: &mut HintText) -> bool {
+    let text = sheet.text(row, column);
+    let Ok(name) = made_name(hint.alloc, text) else {
+        hint.give_up();
+        return true;
+    };
+    let Some(earlier) = first_of_name(sheet, column, name.as_slice(), hint) else {
+        return false;
+    };
+    let other = sheet.text(earlier, column);
+    if other == text {
+        return false;
+    }
+    begin_column(sheet, row, column, hint);
+    hint.say_quoted("", text);
+    hint.say_text(" becomes ", str::from_utf8(name.as_slice()).unwrap_or(""));
+    hint.say_quoted(", and so does ", other);
+    hint.say_number(" on line ", earlier.number);
+    hint.end("; change one of them");
+    true
+}
+
+/// The first row whose text in a column becomes this name.
+fn first_of_name<'a>(
+    sheet: Sheet<'a>,
+    column: &str,
+    name: &[u8],
+    hint: &mut HintText,
+) -> Option<&'a CsvLine> {
+    for row in sheet.rows {
+        match made_name(hint.alloc, sheet.text(row, column)) {
+            Ok(made) if made.as_slice() == name => return Some(row),
+            Ok(_) => {}
+            Err(_) => hint.give_up(),
+        }
+    }
+    None
+}
+
 /// Says in what a row contradicts an earlier one.
 fn tell_difference(sheet: Sheet, row: &CsvLine, column: &str, hint: &mut HintText) {
     let owner = owner_of(column);
@@ -209,4 +278,27 @@ fn tell_difference(sheet: Sheet, row: &CsvLine, column: &str, hint: &mut HintTex
             return hint.end("");
         }
     }
+}
+
+/// The heading of a column of intervals, by texts HEADING=COLUMN; without such a text, the name of the column.
+fn heading_for<'a>(maps: &[&'a str], column: ImportColumn) -> &'a str {
+    for text in maps {
+        if is_column_named(column, column_in(*text)) {
+            return match text.rsplit_once('=') {
+                Some((heading, _)) => heading,
+                None => *text,
+            };
+        }
+    }
+    column.name()
+}
+
+/// Says that the intervals of a group may be milliseconds, and which columns are in milliseconds.
+pub fn tell_short_intervals(group: &str, maps: &[&str], hint: &mut HintText) {
+    hint.begin(": the intervals of group ");
+    hint.say_text(group, " are all below 1000 us, and none allows a period");
+    hint.say("; if they are in ms, name the columns min_ms and max_ms, or give --map \"");
+    hint.say_short("", heading_for(maps, ImportColumn::MinUs));
+    hint.say_short("=min_ms\" --map \"", heading_for(maps, ImportColumn::MaxUs));
+    hint.end("=max_ms\"");
 }

@@ -5,7 +5,7 @@ use crate::hint::HintText;
 use crate::lists::{begin_names, has_name, nearest_of};
 use crate::rows::short_text;
 use crate::scripts::{NOT_UTF8, is_script_word};
-use a429_console::hints::{LogRefusal, SeenLine, SeenLog};
+use a429_console::refusals::evidence::{LineEvidence, LogEvidence, LogRefusal};
 use a429_logs::{
     Column, Fields, HeadingFault, LineFault, Mark, Places, RowFault, TimeUnit, WordPlaces,
 };
@@ -34,8 +34,8 @@ struct ReadLine<'a> {
 
 /// Says what is wrong with a line of a log whose channels are taken as names.
 pub fn tell_log_line<'a>(
-    line: &'a SeenLine,
-    log: &SeenLog,
+    line: &'a LineEvidence,
+    log: &LogEvidence,
     channels: &'a [&'a str],
     hint: &mut HintText,
 ) {
@@ -188,7 +188,7 @@ fn quotes_of(text: &str) -> Option<&'static str> {
 }
 
 /// Says that no group has the name of a word, or that the group has no bus of its number.
-fn tell_group(line: &SeenLine, read: &ReadLine<'_>, hint: &mut HintText) {
+fn tell_group(line: &LineEvidence, read: &ReadLine<'_>, hint: &mut HintText) {
     let name = name_in(read);
     if has_name(&line.receivers, name) && !has_name(&line.groups, name) {
         hint.begin(": ");
@@ -227,7 +227,7 @@ fn names_of(column: Column) -> &'static str {
 }
 
 /// Says that a line belongs to another kind of file, by its first field, and answers whether it does.
-fn tell_first_field(line: &SeenLine, read: &ReadLine<'_>, hint: &mut HintText) -> bool {
+fn tell_first_field(line: &LineEvidence, read: &ReadLine<'_>, hint: &mut HintText) -> bool {
     let first = field(read, 0);
     if is_script_word(first) {
         hint.begin(": this is a line of a script");
@@ -256,7 +256,7 @@ fn tell_heading(fault: HeadingFault, hint: &mut HintText) {
 }
 
 /// Says what is wrong with a row.
-fn tell_row(line: &SeenLine, read: &ReadLine<'_>, fault: RowFault, hint: &mut HintText) {
+fn tell_row(line: &LineEvidence, read: &ReadLine<'_>, fault: RowFault, hint: &mut HintText) {
     match fault {
         RowFault::Fields => tell_count(read, hint),
         RowFault::Time => tell_time(read, hint),
@@ -321,7 +321,7 @@ fn tell_time(read: &ReadLine<'_>, hint: &mut HintText) {
 }
 
 /// Says that a time is less than the time before it.
-fn tell_fall(line: &SeenLine, read: &ReadLine<'_>, hint: &mut HintText) {
+fn tell_fall(line: &LineEvidence, read: &ReadLine<'_>, hint: &mut HintText) {
     let before = str::from_utf8(&line.before).unwrap_or("");
     let earlier = time_in(&ReadLine {
         text: before,

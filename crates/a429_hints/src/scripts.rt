@@ -4,7 +4,7 @@ use crate::hint::HintText;
 use crate::lists::{has_name, tell_names};
 use crate::nearest::Nearest;
 use crate::rows::short_text;
-use a429_console::hints::SeenLine;
+use a429_console::refusals::evidence::LineEvidence;
 
 /// The forms of the lines of a script.
 const FORMS: &str = "arrive RECEIVER HEX, cell GROUP, frame GROUP, or publish N";
@@ -22,7 +22,7 @@ const COMMENT: &str = "this file cannot have comments";
 const VERBS: &str = "arrive cell frame publish";
 
 /// Says what is wrong with a line of a script.
-pub fn tell_script_line(line: &SeenLine, hint: &mut HintText) {
+pub fn tell_script_line(line: &LineEvidence, hint: &mut HintText) {
     let Ok(text) = str::from_utf8(&line.bytes) else {
         return hint.say_line(NOT_UTF8);
     };
@@ -39,7 +39,7 @@ pub fn tell_script_line(line: &SeenLine, hint: &mut HintText) {
 }
 
 /// Says what is wrong with a line of a file of words.
-pub fn tell_words_line(line: &SeenLine, hint: &mut HintText) {
+pub fn tell_words_line(line: &LineEvidence, hint: &mut HintText) {
     let Ok(text) = str::from_utf8(&line.bytes) else {
         return hint.say_line(NOT_UTF8);
     };
@@ -63,7 +63,7 @@ pub fn is_script_word(word: &str) -> bool {
 }
 
 /// Says what is wrong with the form of a line, before its words are read, and answers whether something is.
-pub fn tell_form(line: &SeenLine, text: &str, form: &str, hint: &mut HintText) -> bool {
+pub fn tell_form(line: &LineEvidence, text: &str, form: &str, hint: &mut HintText) -> bool {
     let Some(fault) = fault_of_form(line, text) else {
         return false;
     };
@@ -77,7 +77,7 @@ pub fn tell_form(line: &SeenLine, text: &str, form: &str, hint: &mut HintText) -
 }
 
 /// What is wrong with the form of a line. `None` if nothing is.
-fn fault_of_form(line: &SeenLine, text: &str) -> Option<&'static str> {
+fn fault_of_form(line: &LineEvidence, text: &str) -> Option<&'static str> {
     if text.starts_with('\u{feff}') {
         Some("the file begins with a byte order mark: save it as UTF-8 without one")
     } else if text.ends_with('\r') {
@@ -92,7 +92,7 @@ fn fault_of_form(line: &SeenLine, text: &str) -> Option<&'static str> {
 }
 
 /// What is wrong between the words of a line, or at its ends. `None` if nothing is.
-fn fault_between_words(line: &SeenLine, text: &str) -> Option<&'static str> {
+fn fault_between_words(line: &LineEvidence, text: &str) -> Option<&'static str> {
     if text.contains('\t') {
         Some("the line has a tab; use single spaces")
     } else if text.starts_with(' ') {
@@ -121,7 +121,7 @@ fn tell_verb(verb: &str, hint: &mut HintText) {
 }
 
 /// Says what is wrong with a receiver and a word.
-pub fn tell_arrival(line: &SeenLine, text: &str, hint: &mut HintText) {
+pub fn tell_arrival(line: &LineEvidence, text: &str, hint: &mut HintText) {
     let (receiver, word) = cut(text);
     if has_name(&line.receivers, receiver) {
         tell_word(word, hint);
@@ -149,7 +149,7 @@ fn tell_word(word: &str, hint: &mut HintText) {
 }
 
 /// Says what is wrong with the number of a further table.
-fn tell_publication(line: &SeenLine, number: &str, hint: &mut HintText) {
+fn tell_publication(line: &LineEvidence, number: &str, hint: &mut HintText) {
     hint.begin(": ");
     if number.starts_with('+') || number.starts_with('-') {
         hint.say_quoted("", number);

@@ -1,7 +1,7 @@
 //! Rows of comma-separated values, as a person sees them.
 
 use crate::hint::HintText;
-use a429_import::{CsvLine, Heading, IMPORT_COLUMNS, ImportColumn, may_be_thousands};
+use a429_import::{CsvLine, Heading, IMPORT_COLUMNS, ImportColumn, made_name, may_be_thousands};
 use std::alloc::{AllocError, Global};
 
 /// The maximum length of a name.
@@ -15,6 +15,8 @@ pub struct Sheet<'a> {
     /// The heading as it is written.
     pub titles: &'a CsvLine,
     pub rows: &'a [CsvLine],
+    /// Whether texts become names (`--names`).
+    pub makes_names: bool,
 }
 
 impl<'a> Sheet<'a> {
@@ -169,6 +171,11 @@ pub fn is_of_output(column: &str) -> bool {
     matches!(column, "rate" | "min_us" | "max_us" | "hold")
 }
 
+/// Whether a column has names.
+pub fn is_of_names(column: &str) -> bool {
+    matches!(column, "group" | "source" | "receiver")
+}
+
 /// The bit rate in bit/s, if a text is one of the two usual bit rates in kbit/s.
 fn kilobits(text: &str) -> Option<&'static str> {
     match text {
@@ -259,7 +266,12 @@ fn say_remedy(sheet: Sheet, column: &str, text: &str, hint: &mut HintText) {
             }
         }
         "group" | "source" | "receiver" => match proposed_name(sheet, column, text, hint.alloc) {
-            Ok(name) if !name.is_empty() => hint.say_text("; for example ", name.as_str()),
+            Ok(Some(proposed)) => {
+                hint.say_text("; for example ", proposed.name.as_str());
+                if !proposed.is_numbered {
+                    hint.say("; --names makes such names");
+                }
+            }
             _ => {}
         },
         _ => {}
@@ -287,30 +299,57 @@ fn millis(text: &str) -> Option<u64> {
     Some(us)
 }
 
-/// The name for a text of a column: like the text, and other than those for earlier texts of the column. It is empty if
+/// A name that is proposed for a text.
+#[derive(Drop)]
+struct ProposedName {
+    name: String,
+    /// Whether it ends with a number, because an earlier text has the name without it.
+    is_numbered: bool,
+}
+
+/// The name for a text of a column: as `--names` makes it, and other than those for earlier texts of the column. `None` if
 /// nothing of the text is left.
 fn proposed_name(
     sheet: Sheet,
     column: &str,
     text: &str,
     alloc: Global,
-) -> Result<String, AllocError> {
-    let name = lawful_name(alloc, text)?;
+) -> Result<Option<ProposedName>, AllocError> {
+    let made = made_name(alloc, text)?;
+    if made.as_slice() == text.as_bytes() {
+        return Ok(None);
+    }
+    let name = str::from_utf8(made.as_slice()).unwrap_or("");
+    let number = texts_before(sheet, column, text, name, alloc)?.saturating_add(1);
+    Ok(Some(ProposedName {
+        name: if number == 1 {
+            String::from_str(alloc, name)?
+        } else {
+            numbered_name(alloc, name, number)?
+        },
+        is_numbered: number > 1,
+    }))
+}
+
+/// How many other texts of a column become a name, of those before the first row with this text.
+fn texts_before(
+    sheet: Sheet,
+    column: &str,
+    text: &str,
+    name: &str,
+    alloc: Global,
+) -> Result<usize, AllocError> {
     let mut texts: Vec<&str> = Vec::new(alloc);
     for row in sheet.rows {
         let earlier = sheet.text(row, column);
         if earlier == text {
             break;
         }
-        if !texts.contains(&earlier) && lawful_name(alloc, earlier)?.as_str() == name.as_str() {
+        if !texts.contains(&earlier) && made_name(alloc, earlier)?.as_slice() == name.as_bytes() {
             texts.push(earlier)?;
         }
     }
-    if texts.is_empty() || name.is_empty() {
-        Ok(name)
-    } else {
-        numbered_name(alloc, name.as_str(), texts.len().saturating_add(1))
-    }
+    Ok(texts.len())
 }
 
 /// A name with a number at its end, at most 16 characters.
@@ -331,23 +370,4 @@ fn first_of(name: &str, most: usize) -> &str {
         None => name,
     };
     first.trim_end_matches('-')
-}
-
-/// A name like a text: its letters in lower case, its digits and underlines, and one `-` for all others between them. It
-/// has at most 16 characters, and no `-` at its ends.
-fn lawful_name(alloc: Global, text: &str) -> Result<String, AllocError> {
-    let mut name = String::new(alloc);
-    let mut is_apart = false;
-    for c in text.chars() {
-        if !c.is_ascii_alphanumeric() && c != '_' {
-            is_apart = !name.is_empty();
-            continue;
-        }
-        if is_apart {
-            name.push('-')?;
-        }
-        is_apart = false;
-        name.push(c.to_ascii_lowercase())?;
-    }
-    String::from_str(alloc, first_of(name.as_str(), NAME_LEN))
 }

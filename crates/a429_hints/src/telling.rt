@@ -1,13 +1,13 @@
 //! Chooses the hints for what a command read and refused.
 
 use crate::checks::{JudgedText, tell_objection};
-use crate::clocks::tell_clocks;
+use crate::clocks::{tell_apart, tell_clocks};
 use crate::differences::tell_difference;
 use crate::faults::tell_table_fault;
 use crate::files::{REFUSED_OUTPUT, tell_trouble};
 use crate::findings::tell_findings;
 use crate::hint::HintText;
-use crate::imports::tell_rows;
+use crate::imports::{tell_rows, tell_short_intervals};
 use crate::logs::{tell_close_words, tell_log_line, tell_too_long};
 use crate::mistakes::{tell_habits, tell_nearest_word};
 use crate::plans::{tell_all_unfit, tell_fewer_buses, tell_groups, tell_half_period};
@@ -15,11 +15,17 @@ use crate::scripts::{tell_script_line, tell_words_line};
 use crate::words::{
     tell_data_text, tell_even_word, tell_filter, tell_label_text, tell_line_byte, tell_word_text,
 };
+use a429_console::answered::{Answered, Found};
 use a429_console::arguments::forms::{CommandForm, Verb, command_of};
 use a429_console::arguments::requests::Asked;
+use a429_console::files::FileTrouble;
+use a429_console::hints::Hints;
 use a429_console::hints::warnings::{FurtherCause, FurtherFault, Warning};
-use a429_console::hints::{Hints, Seen, SeenTable, TableLook};
-use a429_console::refusals::CommandRefusal;
+use a429_console::refusals::evidence::{
+    Evidence, LineEvidence, LogEvidence, RowsEvidence, TableEvidence, TableLook,
+};
+use a429_console::refusals::{CommandRefusal, Refused};
+use a429_equipment::Equipment;
 use a429_table::FaultKind;
 use a429_text::Sheet;
 use std::alloc::Global;
@@ -35,11 +41,11 @@ impl Hints for HintLines {
         &self,
         alloc: Global,
         asked: &Asked,
-        seen: &Seen,
+        answered: &Answered,
         err: &mut V,
     ) -> io::Result<()> {
         let mut hint = HintText::new(alloc);
-        tell_seen(asked, seen, &mut hint);
+        tell_answered(asked, answered, &mut hint);
         hint.put(err)?;
         err.flush()
     }
@@ -67,25 +73,26 @@ impl Hints for HintLines {
     }
 }
 
-/// Says what is wrong with all that a command read.
-fn tell_seen(asked: &Asked, seen: &Seen, hint: &mut HintText) {
-    if let Some(refusal) = &seen.refusal {
-        tell_refusal(asked, refusal, seen, hint);
+/// Says what to do about an answer.
+fn tell_answered(asked: &Asked, answered: &Answered, hint: &mut HintText) {
+    if let Some(refused) = answered.refused() {
+        tell_refusal(asked, refused, hint);
     }
-    if let (Some(objection), Some(equipment), Some(text)) = (
-        seen.objection,
-        &seen.table.equipment,
-        &seen.text,
-    ) {
-        let judged = JudgedText {
+    match answered.found() {
+        Found::Nothing => {}
+        Found::Rows(rows) => tell_found(asked, rows, hint),
+        Found::Objection {
+            objection,
             equipment,
-            text: text.as_slice(),
-        };
-        hint.turn_to(text_name(asked));
-        tell_objection(judged, objection, hint);
-    }
-    if let Some(findings) = &seen.findings {
-        tell_found(asked, findings, hint);
+            text,
+        } => {
+            let judged = JudgedText {
+                equipment,
+                text: text.as_slice(),
+            };
+            hint.turn_to(text_name(asked));
+            tell_objection(judged, *objection, hint);
+        }
     }
 }
 
@@ -108,6 +115,10 @@ fn tell_warning(asked: &Asked, warning: &Warning, hint: &mut HintText) {
             hint.turn_to(text_name(asked));
             tell_close_words(receiver.as_str(), asked.options.time, hint);
         }
+        Warning::ShortIntervals(group) => {
+            hint.turn_to(text_name(asked));
+            tell_short_intervals(group.as_str(), &asked.maps, hint);
+        }
     }
 }
 
@@ -126,24 +137,45 @@ fn tell_further_fault(asked: &Asked, fault: &FurtherFault, hint: &mut HintText) 
     }
 }
 
-fn tell_refusal(asked: &Asked, refusal: &CommandRefusal, seen: &Seen, hint: &mut HintText) {
-    if let Some(rows) = &seen.rows {
-        hint.turn_to(text_name(asked));
-        return tell_rows(refusal, &asked.maps, rows, hint);
+/// Says what is wrong with what a command was asked for.
+fn tell_refusal(asked: &Asked, refused: &Refused, hint: &mut HintText) {
+    let refusal = refused.refusal();
+    match refused.evidence() {
+        Evidence::Nothing => tell_plain(asked, refusal, hint),
+        Evidence::File(trouble) => tell_of_file(refusal, *trouble, hint),
+        Evidence::Table { table, is_second } => {
+            hint.turn_to(if *is_second {
+                asked.second
+            } else {
+                table_name(asked)
+            });
+            tell_of_table(asked, refusal, table, hint);
+        }
+        Evidence::Proposal(proposal) => tell_of_plan(asked, refusal, proposal.equipment(), hint),
+        Evidence::Line(line) => tell_of_line(asked, line, hint),
+        Evidence::Byte { line, byte } => tell_of_byte(asked, line, *byte, hint),
+        Evidence::Log { line, log } => tell_of_log(asked, line, log, hint),
+        Evidence::Rows(rows) => tell_of_rows(asked, refusal, rows, hint),
+        Evidence::Threads(threads) => tell_of_run(asked, refusal, *threads, hint),
     }
+}
+
+/// Says what is wrong, if the refusal says all.
+fn tell_plain(asked: &Asked, refusal: &CommandRefusal, hint: &mut HintText) {
     match refusal {
-        CommandRefusal::File(name) => tell_trouble(seen.trouble, name.as_str(), hint),
-        CommandRefusal::WordText
-        | CommandRefusal::Parity
-        | CommandRefusal::LabelText
-        | CommandRefusal::DataText
-        | CommandRefusal::Filter(_) => tell_of_words(asked, refusal, hint),
-        CommandRefusal::LineByte(_) | CommandRefusal::Script(_) | CommandRefusal::LogLine { .. } =>
-            { tell_of_line(asked, seen, hint) }
         CommandRefusal::TooMuch => tell_of_length(asked, hint),
-        CommandRefusal::Tolerance => tell_tolerance(asked, seen, hint),
-        CommandRefusal::Apart => tell_apart(asked, hint),
-        _ => tell_of_table(asked, refusal, seen, hint),
+        CommandRefusal::Apart => {
+            hint.turn_to(asked.third);
+            tell_apart(asked.second, hint);
+        }
+        _ => tell_of_words(asked, refusal, hint),
+    }
+}
+
+/// Says why a file cannot be read.
+fn tell_of_file(refusal: &CommandRefusal, trouble: FileTrouble, hint: &mut HintText) {
+    if let CommandRefusal::File(name) = refusal {
+        tell_trouble(trouble, name.as_str(), hint);
     }
 }
 
@@ -159,26 +191,35 @@ fn tell_of_words(asked: &Asked, refusal: &CommandRefusal, hint: &mut HintText) {
     }
 }
 
-/// Says what is wrong with a line of a script, of a file of words, of a log, or of a line file.
-fn tell_of_line(asked: &Asked, seen: &Seen, hint: &mut HintText) {
-    let Some(line) = &seen.line else {
-        return;
-    };
-    hint.turn_to(match &seen.log {
-        Some(log) => log_name(asked, log.number),
-        None => text_name(asked),
-    });
+/// Says what is wrong with a line of a script or of a file of words.
+fn tell_of_line(asked: &Asked, line: &LineEvidence, hint: &mut HintText) {
+    hint.turn_to(text_name(asked));
     hint.turn_to_line(line.number);
-    match (asked.verb, seen.byte) {
-        (_, Some(byte)) => tell_line_byte(line, byte, hint),
-        (Verb::Live, None) => tell_words_line(line, hint),
-        (Verb::Simulate | Verb::Survey | Verb::Judge, None) => {
-            if let Some(log) = &seen.log {
-                tell_log_line(line, log, &asked.channels, hint);
-            }
-        }
-        (_, None) => tell_script_line(line, hint),
+    if asked.verb == Verb::Live {
+        tell_words_line(line, hint);
+    } else {
+        tell_script_line(line, hint);
     }
+}
+
+/// Says what is wrong with a byte of a line file.
+fn tell_of_byte(asked: &Asked, line: &LineEvidence, byte: u8, hint: &mut HintText) {
+    hint.turn_to(text_name(asked));
+    hint.turn_to_line(line.number);
+    tell_line_byte(line, byte, hint);
+}
+
+/// Says what is wrong with a line of a log.
+fn tell_of_log(asked: &Asked, line: &LineEvidence, log: &LogEvidence, hint: &mut HintText) {
+    hint.turn_to(log_name(asked, log.number));
+    hint.turn_to_line(line.number);
+    tell_log_line(line, log, &asked.channels, hint);
+}
+
+/// Says what is wrong with rows of comma-separated values.
+fn tell_of_rows(asked: &Asked, refusal: &CommandRefusal, rows: &RowsEvidence, hint: &mut HintText) {
+    hint.turn_to(text_name(asked));
+    tell_rows(refusal, &asked.maps, asked.options.names, rows, hint);
 }
 
 /// Says that a log is too long, or that an image is too high.
@@ -198,52 +239,55 @@ fn tell_of_length(asked: &Asked, hint: &mut HintText) {
     }
 }
 
-/// Says how great the tolerance of recorded times may be.
-fn tell_tolerance(asked: &Asked, seen: &Seen, hint: &mut HintText) {
-    let Some(proposal) = &seen.proposal else {
-        return;
-    };
-    hint.turn_to(table_name(asked));
-    tell_half_period(proposal.equipment(), hint);
-}
-
-/// Says that two logs have no time in common.
-fn tell_apart(asked: &Asked, hint: &mut HintText) {
-    hint.turn_to(asked.third);
-    hint.begin(": no time is within this log and within ");
-    hint.say_quoted("", asked.second);
-    hint.end("; both logs need times of one clock");
-}
-
-/// Says what is wrong with the table or its plan, or how many threads it needs.
-fn tell_of_table(asked: &Asked, refusal: &CommandRefusal, seen: &Seen, hint: &mut HintText) {
-    hint.turn_to(if seen.is_second {
-        asked.second
-    } else {
-        table_name(asked)
-    });
+/// Says what the plan of a table does not have.
+fn tell_of_plan(
+    asked: &Asked,
+    refusal: &CommandRefusal,
+    equipment: &Equipment,
+    hint: &mut HintText,
+) {
     match refusal {
-        CommandRefusal::Table(kind, _) => tell_fault(asked, *kind, &seen.table, hint),
-        CommandRefusal::Unfit { .. } => tell_unfit_of_table(&seen.table, hint),
+        CommandRefusal::Group(_) => {
+            hint.turn_to(table_name(asked));
+            tell_groups(equipment.groups(), hint);
+        }
+        CommandRefusal::Tolerance => {
+            hint.turn_to(table_name(asked));
+            tell_half_period(equipment, hint);
+        }
+        _ => tell_plain(asked, refusal, hint),
+    }
+}
+
+/// Says how many threads a run needs, if they could not be started.
+fn tell_of_run(asked: &Asked, refusal: &CommandRefusal, threads: usize, hint: &mut HintText) {
+    if let CommandRefusal::Join = refusal {
+        hint.turn_to(table_name(asked));
+        hint.begin(": threads could not be started");
+        hint.say_count(": this station needs ", threads);
+        hint.end(", one for each receiver and each group");
+    }
+}
+
+/// Says what is wrong with a table or its plan.
+fn tell_of_table(
+    asked: &Asked,
+    refusal: &CommandRefusal,
+    table: &TableEvidence,
+    hint: &mut HintText,
+) {
+    match refusal {
+        CommandRefusal::Table(kind, _) => tell_fault(asked, *kind, table, hint),
+        CommandRefusal::Unfit { .. } => tell_unfit_of_table(table, hint),
         CommandRefusal::TooManyBuses { group, needed } => {
             tell_fewer_buses(group.as_str(), *needed, hint);
-        }
-        CommandRefusal::Group(_) => {
-            if let Some(proposal) = &seen.proposal {
-                tell_groups(proposal.equipment().groups(), hint);
-            }
-        }
-        CommandRefusal::Join => {
-            hint.begin(": threads could not be started");
-            hint.say_count(": this station needs ", seen.threads);
-            hint.end(", one for each receiver and each group");
         }
         _ => {}
     }
 }
 
 /// Says what is wrong with a table that has a fault of this kind.
-fn tell_fault(asked: &Asked, kind: FaultKind, table: &SeenTable, hint: &mut HintText) {
+fn tell_fault(asked: &Asked, kind: FaultKind, table: &TableEvidence, hint: &mut HintText) {
     if kind == FaultKind::NotToml {
         tell_order(asked, table.looks, hint);
     }
@@ -253,7 +297,7 @@ fn tell_fault(asked: &Asked, kind: FaultKind, table: &SeenTable, hint: &mut Hint
 }
 
 /// Says which outputs of a table have no period.
-fn tell_unfit_of_table(table: &SeenTable, hint: &mut HintText) {
+fn tell_unfit_of_table(table: &TableEvidence, hint: &mut HintText) {
     if let Some(equipment) = &table.equipment {
         tell_all_unfit(equipment, hint);
     }

@@ -2,7 +2,7 @@
 
 use crate::hint::HintText;
 use a429_console::arguments::requests::FieldOptions;
-use a429_console::hints::SeenLine;
+use a429_console::refusals::evidence::LineEvidence;
 use a429_filter::FILTERS;
 use a429_word::{Label, Word, raw_word};
 
@@ -101,7 +101,7 @@ pub fn tell_filter(number: usize, text: &str, hint: &mut HintText) {
 }
 
 /// Says which byte of a line file is not a symbol, and in which column it is.
-pub fn tell_line_byte(line: &SeenLine, byte: u8, hint: &mut HintText) {
+pub fn tell_line_byte(line: &LineEvidence, byte: u8, hint: &mut HintText) {
     hint.begin(", column ");
     hint.say_count("", line.bytes.len().saturating_add(1));
     if byte == b'\r' {

@@ -13,7 +13,7 @@ use Rattle.a429_import.specs.declared.lines.CsvLine.{CsvLine}
 use Rattle.a429_import.specs.declared.reading.LinesRead.{LinesRead}
 use Rattle.a429_import.specs.declared.rows.ImportRow.{ImportRow}
 use Rattle.a429_import.specs.ImportClashes.{Agree}
-use Rattle.a429_import.specs.ImportReading.{AreRead, HasRows, HaveFault, HaveRows, IsTaken, SayRows, with_line}
+use Rattle.a429_import.specs.ImportReading.{AreRead, HasRows, HaveFault, HaveRows, IsHeadingOf, IsTaken, SayRows, with_line}
 use Rattle.a429_import.specs.ImportRows.{◌>>=◌, CsvFault, next_row, rows_after, rows_stated, unless_wrong, with_row, wrong_column}
 use Rattle.a429_import.specs.Imports.{IsImportOf, States, has_text}
 
@@ -122,6 +122,21 @@ line_read heading old new line lines (Err e) known headed is =
 pub line_skipped : (fault : Option ImportFault) (old new : LinesRead) (lines : List CsvLine) (line : CsvLine) → is_some fault ≡ true → AreRead fault old lines → AreRead fault new (lines ++ line ∷ [])
 line_skipped None old new lines line some known = cc
 line_skipped (Some e) old new lines line some known = fault_stays e lines line known
+
+-- ---- the heading stays the first line
+
+pub first_headed : (heading : Heading) (line : CsvLine) (lines : List CsvLine) (o : Option Heading) → heading.line ≡ line → o ≡ None → IsHeadingOf o lines → IsHeadingOf (Some heading) (lines ++ line ∷ [])
+first_headed heading line lines None is none headed = ([], ap (λ (ls : List CsvLine). ls ++ line ∷ []) headed ∙ ap (λ (l : CsvLine). l ∷ []) (sym is))
+first_headed heading line lines (Some h) is none headed = cc none
+
+pub headed_more : (heading : Heading) (o : Option Heading) (lines : List CsvLine) (line : CsvLine) → o ≡ Some heading → IsHeadingOf o lines → IsHeadingOf o (lines ++ line ∷ [])
+headed_more heading None lines line there headed = cc there
+headed_more heading (Some h) lines line there headed = (headed.0 ++ line ∷ [], ap (λ (ls : List CsvLine). ls ++ line ∷ []) headed.1)
+
+pub headed_skipped : (fault : Option ImportFault) (read : LinesRead) (o : Option Heading) (lines : List CsvLine) (line : CsvLine) → is_some fault ≡ true → AreRead fault read lines → IsHeadingOf o lines → IsHeadingOf o (lines ++ line ∷ [])
+headed_skipped None read o lines line some known headed = cc some
+headed_skipped (Some e) read None lines line some known headed = absurd (subst (λ (ls : List CsvLine). HaveFault e ls) headed known)
+headed_skipped (Some e) read (Some h) lines line some known headed = (headed.0 ++ line ∷ [], ap (λ (ls : List CsvLine). ls ++ line ∷ []) headed.1)
 
 -- ---- the end
 

@@ -1,5 +1,5 @@
 -- What is imported from lines.
-use Rattle.std.proofs.Common.{◌≡◌, ◌∙◌, ℕ, false, List, [], ◌∷◌, Some, Vec, Global, Result, Ok, Err, ap, ap₂, refl, subst, sym}
+use Rattle.std.proofs.Common.{◌≡◌, ◌∙◌, ℕ, Bool, true, false, List, [], ◌∷◌, Option, None, Some, Vec, Global, Result, Ok, Err, ap, ap₂, refl, subst, sym}
 use Rattle.std.specs.Str.{IsUtf8}
 use Rattle.csv.specs.Reading.{strip_bom}
 use Rattle.toml.specs.Data.{Data, table}
@@ -13,6 +13,7 @@ use Rattle.a429_table.specs.Faults.{faults, first}
 use Rattle.a429_table.specs.Reading.{GivesUnlessMemory, document, judged, reading}
 use Rattle.a429_table.specs.Stated.{stated}
 use Rattle.a429_table.proofs.Documents.{document-text}
+use Rattle.a429_import.specs.declared.fault.ImportColumn.{ImportColumn}
 use Rattle.a429_import.specs.declared.fault.ImportFault.{ImportFault}
 use Rattle.a429_import.specs.declared.fault.ImportFault.TheVariants.{NoMemory, Csv, Wide, Table}
 use Rattle.a429_import.specs.declared.lines.CsvLine.{CsvLine}
@@ -21,7 +22,8 @@ use Rattle.a429_import.specs.ImportFaults.{of_table}
 use Rattle.a429_import.specs.ImportForms.{from_heading, separator_in}
 use Rattle.a429_import.specs.ImportRows.{rows_stated}
 use Rattle.a429_import.specs.ImportTables.{record_stated, root_members}
-use Rattle.a429_import.specs.Imports.{AreNamedLines, IsImport, IsImportOf, has_wide_row, is_wide_text}
+use Rattle.a429_import.specs.Imports.{AreNamedLines, IsImport, IsImportBy, IsImportOf, IsImportUnless, has_wide_row, is_wide_text}
+use Rattle.a429_import.specs.MadeLines.{first_twin}
 use Rattle.a429_import.proofs.ImportRanges.{stated_in_range}
 use Rattle.a429_import.proofs.ImportRecords.{tree_states}
 
@@ -68,10 +70,18 @@ pub narrow_by : (maps : List (List ℕ)) (text : List ℕ) (separator : ℕ) (re
     → is_wide_text maps text ≡ false
 narrow_by maps text separator rest by from none = ap₂ (λ (s : ℕ) (xs : List ℕ). has_wide_row s (strip_bom xs)) (sym by) (sym from) ∙ none
 
-pub import_of : (maps : List (List ℕ)) (text : List ℕ) (lines : List CsvLine) (result : Result (Vec ℕ Global) ImportFault) → is_wide_text maps text ≡ false → AreNamedLines maps text lines → IsImportOf lines result
-    → IsImport maps text result
-import_of maps text lines (Ok bytes) narrow are h = (narrow, lines, are, h)
-import_of maps text lines (Err NoMemory) narrow are h = tt
-import_of maps text lines (Err (Csv line kind column)) narrow are h = (narrow, lines, are, h)
-import_of maps text lines (Err (Wide line)) narrow are h = absurd h
-import_of maps text lines (Err (Table f)) narrow are h = (narrow, lines, are, h)
+unless_wide : (twin : Option (ℕ × ImportColumn)) (lines : List CsvLine) (line : ℕ) → IsImportUnless twin lines (Err (Wide line)) → ⊥
+unless_wide None lines line h = h
+unless_wide (Some twin) lines line h = cc h
+
+by_wide : (makes_names : Bool) (lines : List CsvLine) (line : ℕ) → IsImportBy makes_names lines (Err (Wide line)) → ⊥
+by_wide false lines line h = h
+by_wide true lines line h = unless_wide (first_twin lines) h.0 line h.2
+
+pub import_of : (maps : List (List ℕ)) (makes_names : Bool) (text : List ℕ) (lines : List CsvLine) (result : Result (Vec ℕ Global) ImportFault) → is_wide_text maps text ≡ false → AreNamedLines maps text lines
+    → IsImportBy makes_names lines result → IsImport maps makes_names text result
+import_of maps makes_names text lines (Ok bytes) narrow are h = (narrow, lines, are, h)
+import_of maps makes_names text lines (Err NoMemory) narrow are h = tt
+import_of maps makes_names text lines (Err (Csv line kind column)) narrow are h = (narrow, lines, are, h)
+import_of maps makes_names text lines (Err (Wide line)) narrow are h = absurd (by_wide makes_names lines line h)
+import_of maps makes_names text lines (Err (Table f)) narrow are h = (narrow, lines, are, h)

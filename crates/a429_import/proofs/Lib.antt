@@ -20,3 +20,8 @@ pub mod ImportForms
 pub mod ImportWidths
 mod PartsOfText
 mod ImportMaps
+pub mod MadeNames
+pub mod GivenTexts
+pub mod MadeReading
+pub mod SameTables
+pub mod Twins

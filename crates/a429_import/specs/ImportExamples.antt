@@ -6,6 +6,8 @@ use Rattle.a429_import.specs.ImportFields.{label_in, millis_in, rate_in, sdi_in}
 use Rattle.a429_import.specs.ImportForms.{heading_of}
 use Rattle.a429_import.specs.ImportMaps.{mapped, names_by}
 use Rattle.a429_import.specs.ImportRows.{is_in_millis, is_named, numbers_of}
+use Rattle.a429_import.specs.MadeLines.{made_fields}
+use Rattle.a429_import.specs.MadeNames.{made_field, made_name}
 
 -- bit rates, labels and SDIs
 pub record ReadsFields : Type 0 where
@@ -71,3 +73,17 @@ pub record ReadsMaps : Type 0 where
   pub no_heading : names_by (codes "c=sdi" ∷ []) (codes "label" ∷ codes "a" ∷ []) ≡ []
   pub no_column : names_by (codes "a=bus" ∷ []) (codes "label" ∷ codes "a" ∷ []) ≡ []
   pub found : heading_of (codes "Word=label" ∷ []) (codes "Outputs\nword,SDI") ≡ Some (44, codes "word,SDI")
+
+-- names that are made of texts: runs of other characters, a name that stays, a cut, a `-` before the cut, and what is no text
+pub record MakesNames : Type 0 where
+  pub cut : made_name (codes "Computed Airspeed") ≡ codes "computed-airspee"
+  pub runs : made_name (codes " ADC #1 (left_b)") ≡ codes "adc-1-left_b"
+  pub stays : made_name (codes "-adc--1") ≡ codes "-adc--1"
+  pub last : made_name (codes "Computed Airspe d") ≡ codes "computed-airspe"
+  pub nothing : made_name (codes "?!") ≡ codes "?!"
+  pub empty : made_field [] ≡ []
+  pub no_text : made_field (65 ∷ 255 ∷ []) ≡ 65 ∷ 255 ∷ []
+
+-- the fields of a line below a heading
+pub record MakesFields : Type 0 where
+  pub some : made_fields (codes "Source" ∷ codes "note" ∷ codes "group" ∷ []) (codes "True Heading" ∷ codes "No 1" ∷ [] ∷ []) ≡ codes "true-heading" ∷ codes "No 1" ∷ [] ∷ []

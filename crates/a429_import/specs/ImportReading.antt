@@ -65,6 +65,11 @@ AreRead (Some fault) read lines = HaveFault fault lines
 abbrev pub StandsFor : LinesRead → List CsvLine → Type 0
 StandsFor read lines = AreRead read.fault read lines
 
+-- the heading is the first of these lines, if there is one
+abbrev pub IsHeadingOf : Option Heading → List CsvLine → Type 0
+IsHeadingOf None lines = lines ≡ []
+IsHeadingOf (Some heading) lines = (below : List CsvLine) × (lines ≡ heading.line ∷ below)
+
 -- this is so of these lines with the names of the heading by texts HEADING=COLUMN; the flag says whether there is a heading
 abbrev pub IsOfNamed : List (List ℕ) → Bool → (List CsvLine → Type 0) → List CsvLine → Type 0
 IsOfNamed maps is_below P lines = (named : List CsvLine) × AreNamedBy maps is_below lines named × P named

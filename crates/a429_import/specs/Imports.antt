@@ -1,5 +1,5 @@
 -- What is imported from a text of comma-separated values: a table, or why there is none (profile: import).
-use Rattle.std.specs.Prelude.{◌≡◌, ◌==◌, ℕ, Bool, true, false, not, List, filter, length, map, nat_lt, Some, Result, Ok, Err, Vec}
+use Rattle.std.specs.Prelude.{◌≡◌, ◌==◌, ℕ, Bool, true, false, not, List, filter, length, map, nat_lt, Option, None, Some, Result, Ok, Err, Vec}
 use Rattle.std.specs.List.{AllByRecursion, list_any}
 use Rattle.std.specs.declared.alloc.Global.{Global}
 use Rattle.csv.specs.Reading.{AreRecords, default_config, records, strip_bom}
@@ -10,6 +10,8 @@ use Rattle.toml.specs.Data.{table}
 use Rattle.a429_table.specs.declared.fault.TableFault.TheVariants as fault
 use Rattle.a429_table.specs.Faults.{faults, first}
 use Rattle.a429_table.specs.Reading.{reading}
+use Rattle.a429_import.specs.declared.fault.CsvFaultKind.TheVariants.{Differs}
+use Rattle.a429_import.specs.declared.fault.ImportColumn.{ImportColumn}
 use Rattle.a429_import.specs.declared.fault.ImportFault.{ImportFault}
 use Rattle.a429_import.specs.declared.fault.ImportFault.TheVariants.{NoMemory, Csv, Wide, Table}
 use Rattle.a429_import.specs.declared.lines.CsvLine.{CsvLine}
@@ -18,6 +20,7 @@ use Rattle.a429_import.specs.ImportForms.{from_heading, separator_in}
 use Rattle.a429_import.specs.ImportMaps.{AreNamedBy}
 use Rattle.a429_import.specs.ImportRows.{CsvFault, rows_stated}
 use Rattle.a429_import.specs.ImportTables.{root_members, record_stated}
+use Rattle.a429_import.specs.MadeLines.{AreMade, first_twin}
 
 -- the result is the one of the rows, unless an allocation failed; the fault of a table cannot come here
 abbrev pub States : {X Y : Type 0} → (X → Y) → Result X ImportFault → Result Y CsvFault → Type 0
@@ -73,8 +76,18 @@ IsImportOf lines (Err (Table fault.NoMemory)) = ⊥
 IsImportOf lines (Err (Table (fault.At kind place))) =
     (rows : List ImportRow) × (rows_stated lines ≡ Ok rows) × (first (faults (table (root_members rows))) ≡ Some (kind, place))
 
+-- the same, unless there is a line whose text differs from that of its name
+abbrev pub IsImportUnless : Option (ℕ × ImportColumn) → List CsvLine → Result (Vec ℕ Global) ImportFault → Type 0
+IsImportUnless None lines result = IsImportOf lines result
+IsImportUnless (Some twin) lines result = result ≡ Err (Csv twin.0 Differs (Some twin.1))
+
+-- the import of lines whose names are made, if the flag is set
+abbrev pub IsImportBy : Bool → List CsvLine → Result (Vec ℕ Global) ImportFault → Type 0
+IsImportBy false lines result = IsImportOf lines result
+IsImportBy true lines result = (made : List CsvLine) × AreMade lines made × IsImportUnless (first_twin lines) made result
+
 -- the same for a text; a row with too many fields is refused before any line is looked at, and an allocation may fail before all lines are known
-abbrev pub IsImport : List (List ℕ) → List ℕ → Result (Vec ℕ Global) ImportFault → Type 0
-IsImport maps text (Err NoMemory) = Unit {0}
-IsImport maps text (Err (Wide line)) = is_wide_text maps text ≡ true
-IsImport maps text result = (is_wide_text maps text ≡ false) × (lines : List CsvLine) × AreNamedLines maps text lines × IsImportOf lines result
+abbrev pub IsImport : List (List ℕ) → Bool → List ℕ → Result (Vec ℕ Global) ImportFault → Type 0
+IsImport maps makes_names text (Err NoMemory) = Unit {0}
+IsImport maps makes_names text (Err (Wide line)) = is_wide_text maps text ≡ true
+IsImport maps makes_names text result = (is_wide_text maps text ≡ false) × (lines : List CsvLine) × AreNamedLines maps text lines × IsImportBy makes_names lines result

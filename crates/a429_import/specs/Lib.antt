@@ -9,6 +9,8 @@ pub mod ImportTables
 pub mod ImportBuilding
 pub mod ImportFaults
 pub mod ImportTexts
+pub mod MadeNames
+pub mod MadeLines
 pub mod Imports
 pub mod ImportWidths
 pub mod ImportedRows
@@ -16,6 +18,8 @@ pub mod FirstRows
 pub mod ImportClashes
 pub mod ImportLimits
 pub mod ImportReading
+pub mod MadeReading
+pub mod SameTables
 pub mod NextRows
 pub mod Names
 pub mod Known

@@ -74,7 +74,8 @@ pub enum CsvFaultKind {
     Form,
     /// The heading lacks a column, or has it twice.
     Column,
-    /// The row contradicts an earlier row about the same source, receiver or group.
+    /// The row contradicts an earlier row about the same source, receiver or group. If names are made: its text of one of
+    /// these differs from that of an earlier row, and both become one name.
     Differs,
 }
 
@@ -106,8 +107,9 @@ pub enum ImportFault {
     /// An allocation failed. This can come instead of any other answer.
     #[error("out of memory")]
     NoMemory,
-    /// The rows have a fault of this kind, and no earlier row has a fault. Lines are counted from 1; `column` is `None`
-    /// if the row has more or fewer fields than the heading.
+    /// The rows have a fault of this kind, and no earlier row has a fault. Two texts that become one name are looked for
+    /// in all rows before any other fault. Lines are counted from 1; `column` is `None` if the row has more or fewer
+    /// fields than the heading.
     #[error("csv line {line} {kind}")]
     Csv {
         line: u64,

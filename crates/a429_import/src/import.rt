@@ -1,18 +1,23 @@
 //! An equipment table from rows of comma-separated values.
-ghost use Rattle.std.specs.Prelude.{◌≡◌, [], false, List, Ok};
+ghost use Rattle.std.specs.Prelude.{◌≡◌, [], false, List, Ok, true};
 ghost use Rattle.a429_import.specs.declared.lines.CsvLine.{CsvLine};
 ghost use Rattle.a429_import.specs.declared.rows.ImportRow.{ImportRow};
 ghost use Rattle.a429_import.specs.ImportForms.{from_heading, separator_in};
 ghost use Rattle.a429_import.specs.ImportMaps.{given_texts};
 ghost use Rattle.a429_import.specs.ImportReading.{HasRows, HaveRows, StandsFor};
 ghost use Rattle.a429_import.specs.ImportRows.{rows_stated};
-ghost use Rattle.a429_import.specs.Imports.{IsImport, IsImportOf, is_wide_text};
+ghost use Rattle.a429_import.specs.Imports.{IsImport, IsImportBy, IsImportOf, is_wide_text};
+ghost use Rattle.a429_import.specs.MadeLines.{AreMade};
+ghost use Rattle.a429_import.specs.MadeReading.{HasMade, IsReadBy};
 
-use crate::fault::{ImportColumn, ImportFault};
+use crate::comments::with_texts;
+use crate::fault::{CsvFaultKind, ImportColumn, ImportFault};
 use crate::forms::{Form, form_of};
 use crate::limits::limit_fault;
-use crate::reading::{LinesRead, RowsRead, read_lines, wrong_heading};
+use crate::made_reading::NamesRead;
+use crate::reading::{LinesRead, RowsRead, wrong_heading};
 use crate::tables::table_text;
+use crate::text_reading::read_lines;
 use crate::widths::wide_line;
 use a429_table::{TableFault, read_equipment};
 use std::alloc::Global;
@@ -53,38 +58,79 @@ fn table_of_lines(alloc: Global, read: &mut LinesRead) -> Result<Vec<u8>, Import
     }
 }
 
+/// The table that lines with made names describe, with the given texts as comments.
+fn commented_table(alloc: Global, read: &mut NamesRead) -> Result<Vec<u8>, ImportFault>
+    requires { (lines : List CsvLine) × HasMade read.old.lines.heading read.old lines }
+    ensures { (lines : List CsvLine) → HasMade read.old.lines.heading read.old lines
+        → (made : List CsvLine) × AreMade lines made × IsImportOf made result }
+{
+    match table_of_lines(alloc, &mut read.lines) {
+        Ok(text) => Ok(with_texts(alloc, &read.given, text)?),
+        Err(fault) => Err(fault),
+    }
+}
+
+/// The same, unless two texts of a column become one name.
+fn made_table(alloc: Global, read: &mut NamesRead) -> Result<Vec<u8>, ImportFault>
+    requires { (lines : List CsvLine) × HasMade read.old.lines.heading read.old lines }
+    ensures { (lines : List CsvLine) → HasMade read.old.lines.heading read.old lines → IsImportBy true lines result }
+{
+    match read.given.twin {
+        Some((line, column)) => Err(ImportFault::Csv {
+            line,
+            kind: CsvFaultKind::Differs,
+            column: Some(column),
+        }),
+        None => commented_table(alloc, read),
+    }
+}
+
+/// The table that lines describe, whose names are made if the flag is set.
+fn table_by(alloc: Global, makes_names: bool, read: &mut NamesRead) -> Result<Vec<u8>, ImportFault>
+    requires { (lines : List CsvLine) × IsReadBy makes_names read.old lines }
+    ensures { (lines : List CsvLine) → IsReadBy makes_names read.old lines → IsImportBy makes_names lines result }
+{
+    if makes_names {
+        made_table(alloc, read)
+    } else {
+        table_of_lines(alloc, &mut read.lines)
+    }
+}
+
 /// The table that a text of this form describes, by what is known before its first line. Error: an allocation failed.
 fn read_table(
     alloc: Global,
     maps: &[&str],
+    makes_names: bool,
     text: &[u8],
     form: Form<'_>,
-    read: &mut LinesRead,
+    read: &mut NamesRead,
 ) -> Result<Vec<u8>, ImportFault>
     requires separator { form.separator ≡ separator_in (given_texts maps.now) text.now }
     requires text { form.text.now ≡ from_heading (given_texts maps.now) text.now }
-    requires read { StandsFor read.old [] }
-    ensures { is_wide_text (given_texts maps.now) text.now ≡ false → IsImport (given_texts maps.now) text.now result }
+    requires read { IsReadBy makes_names read.old [] }
+    ensures { is_wide_text (given_texts maps.now) text.now ≡ false → IsImport (given_texts maps.now) makes_names text.now result }
 {
-    read_lines(alloc, maps, text, form, read)?;
-    table_of_lines(alloc, read)
+    read_lines(alloc, maps, makes_names, text, form, read)?;
+    table_by(alloc, makes_names, read)
 }
 
 /// The same. No row of the text has too many fields.
 fn narrow_table(
     alloc: Global,
     maps: &[&str],
+    makes_names: bool,
     text: &[u8],
     form: Form<'_>,
 ) -> Result<Vec<u8>, ImportFault>
     requires separator { form.separator ≡ separator_in (given_texts maps.now) text.now }
     requires text { form.text.now ≡ from_heading (given_texts maps.now) text.now }
-    ensures { is_wide_text (given_texts maps.now) text.now ≡ false → IsImport (given_texts maps.now) text.now result }
+    ensures { is_wide_text (given_texts maps.now) text.now ≡ false → IsImport (given_texts maps.now) makes_names text.now result }
 {
-    // Three names that are new need a row of 22 bytes. So a chain has 23 names on average at most, and 16 MiB of rows
-    // take 64 MiB of memory.
-    let mut read = LinesRead::new(alloc, text.len() / 512)?;
-    read_table(alloc, maps, text, form, &mut read)
+    // A row with a new name has 11 bytes. So a chain has 12 names on average at most, and 16 MiB of rows take 64 MiB of
+    // memory.
+    let mut read = NamesRead::new(alloc, makes_names, text.len() / 128)?;
+    read_table(alloc, maps, makes_names, text, form, &mut read)
 }
 
 /// The equipment table, as TOML of version 2, that rows of comma-separated values describe (profile: import): a row of
@@ -92,12 +138,22 @@ fn narrow_table(
 /// that `ImportColumn` does not have are skipped. With a text HEADING=COLUMN a heading is the name of a column. Receivers,
 /// sources and groups are in the order of their first rows, outputs in the order of the rows of their group.
 /// `read_equipment` reads the answer. Error: the first fault of the rows, otherwise the first of the table.
-pub fn import_table(alloc: Global, maps: &[&str], bytes: &[u8]) -> Result<Vec<u8>, ImportFault>
-    ensures { IsImport (given_texts maps.now) bytes.now result }
+///
+/// With `makes_names`, the texts of groups, sources and receivers become names: `made_name` makes them. The answer has
+/// a comment above each group, source and receiver whose text differs from its name. Two texts of a column that become
+/// one name are refused: the fault is the first line whose text differs from the text of an earlier line with the same
+/// name. This comes before any other fault except a row with too many fields.
+pub fn import_table(
+    alloc: Global,
+    maps: &[&str],
+    makes_names: bool,
+    bytes: &[u8],
+) -> Result<Vec<u8>, ImportFault>
+    ensures { IsImport (given_texts maps.now) makes_names bytes.now result }
 {
     let form = form_of(maps, bytes);
     match wide_line(bytes, form) {
         Some(line) => Err(ImportFault::Wide { line }),
-        None => narrow_table(alloc, maps, bytes, form),
+        None => narrow_table(alloc, maps, makes_names, bytes, form),
     }
 }

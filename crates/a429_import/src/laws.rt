@@ -1,5 +1,5 @@
 //! What is true of the definitions that the contracts cite.
-ghost use Rattle.a429_import.specs.ImportExamples.{ReadsAlone, ReadsFields, ReadsHeadings, ReadsMaps, ReadsMillis};
+ghost use Rattle.a429_import.specs.ImportExamples.{MakesFields, MakesNames, ReadsAlone, ReadsFields, ReadsHeadings, ReadsMaps, ReadsMillis};
 ghost use Rattle.a429_import.specs.ImportedRows.{RowsAreInRecord};
 
 /// The record of the table has what each imported row says: a source with its name, label and SDI, whose receiver has the
@@ -9,11 +9,13 @@ pub fn imported_rows_are_in_record()
     ensures { RowsAreInRecord }
 {}
 
-/// What some fields state, some headings, and rows with and without a group: the definitions, by examples.
+/// What some fields state, some headings, rows with and without a group, and made names: the definitions, by examples.
 pub fn forms_are_read_as_written()
     ensures fields { ReadsFields }
     ensures millis { ReadsMillis }
     ensures headings { ReadsHeadings }
     ensures maps { ReadsMaps }
     ensures alone { ReadsAlone }
+    ensures names { MakesNames }
+    ensures made { MakesFields }
 {}

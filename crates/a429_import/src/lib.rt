@@ -2,14 +2,17 @@
 //!
 //! `import_table` takes a heading with the names of columns, and below it a row for each output, or for a source that no
 //! group sends. It gives an equipment table as TOML. `csv_lines` gives the rows with their lines, and `IMPORT_COLUMNS`
-//! the columns that are read.
+//! the columns that are read. `made_name` makes a name of a text: `import_table` does so if it is asked to.
 //!
 //! Errors: an allocation failed, or the rows or their table have a fault. `ImportFault` has the first fault of the rows,
 //! with its line and its column; otherwise the first fault of the table.
 //!
 //! ```text
-//! match import_table(alloc, maps, &bytes) {
-//!     Ok(text) => Ok(Reply::done(text)),
+//! match import_table(alloc, maps, names, &bytes) {
+//!     Ok(text) => {
+//!         ..
+//!         Ok(Reply::done(text))
+//!     }
 //!     Err(fault) => {
 //!         ..
 //!     }
@@ -20,15 +23,20 @@
 mod building;
 mod clashes;
 mod columns;
+mod comments;
 mod fault;
 mod fields;
 mod firsts;
 mod forms;
+mod given;
 mod import;
 mod known;
 pub mod laws;
 mod limits;
 mod lines;
+mod made_lines;
+mod made_names;
+mod made_reading;
 mod maps;
 mod named_rows;
 mod names;
@@ -36,8 +44,10 @@ mod plain;
 mod reading;
 mod row_index;
 mod rows;
+mod same_tables;
 mod short_numbers;
 mod tables;
+mod text_reading;
 mod texts;
 mod widths;
 mod words;
@@ -47,5 +57,6 @@ pub use fault::{CsvFaultKind, ImportColumn, ImportFault};
 pub use fields::may_be_thousands;
 pub use import::import_table;
 pub use lines::{CsvLine, LineCount, csv_lines};
+pub use made_names::made_name;
 pub use maps::{column_in, is_met, named_by};
 pub use rows::form_fault;

@@ -1,27 +1,21 @@
-//! What rows say, one line after the other. No line is kept.
-ghost use Rattle.std.specs.Prelude.{◌≡◌, ◌++◌, [], ◌∷◌, filter, IfOk, List, OnOk, Some};
+//! What rows say, one line after the other. No line is kept except the heading.
+ghost use Rattle.std.specs.Prelude.{◌≡◌, ◌++◌, [], ◌∷◌, IfOk, List, None, OnOk, Some};
 ghost use Rattle.std.specs.Result.{result_map_both};
 ghost use Rattle.csv.specs.Records.{fields_of};
 ghost use Rattle.a429_import.specs.declared.lines.CsvLine.{CsvLine};
 ghost use Rattle.a429_import.specs.declared.rows.ImportRow.{ImportRow};
 ghost use Rattle.a429_import.specs.ImportClashes.{Agree};
-ghost use Rattle.a429_import.specs.ImportForms.{from_heading, separator_in};
-ghost use Rattle.a429_import.specs.ImportMaps.{given_texts};
-ghost use Rattle.a429_import.specs.ImportReading.{AreRead, HasRows, HaveRows, IsKept, IsOfNamed, IsTaken, StandsFor, heading_fault, with_line};
+ghost use Rattle.a429_import.specs.ImportReading.{AreRead, HasRows, HaveRows, IsHeadingOf, IsKept, IsTaken, StandsFor, heading_fault, with_line};
 ghost use Rattle.a429_import.specs.ImportRows.{next_row, with_row};
 ghost use Rattle.a429_import.specs.ImportTexts.{row_view};
-ghost use Rattle.a429_import.specs.Imports.{AreLines, AreNamedLines, has_text};
 ghost use Rattle.a429_import.specs.Known.{Knows};
 
 use crate::clashes::first_clash;
 use crate::columns::{Heading, wrong_column};
 use crate::fault::{CsvFaultKind, ImportColumn, ImportFault};
-use crate::forms::Form;
 use crate::known::Known;
-use crate::lines::{CsvLine, count_before, line_of};
-use crate::maps::named_line;
+use crate::lines::CsvLine;
 use crate::rows::{ImportRow, RowFields, copy_of, row_of};
-use csv::ReaderBuilder;
 use std::alloc::{AllocError, Global};
 
 /// What rows say.
@@ -47,7 +41,8 @@ pub struct LinesRead {
 impl LinesRead {
     /// Before the first line. Error: an allocation failed.
     pub fn new(alloc: Global, chains: usize) -> Result<LinesRead, AllocError>
-        ensures { IfOk result (λ read. StandsFor read []) }
+        ensures read { IfOk result (λ read. StandsFor read []) }
+        ensures heading { IfOk result (λ read. read.heading ≡ None) }
     {
         let known = Known::new(alloc, chains)?;
         Ok(LinesRead {
@@ -170,7 +165,8 @@ fn heading_fault(line: &CsvLine) -> Option<ImportFault>
 /// Takes one more line, which is the heading if there is none yet. The answer is the fault that it has, if any.
 fn next_line(alloc: Global, read: &mut LinesRead, line: CsvLine) -> Option<ImportFault>
     requires { (lines : List CsvLine) × HaveRows read.old.heading read.old lines }
-    ensures { (lines : List CsvLine) → HaveRows read.old.heading read.old lines → AreRead result read.new (lines ++ line ∷ []) }
+    ensures read { (lines : List CsvLine) → HaveRows read.old.heading read.old lines → AreRead result read.new (lines ++ line ∷ []) }
+    ensures heading { (lines : List CsvLine) → IsHeadingOf read.old.heading lines → IsHeadingOf read.new.heading (lines ++ line ∷ []) }
 {
     match &read.heading {
         None => {
@@ -183,80 +179,14 @@ fn next_line(alloc: Global, read: &mut LinesRead, line: CsvLine) -> Option<Impor
 }
 
 /// Takes one more line, unless one before it has a fault.
-fn take_line(alloc: Global, read: &mut LinesRead, line: CsvLine)
+pub fn take_line(alloc: Global, read: &mut LinesRead, line: CsvLine)
     requires { (lines : List CsvLine) × StandsFor read.old lines }
-    ensures { (lines : List CsvLine) → StandsFor read.old lines → StandsFor read.new (lines ++ line ∷ []) }
+    ensures read { (lines : List CsvLine) → StandsFor read.old lines → StandsFor read.new (lines ++ line ∷ []) }
+    ensures heading { (lines : List CsvLine) → StandsFor read.old lines → IsHeadingOf read.old.heading lines
+        → IsHeadingOf read.new.heading (lines ++ line ∷ []) }
 {
     if read.fault.is_none() {
         let fault = next_line(alloc, read, line);
         read.fault = fault;
     }
-}
-
-/// Takes one more line. A first line is the heading: it gets its names by texts HEADING=COLUMN. The answer is whether the
-/// heading was taken. Error: an allocation failed.
-fn take_named(
-    alloc: Global,
-    maps: &[&str],
-    is_below: bool,
-    read: &mut LinesRead,
-    line: CsvLine,
-) -> Result<bool, AllocError>
-    requires { (lines : List CsvLine) × IsOfNamed (given_texts maps.now) is_below (StandsFor read.old) lines }
-    ensures { IfOk result (λ below. (lines : List CsvLine) → IsOfNamed (given_texts maps.now) is_below (StandsFor read.old) lines
-        → IsOfNamed (given_texts maps.now) below (StandsFor read.new) (lines ++ line ∷ [])) }
-{
-    match named_line(alloc, maps, is_below, line) {
-        Ok(named) => {
-            take_line(alloc, read, named);
-            Ok(true)
-        }
-        Err(fault) => Err(fault),
-    }
-}
-
-/// The same, unless the fields of the line are all empty. Error: an allocation failed.
-fn take_filled(
-    alloc: Global,
-    maps: &[&str],
-    is_below: bool,
-    read: &mut LinesRead,
-    line: CsvLine,
-) -> Result<bool, AllocError>
-    requires { (lines : List CsvLine) × IsOfNamed (given_texts maps.now) is_below (StandsFor read.old) lines }
-    ensures { IfOk result (λ below. (lines : List CsvLine) → IsOfNamed (given_texts maps.now) is_below (StandsFor read.old) lines
-        → IsOfNamed (given_texts maps.now) below (StandsFor read.new) (lines ++ filter (λ l. has_text (fields_of l.fields)) (line ∷ []))) }
-{
-    if line.has_text() {
-        take_named(alloc, maps, is_below, read, line)
-    } else {
-        Ok(is_below)
-    }
-}
-
-/// Takes all lines of a text of this form from its heading on. Error: an allocation failed.
-pub fn read_lines(
-    alloc: Global,
-    maps: &[&str],
-    text: &[u8],
-    form: Form<'_>,
-    read: &mut LinesRead,
-) -> Result<(), AllocError>
-    requires separator { form.separator ≡ separator_in (given_texts maps.now) text.now }
-    requires text { form.text.now ≡ from_heading (given_texts maps.now) text.now }
-    requires read { StandsFor read.old [] }
-    ensures { OnOk result ((lines : List CsvLine) × AreNamedLines (given_texts maps.now) text.now lines × StandsFor read.new lines) }
-{
-    let reader = ReaderBuilder::new()
-        .has_headers(false)
-        .flexible(true)
-        .delimiter(form.separator)
-        .from_reader(alloc, form.text);
-    let mut count = count_before(text, form.text);
-    let mut is_below = false;
-    for row in reader.into_byte_records() {
-        let line = line_of(form, &mut count, row)?;
-        is_below = take_filled(alloc, maps, is_below, read, line)?;
-    }
-    Ok(())
 }

@@ -3,14 +3,15 @@ ghost use Rattle.std.specs.Prelude.{◌≡◌, ◌≢◌, false, Ok, [], IfOk};
 ghost use Rattle.a429_table.specs.Reading.{reading};
 ghost use Rattle.std.specs.List.{list_any};
 ghost use Rattle.a429_live.specs.Resubmitted.{AnswersFault, IsAnswer, is_refused};
-ghost use Rattle.a429_live.specs.declared.control.SubmitAnswer.TheVariants.{Refused};
+ghost use Rattle.a429_live.specs.declared.control.SubmitAnswer.TheVariants as submitted;
 ghost use Rattle.a429_console.specs.declared.refusals.CommandRefusal.TheVariants.{Memory};
 ghost use Rattle.a429_station.specs.Resubmitting.{GoesOn};
 
-use a429_console::hints::SeenTable;
 use a429_console::hints::warnings::{FurtherCause, Warning};
-use a429_console::refusals::CommandRefusal;
-use a429_console::refusals::tables::{read_table, too_many_buses, unfit};
+use a429_console::planning::read_table;
+use a429_console::refusals::evidence::TableEvidence;
+use a429_console::refusals::tables::{too_many_buses, unfit};
+use a429_console::refusals::{CommandRefusal, Refused};
 use a429_equipment::Equipment;
 use a429_station::{Control, ReplanFault, Station};
 use std::alloc::{AllocError, Global};
@@ -69,7 +70,7 @@ impl<'a> Resubmits<'a> {
 
 /// The answer of a refusal. Error: the refusal is that an allocation failed.
 fn refused(refusal: CommandRefusal) -> Result<SubmitAnswer, AllocError>
-    ensures { IfOk result (λ answer. (answer ≡ Refused refusal) × (refusal ≢ Memory)) }
+    ensures { IfOk result (λ answer. (answer ≡ submitted.Refused refusal) × (refusal ≢ Memory)) }
 {
     match refusal {
         CommandRefusal::Memory => Err(AllocError),
@@ -114,23 +115,39 @@ fn answer_read<R: Wait>(
     }
 }
 
-/// Resubmits a table. What was read of it is kept in `seen`. Error: an allocation fails.
+/// What a table is answered, and what was read of it, for a hint.
+#[derive(Drop)]
+struct TableAnswer {
+    answer: SubmitAnswer,
+    table: TableEvidence,
+}
+
+/// The answer to a table that is refused. Error: the refusal is that an allocation failed.
+fn answer_refused(refusal: Refused) -> Result<TableAnswer, AllocError>
+    ensures { IfOk result (λ given. (given.answer ≡ submitted.Refused refusal) × (refusal ≢ Memory)) }
+{
+    let (refusal, evidence) = refusal.into_parts();
+    let answer = refused(refusal)?;
+    let table = evidence.into_table();
+    Ok(TableAnswer { answer, table })
+}
+
+/// Resubmits a table. Error: an allocation fails.
 fn answer_to<R: Wait>(
     alloc: Global,
     station: &mut Station<'_, R>,
     table: &[u8],
-    seen: &mut SeenTable,
-) -> Result<SubmitAnswer, AllocError>
-    ensures answer { IfOk result (λ answer. IsAnswer station.old table.now answer station.new) }
+) -> Result<TableAnswer, AllocError>
+    ensures answer { IfOk result (λ given. IsAnswer station.old table.now given.answer station.new) }
     ensures on { GoesOn station.old station.new }
 {
-    match read_table(alloc, table, seen) {
+    match read_table(alloc, table) {
         Ok(equipment) => {
-            let answer = answer_read(alloc, station, table, &equipment);
-            seen.keep_equipment(equipment);
-            answer
+            let answer = answer_read(alloc, station, table, &equipment)?;
+            let table = TableEvidence::of_equipment(equipment);
+            Ok(TableAnswer { answer, table })
         }
-        Err(refusal) => refused(refusal),
+        Err(refusal) => answer_refused(refusal),
     }
 }
 
@@ -139,9 +156,9 @@ fn cause_of(
     alloc: Global,
     running: &Equipment,
     answer: &SubmitAnswer,
-    seen: &SeenTable,
+    table: &TableEvidence,
 ) -> Option<FurtherCause> {
-    match (answer, &seen.equipment) {
+    match (answer, &table.equipment) {
         (SubmitAnswer::Refused(refusal), _) => FurtherCause::of(alloc, refusal),
         (SubmitAnswer::OtherStation, Some(other)) => FurtherCause::of_stations(
             alloc, running, other,
@@ -155,13 +172,10 @@ fn note_answer(
     alloc: Global,
     running: &Equipment,
     number: usize,
-    answer: &Result<SubmitAnswer, AllocError>,
-    table: SeenTable,
+    answer: &SubmitAnswer,
+    table: TableEvidence,
     warnings: &mut Vec<Warning>,
 ) {
-    let Ok(answer) = answer else {
-        return;
-    };
     if let Some(cause) = cause_of(alloc, running, answer, &table) {
         Warning::note_further(warnings, number, cause, table);
     }
@@ -179,10 +193,12 @@ fn answer_and_note<R: Wait>(
     ensures answer { IfOk result (λ answer. IsAnswer station.old table.now answer station.new) }
     ensures on { GoesOn station.old station.new }
 {
-    let mut seen = SeenTable::nothing();
-    let answer = answer_to(alloc, station, table, &mut seen);
-    note_answer(alloc, running, number, &answer, seen, warnings);
-    answer
+    let TableAnswer {
+        answer,
+        table: read,
+    } = answer_to(alloc, station, table)?;
+    note_answer(alloc, running, number, &answer, read, warnings);
+    Ok(answer)
 }
 
 /// Whether a table was refused.

@@ -5,18 +5,8 @@
 //! terminal, `NoProgress` shows nothing.
 //!
 //! ```text
-//! let mut seen = Seen::nothing();
 //! let mut warnings = Vec::new(alloc);
-//! let result = run_station(
-//!     rt,
-//!     alloc,
-//!     files,
-//!     asked,
-//!     &mut seen,
-//!     &mut warnings,
-//!     out,
-//!     progress,
-//! );
+//! let result = run_station(rt, alloc, files, asked, &mut warnings, out, progress);
 //! ```
 #![tactic(auto)]
 

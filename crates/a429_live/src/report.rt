@@ -7,7 +7,7 @@ ghost use Rattle.a429_live.specs.Resubmitted.{AppendsAll, AppendsAnswer, Reports
 ghost use Rattle.a429_console.specs.RefusalText.{refusal_line};
 
 use crate::control::SubmitAnswer;
-use a429_console::refusals::CommandRefusal;
+use a429_console::refusals::{CommandRefusal, Refused};
 use a429_equipment::{Equipment, GroupRow, ReceiverRow};
 use a429_filter::MemoryLine;
 use a429_station::Report;
@@ -123,16 +123,16 @@ pub fn report_text(
     further: &[Vec<u8>],
     answers: &[SubmitAnswer],
     report: &Report<MemoryLine, CountSink>,
-) -> Result<Vec<u8>, CommandRefusal>
+) -> Result<Vec<u8>, Refused>
     ensures { ReportsRun station.now (bytes_of further.now) answers.now report.now.receivers.items report.now.groups.items result }
 {
     let mut text = Vec::new(alloc);
     let Ok(()) = push_all_resubmitted(&mut text, further, answers) else {
-        return Err(CommandRefusal::Memory);
+        return Err(Refused::plain(CommandRefusal::Memory));
     };
     match push_totals(&mut text, station, report) {
         Ok(()) => Ok(text),
-        Err(_) => Err(CommandRefusal::Memory),
+        Err(_) => Err(Refused::plain(CommandRefusal::Memory)),
     }
 }
 

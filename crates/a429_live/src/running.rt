@@ -16,15 +16,16 @@ use crate::control::Resubmits;
 use crate::progress::{Progress, ProgressGate};
 use crate::report::report_text;
 use crate::words::{Arrival, line_sources, read_words};
+use a429_console::answered::{Answered, plain_answer};
 use a429_console::arguments::requests::Asked;
 use a429_console::files::FileReader;
 use a429_console::files::reading::{read_file, read_files};
-use a429_console::hints::Seen;
 use a429_console::hints::warnings::Warning;
 use a429_console::output::endings::finish;
 use a429_console::output::{Output, OutputFault};
-use a429_console::refusals::tables::propose;
-use a429_console::refusals::{CommandRefusal, refuse};
+use a429_console::planning::propose;
+use a429_console::refusals::evidence::Evidence;
+use a429_console::refusals::{CommandRefusal, Refused, refuse};
 use a429_equipment::Equipment;
 use a429_replay::Names;
 use a429_slots::laws::plans_are_unique;
@@ -55,13 +56,12 @@ fn read_input<F: FileReader>(
     alloc: Global,
     files: &mut F,
     asked: &Asked,
-    seen: &mut Seen,
-) -> Result<LiveInput, CommandRefusal>
+) -> Result<LiveInput, Refused>
     ensures { HasRead F.answers (λ file. IsLiveReading file (asked_of asked.now) result) files.old files.new }
 {
-    let table = read_file(alloc, files, asked.first, seen)?;
-    let words = read_file(alloc, files, asked.second, seen)?;
-    let further = read_files(alloc, files, &asked.more, seen)?;
+    let table = read_file(alloc, files, asked.first)?;
+    let words = read_file(alloc, files, asked.second)?;
+    let further = read_files(alloc, files, &asked.more)?;
     Ok(LiveInput {
         table,
         words,
@@ -74,20 +74,19 @@ fn read_arrivals(
     alloc: Global,
     equipment: &Equipment,
     words: &[u8],
-    seen: &mut Seen,
-) -> Result<Vec<Arrival>, CommandRefusal>
+) -> Result<Vec<Arrival>, Refused>
     ensures { IsWordsReading (naming_of equipment.now) words.now result }
 {
     let names = Names::of(alloc, equipment)?;
-    read_words(alloc, &names, words, seen)
+    read_words(alloc, &names, words)
 }
 
 /// The station and the words that are given. Error: the table, its plan, or the file of words is refused.
-fn prepare(alloc: Global, input: &LiveInput, seen: &mut Seen) -> Result<PreparedRun, CommandRefusal>
+fn prepare(alloc: Global, input: &LiveInput) -> Result<PreparedRun, Refused>
     ensures { MatchResult result (IsPreparedLive (files_of input.now)) (OrMemory (IsNoLiveStart (files_of input.now))) }
 {
-    let proposal = propose(alloc, &input.table, &mut seen.table)?;
-    let arrivals = read_arrivals(alloc, proposal.equipment(), &input.words, seen)?;
+    let proposal = propose(alloc, &input.table)?;
+    let arrivals = read_arrivals(alloc, proposal.equipment(), &input.words)?;
     Ok(PreparedRun { proposal, arrivals })
 }
 
@@ -102,18 +101,24 @@ fn count_sinks(alloc: Global, groups: usize) -> Result<Vec<CountSink>, AllocErro
     Ok(sinks)
 }
 
+/// How many threads a run needs: one for each receiver and each group.
+fn threads_of(equipment: &Equipment) -> usize {
+    equipment.receivers().len() + equipment.groups().len()
+}
+
 /// The refusal for a fault of a run. The plan was made before, so a fault of it now means that an allocation failed.
-fn run_refusal(fault: LiveFault) -> CommandRefusal
+fn run_refusal(equipment: &Equipment, fault: LiveFault) -> Refused
     ensures { result ≡ refusal_of fault }
 {
-    match fault {
+    let refusal = match fault {
         LiveFault::TooMuch => CommandRefusal::TooMuch,
         LiveFault::Join => CommandRefusal::Join,
         LiveFault::Source => CommandRefusal::Source,
         LiveFault::Gate => CommandRefusal::Gate,
         LiveFault::Sink => CommandRefusal::Sink,
         LiveFault::Plan(_) | LiveFault::NoMemory => CommandRefusal::Memory,
-    }
+    };
+    Refused::with(refusal, Evidence::Threads(threads_of(equipment)))
 }
 
 /// Runs a station with the words of its receivers for this number of frames, and resubmits further tables during the
@@ -128,7 +133,7 @@ fn run<'a, R: Threads + Wait, P: Progress + Sync>(
     further: &'a [Vec<u8>],
     gate: &ProgressGate<P>,
     warnings: &mut Vec<Warning>,
-) -> Result<Vec<u8>, CommandRefusal>
+) -> Result<Vec<u8>, Refused>
     requires planned { IsPlanOf equipment.now plan.now }
     ensures report { IsRunResult equipment.now arrivals.now frames (bytes_of further.now) result }
     ensures taken { AllByRecursion (IsTakenBy equipment.now) (bytes_of further.now) → warnings.new.items ≡ warnings.old.items }
@@ -152,13 +157,8 @@ fn run<'a, R: Threads + Wait, P: Progress + Sync>(
             control.hand_warnings(warnings);
             report_text(alloc, equipment, further, &control.answers, &report)
         }
-        Err(fault) => Err(run_refusal(fault)),
+        Err(fault) => Err(run_refusal(equipment, fault)),
     }
-}
-
-/// How many threads a run needs, for a hint: one for each receiver and each group.
-fn threads_of(equipment: &Equipment) -> usize {
-    equipment.receivers().len() + equipment.groups().len()
 }
 
 /// The text of the report of a run. Error: a file, the table, its plan, the file of words, or the run is refused. The
@@ -169,18 +169,16 @@ fn run_report<R: Threads + Wait, F: FileReader, P: Progress + Sync>(
     alloc: Global,
     files: &mut F,
     asked: &Asked,
-    seen: &mut Seen,
     warnings: &mut Vec<Warning>,
     progress: &P,
-) -> Result<Vec<u8>, CommandRefusal>
+) -> Result<Vec<u8>, Refused>
     ensures report { HasRead F.answers (λ file. IsLiving file (asked_of asked.now) result) files.old files.new }
     ensures taken { HasRead F.answers (λ file. TakesLive file (asked_of asked.now)
         → warnings.new.items ≡ warnings.old.items) files.old files.new }
 {
-    let input = read_input(alloc, files, asked, seen)?;
-    let prepared = prepare(alloc, &input, seen)?;
+    let input = read_input(alloc, files, asked)?;
+    let prepared = prepare(alloc, &input)?;
     let equipment = prepared.proposal.equipment();
-    seen.threads = threads_of(equipment);
     let (arrivals, further) = (&prepared.arrivals, &input.further);
     let frames = asked.number;
     let plan = prepared.proposal.plan();
@@ -199,11 +197,10 @@ pub fn run_station<R: Threads + Wait, F: FileReader, O: Output, P: Progress + Sy
     alloc: Global,
     files: &mut F,
     asked: &Asked,
-    seen: &mut Seen,
     warnings: &mut Vec<Warning>,
     out: &mut O,
     progress: &P,
-) -> Result<u8, OutputFault>
+) -> Result<Answered, OutputFault>
     ensures replied { HasToldRun F.answers O.contents (asked_of asked.now) files.old files.new out.old out.new result }
     ensures taken { HasRead F.answers (λ file. TakesLive file (asked_of asked.now)
         → warnings.new.items ≡ warnings.old.items) files.old files.new }
@@ -211,8 +208,8 @@ pub fn run_station<R: Threads + Wait, F: FileReader, O: Output, P: Progress + Sy
     ensures flushed { OnOk result (IsTrue (O.is_flushed out.new)) }
     ensures faults { CountsFault result (O.failures out.old) (O.failures out.new) }
 {
-    match run_report(rt, alloc, files, asked, seen, warnings, progress) {
-        Ok(text) => finish(&text, true, out),
-        Err(refusal) => refuse(alloc, refusal, seen, out),
+    match run_report(rt, alloc, files, asked, warnings, progress) {
+        Ok(text) => plain_answer(finish(&text, true, out)),
+        Err(refusal) => refuse(alloc, refusal, out),
     }
 }

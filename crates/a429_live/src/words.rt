@@ -5,8 +5,8 @@ ghost use Rattle.a429_filter.specs.Sources.{at_start};
 ghost use Rattle.a429_live.specs.WordsFile.{IsWordsReading, line_arrival, raw_for, words_for};
 
 use a429_console::files::lines::{LineForm, LinesFault, read_lines};
-use a429_console::hints::Seen;
-use a429_console::refusals::CommandRefusal;
+use a429_console::refusals::evidence::Evidence;
+use a429_console::refusals::{CommandRefusal, Refused};
 use a429_console::texts::cut_at;
 use a429_filter::MemoryLine;
 use a429_replay::Names;
@@ -56,21 +56,16 @@ impl LineForm for WordsForm<'_> {
 
 /// Reads a file of words for the receivers of these names. Error: the number of its first faulty line, from 1. A line
 /// is faulty if it is not a receiver's name and a word, names no receiver, or does not end with a line feed.
-pub fn read_words(
-    alloc: Global,
-    names: &Names,
-    bytes: &[u8],
-    seen: &mut Seen,
-) -> Result<Vec<Arrival>, CommandRefusal>
+pub fn read_words(alloc: Global, names: &Names, bytes: &[u8]) -> Result<Vec<Arrival>, Refused>
     ensures { IsWordsReading names.now bytes.now result }
 {
     match read_lines(alloc, &WordsForm { names }, bytes) {
         Ok(arrivals) => Ok(arrivals),
         Err(LinesFault::Line(number)) => {
-            names.keep_line(alloc, bytes, number, 0, seen);
-            Err(CommandRefusal::Script(number))
+            let evidence = names.line_evidence(alloc, bytes, number, 0);
+            Err(Refused::with(CommandRefusal::Script(number), Evidence::of_line(evidence)))
         }
-        Err(LinesFault::NoMemory) => Err(CommandRefusal::Memory),
+        Err(LinesFault::NoMemory) => Err(Refused::plain(CommandRefusal::Memory)),
     }
 }
 

@@ -23,9 +23,8 @@ use crate::logs::reading_for;
 use a429_console::arguments::requests::Options;
 use a429_console::files::FileReader;
 use a429_console::files::reading::{read_file, read_logs};
-use a429_console::hints::Seen;
-use a429_console::refusals::CommandRefusal;
-use a429_console::refusals::tables::propose;
+use a429_console::planning::{propose, with_plan};
+use a429_console::refusals::{CommandRefusal, Refused};
 use a429_equipment::Equipment;
 use a429_judge::Judge;
 use a429_logs::{Clock, Reading};
@@ -93,13 +92,12 @@ fn read_input<'a, F: FileReader>(
     alloc: Global,
     files: &mut F,
     names: JudgeNames<'a>,
-    seen: &mut Seen,
-) -> Result<JudgeInput<'a>, CommandRefusal>
+) -> Result<JudgeInput<'a>, Refused>
     ensures { HasRead F.answers (λ file. IsBoxReading file (names_of names.entry) result) files.old files.new }
 {
-    let table = read_file(alloc, files, names.table, seen)?;
-    let heard = read_logs(alloc, files, names.heard, names.more_heard, seen)?;
-    let sent = read_logs(alloc, files, names.sent, names.more_sent, seen)?;
+    let table = read_file(alloc, files, names.table)?;
+    let heard = read_logs(alloc, files, names.heard, names.more_heard)?;
+    let sent = read_logs(alloc, files, names.sent, names.more_sent)?;
     Ok(JudgeInput {
         table,
         heard,
@@ -123,13 +121,6 @@ fn restarted(reading: Reading) -> Reading
     }
 }
 
-/// Counts the log with the faulty line, if there is one, after this number of other logs.
-fn count_logs(before: usize, seen: &mut Seen) {
-    if let Some(log) = &mut seen.log {
-        log.number = log.number.saturating_add(before);
-    }
-}
-
 /// Reads the logs of what was sent. Error: the first faulty line.
 fn read_sent<'a>(
     alloc: Global,
@@ -137,14 +128,13 @@ fn read_sent<'a>(
     names: &Names,
     reading: Reading,
     input: &'a JudgeInput<'a>,
-    seen: &mut Seen,
-) -> Result<BoxWords, CommandRefusal>
+) -> Result<BoxWords, Refused>
     ensures read { IsLogsReading (box_word_by plan.now names.now (texts_of input.now.channels.now) Sent) reading
         (bytes_of input.now.sent.items) result }
     ensures ordered { IfOk result (λ read. AreOrdered read.words.items) }
 {
     let channels = input.channels;
-    let sent = read_words(
+    match read_words(
         alloc,
         plan,
         names,
@@ -152,10 +142,10 @@ fn read_sent<'a>(
         BoxLog::Sent,
         reading,
         &input.sent,
-        seen,
-    );
-    count_logs(input.heard.len(), seen);
-    sent
+    ) {
+        Ok(words) => Ok(words),
+        Err(refusal) => Err(refusal.after_logs(input.heard.len())),
+    }
 }
 
 /// The words of both logs, noted. Error: the two have no time in common.
@@ -164,13 +154,13 @@ fn note_words(
     equipment: &Equipment,
     heard: &[BoxWord],
     sent: &[BoxWord],
-) -> Result<Judge, CommandRefusal>
+) -> Result<Judge, Refused>
     requires heard { AreOrdered heard.now }
     requires sent { AreOrdered sent.now }
     ensures { IsNoting equipment.now heard.now sent.now result }
 {
     if !overlap(heard, sent) {
-        return Err(CommandRefusal::Apart);
+        return Err(Refused::plain(CommandRefusal::Apart));
     }
     Ok(notes_of(alloc, equipment, heard, sent)?)
 }
@@ -182,8 +172,7 @@ fn read_notes<'a>(
     names: &Names,
     input: &'a JudgeInput<'a>,
     reading: Reading,
-    seen: &mut Seen,
-) -> Result<Judge, CommandRefusal>
+) -> Result<Judge, Refused>
     requires { names.now ≡ naming_of proposal.now.station }
     ensures { IsRecorded proposal.now (files_of input.now) reading result }
 {
@@ -196,10 +185,9 @@ fn read_notes<'a>(
         BoxLog::Heard,
         reading,
         &input.heard,
-        seen,
     )?;
     let next = restarted(heard.next);
-    let sent = read_sent(alloc, tables, names, next, input, seen)?;
+    let sent = read_sent(alloc, tables, names, next, input)?;
     note_words(alloc, proposal.equipment(), &heard.words, &sent.words)
 }
 
@@ -209,18 +197,17 @@ fn judge_words<'a>(
     proposal: &Proposal<OUTPUTS>,
     input: &'a JudgeInput<'a>,
     form: JudgeForm,
-    seen: &mut Seen,
-) -> Result<Judged, CommandRefusal>
+) -> Result<Judged, Refused>
     ensures { IsPrinting proposal.now (files_of input.now) form result }
 {
     let names = Names::of(alloc, proposal.equipment())?;
-    let judge = read_notes(alloc, proposal, &names, input, form.reading, seen)?;
+    let judge = read_notes(alloc, proposal, &names, input, form.reading)?;
     let judging = Judging {
         proposal,
         judge: &judge,
         tolerance: form.tolerance,
     };
-    Ok(judge_sheet(alloc, &judging, form.events, form.form, seen)?)
+    Ok(judge_sheet(alloc, &judging, form.events, form.form)?)
 }
 
 /// What is said of a box with this plan. Errors: the tolerance is too great; a log is refused.
@@ -229,31 +216,28 @@ fn judge_box<'a>(
     proposal: &Proposal<OUTPUTS>,
     input: &'a JudgeInput<'a>,
     form: JudgeForm,
-    seen: &mut Seen,
-) -> Result<Judged, CommandRefusal>
+) -> Result<Judged, Refused>
     ensures { IsJudgingOf proposal.now (files_of input.now) form result }
 {
     let wide = is_any_wide(alloc, proposal, form.tolerance)?;
     if wide {
-        return Err(CommandRefusal::Tolerance);
+        return Err(Refused::plain(CommandRefusal::Tolerance));
     }
-    judge_words(alloc, proposal, input, form, seen)
+    judge_words(alloc, proposal, input, form)
 }
 
-/// What is said of a box, by the bytes of the files. The plan is kept for a hint. Errors: the table or its plan; those of
+/// What is said of a box, by the bytes of the files. Errors: the table or its plan; those of
 /// `judge_box`.
 fn judge_input<'a>(
     alloc: Global,
     input: &'a JudgeInput<'a>,
     form: JudgeForm,
-    seen: &mut Seen,
-) -> Result<Judged, CommandRefusal>
+) -> Result<Judged, Refused>
     ensures { IsJudging (files_of input.now) form result }
 {
-    let proposal = propose(alloc, &input.table, &mut seen.table)?;
-    let judged = judge_box(alloc, &proposal, input, form, seen);
-    seen.proposal = Some(proposal);
-    judged
+    let proposal = propose(alloc, &input.table)?;
+    let judged = judge_box(alloc, &proposal, input, form);
+    with_plan(judged, proposal)
 }
 
 /// Whether what a box sent is right, as a sheet, by a log of what came in and one of what was sent. Each has further logs
@@ -265,10 +249,9 @@ pub fn judge_logs<'a, F: FileReader>(
     files: &mut F,
     names: JudgeNames<'a>,
     form: JudgeForm,
-    seen: &mut Seen,
-) -> Result<Judged, CommandRefusal>
+) -> Result<Judged, Refused>
     ensures { HasRead F.answers (λ file. IsJudgeAnswer file (names_of names.entry) form result) files.old files.new }
 {
-    let input = read_input(alloc, files, names, seen)?;
-    judge_input(alloc, &input, form, seen)
+    let input = read_input(alloc, files, names)?;
+    judge_input(alloc, &input, form)
 }

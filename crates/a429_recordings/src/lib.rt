@@ -11,7 +11,6 @@
 //!     first,
 //!     simulated_logs(asked),
 //!     form,
-//!     seen,
 //!     warnings,
 //!     out,
 //! )

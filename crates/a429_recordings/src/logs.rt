@@ -8,7 +8,7 @@ ghost use Rattle.a429_recordings.specs.SimulationReplies.{clock_from, reading_fo
 
 use a429_console::arguments::requests::Options;
 use a429_console::arguments::times::LogOrigin;
-use a429_console::hints::{LogRefusal, SeenLog};
+use a429_console::refusals::evidence::{LogEvidence, LogRefusal};
 use a429_logs::{Clock, LogReader, LogWord, Reading, StatedWord};
 use a429_text::renames::renamed;
 use std::alloc::AllocFailed;
@@ -41,7 +41,7 @@ pub fn with_name<'a>(channels: &'a [&'a str], entry: LogWord<'a>) -> LogWord<'a>
 #[derive(Clone, Copy)]
 pub struct FaultyLine {
     pub line: usize,
-    pub seen: SeenLog,
+    pub log: LogEvidence,
 }
 
 /// Why a log cannot be read.
@@ -70,7 +70,7 @@ pub fn faulty(reader: &LogReader<'_>, reading: Reading, line: usize, why: LogRef
 {
     ReadFault::Line(FaultyLine {
         line,
-        seen: SeenLog {
+        log: LogEvidence {
             why,
             number: 0,
             shape: reader.shape(),

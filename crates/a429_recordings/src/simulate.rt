@@ -30,15 +30,15 @@ use crate::simulate::lines::{PendingLines, Setting};
 use crate::simulate::log::read_words;
 use crate::simulate::playing::Player;
 use crate::simulate::summary_rows::summary_sheet;
+use a429_console::answered::{Answered, plain_answer};
 use a429_console::arguments::requests::Options;
 use a429_console::files::FileReader;
 use a429_console::files::reading::{read_file, read_logs};
-use a429_console::hints::Seen;
 use a429_console::hints::warnings::Warning;
 use a429_console::output::endings::{finish, refuse_memory};
 use a429_console::output::{Output, OutputFault};
-use a429_console::refusals::tables::propose;
-use a429_console::refusals::{CommandRefusal, refuse};
+use a429_console::planning::propose;
+use a429_console::refusals::{Refused, refuse};
 use a429_logs::Reading;
 use a429_replay::{Names, put_if_full};
 use a429_text::SheetForm;
@@ -104,12 +104,11 @@ fn read_input<'a, F: FileReader>(
     files: &mut F,
     table: &str,
     names: LogNames<'a>,
-    seen: &mut Seen,
-) -> Result<SimulationInput<'a>, CommandRefusal>
+) -> Result<SimulationInput<'a>, Refused>
     ensures { HasRead F.answers (λ file. IsSimulationReading file table.now names.entry result) files.old files.new }
 {
-    let table = read_file(alloc, files, table, seen)?;
-    let logs = read_logs(alloc, files, names.first, names.more, seen)?;
+    let table = read_file(alloc, files, table)?;
+    let logs = read_logs(alloc, files, names.first, names.more)?;
     Ok(SimulationInput {
         table,
         logs,
@@ -118,15 +117,10 @@ fn read_input<'a, F: FileReader>(
 }
 
 /// The station of a table's bytes. Error: the table, or its plan, is refused.
-fn read_station(
-    alloc: Global,
-    table: &[u8],
-    csv: bool,
-    seen: &mut Seen,
-) -> Result<Setting, CommandRefusal>
+fn read_station(alloc: Global, table: &[u8], csv: bool) -> Result<Setting, Refused>
     ensures { MatchResult result (IsSettingOf table.now csv) (OrMemory (IsTableRefusal table.now)) }
 {
-    let proposal = propose(alloc, table, &mut seen.table)?;
+    let proposal = propose(alloc, table)?;
     let names = Names::of(alloc, proposal.equipment())?;
     Ok(Setting {
         proposal,
@@ -141,8 +135,7 @@ fn read_player<'a>(
     setting: &Setting,
     input: &'a SimulationInput<'a>,
     form: SimulationForm,
-    seen: &mut Seen,
-) -> Result<Player, CommandRefusal>
+) -> Result<Player, Refused>
     ensures { MatchResult result (BeginsLog setting.now (files_of input.now) form)
         (OrMemory (BeginsNoLog setting.now (files_of input.now) form)) }
 {
@@ -152,7 +145,6 @@ fn read_player<'a>(
         input.channels,
         form.reading,
         &input.logs,
-        seen,
     )?;
     Player::open(alloc, &setting.proposal, words, form.until)
 }
@@ -162,12 +154,11 @@ fn prepare<'a>(
     alloc: Global,
     input: &'a SimulationInput<'a>,
     form: SimulationForm,
-    seen: &mut Seen,
-) -> Result<Simulation, CommandRefusal>
+) -> Result<Simulation, Refused>
     ensures { MatchResult result (IsPreparedFor (files_of input.now) form) (OrMemory (IsUnsimulated (files_of input.now) form)) }
 {
-    let setting = read_station(alloc, &input.table, is_csv(form.form), seen)?;
-    let player = read_player(alloc, &setting, input, form, seen)?;
+    let setting = read_station(alloc, &input.table, is_csv(form.form))?;
+    let player = read_player(alloc, &setting, input, form)?;
     Ok(Simulation { setting, player })
 }
 
@@ -295,10 +286,9 @@ pub fn simulate<'a, F: FileReader, O: Output>(
     table: &str,
     names: LogNames<'a>,
     form: SimulationForm,
-    seen: &mut Seen,
     warnings: &mut Vec<Warning>,
     out: &mut O,
-) -> Result<u8, OutputFault>
+) -> Result<Answered, OutputFault>
     ensures simulated { HasReplied F.answers O.contents (λ file. IsSimulationOf file table.now names.entry form)
         files.old files.new out.old out.new result }
     ensures silent { HasRead F.answers
@@ -308,15 +298,15 @@ pub fn simulate<'a, F: FileReader, O: Output>(
     ensures flushed { OnOk result (IsTrue (O.is_flushed out.new)) }
     ensures faults { CountsFault result (O.failures out.old) (O.failures out.new) }
 {
-    let input = match read_input(alloc, files, table, names, seen) {
+    let input = match read_input(alloc, files, table, names) {
         Ok(input) => input,
-        Err(refusal) => return refuse(alloc, refusal, seen, out),
+        Err(refusal) => return refuse(alloc, refusal, out),
     };
-    match prepare(alloc, &input, form, seen) {
+    match prepare(alloc, &input, form) {
         Ok(mut simulation) => {
             note_close_words(alloc, &simulation, warnings);
-            print_simulation(alloc, &mut simulation, form, out)
+            plain_answer(print_simulation(alloc, &mut simulation, form, out))
         }
-        Err(refusal) => refuse(alloc, refusal, seen, out),
+        Err(refusal) => refuse(alloc, refusal, out),
     }
 }

@@ -12,8 +12,8 @@ use crate::logs::{ReadFault, faulty, reading_for, with_name};
 use a429_console::arguments::requests::Options;
 use a429_console::files::FileReader;
 use a429_console::files::reading::read_logs;
-use a429_console::hints::{LogRefusal, Seen, SeenLine, SeenLog};
-use a429_console::refusals::CommandRefusal;
+use a429_console::refusals::evidence::{Evidence, LineEvidence, LogEvidence, LogRefusal};
+use a429_console::refusals::{CommandRefusal, Refused};
 use a429_logs::{LogReader, LogWord, Reading, StatedWord};
 use a429_survey::Survey;
 use a429_text::SheetForm;
@@ -120,38 +120,34 @@ fn note_log<'a>(
     Ok(reader.for_next_log())
 }
 
-/// The refusal for a fault of a log, by the number of the log from 0. A faulty line is kept in `seen`.
-fn refusal_for(
-    alloc: Global,
-    number: usize,
-    log: &[u8],
-    fault: ReadFault,
-    seen: &mut Seen,
-) -> CommandRefusal
+/// The refusal for a fault of a log, by the number of the log from 0, with the faulty line.
+fn refusal_for(alloc: Global, number: usize, log: &[u8], fault: ReadFault) -> Refused
     ensures { result ≡ refusal_for fault }
 {
     match fault {
         ReadFault::Line(fault) => {
             let line = fault.line;
-            seen.line = SeenLine::of(alloc, log, line).ok();
-            seen.log = Some(SeenLog {
+            let evidence = LineEvidence::of(alloc, log, line).ok();
+            let log = LogEvidence {
                 number,
-                ..fault.seen
-            });
-            CommandRefusal::LogLine { line }
+                ..fault.log
+            };
+            Refused::with(
+                CommandRefusal::LogLine { line },
+                Evidence::of_log(evidence, log),
+            )
         }
-        ReadFault::NoMemory => CommandRefusal::Memory,
+        ReadFault::NoMemory => Refused::plain(CommandRefusal::Memory),
     }
 }
 
-/// The survey of logs, read one after another as if they were one. Error: the first faulty line, which is kept in `seen`.
+/// The survey of logs, read one after another as if they were one. Error: the first faulty line.
 fn survey_of<'a>(
     alloc: Global,
     channels: &'a [&'a str],
     reading: Reading,
     logs: &'a [Vec<u8>],
-    seen: &mut Seen,
-) -> Result<Survey, CommandRefusal>
+) -> Result<Survey, Refused>
     ensures { MatchResult result (λ survey. items_of (noted_by (texts_of channels.now)) reading (bytes_of logs.now) ≡ Ok survey)
         (OrMemory (IsItemFault (noted_by (texts_of channels.now)) reading (bytes_of logs.now))) }
 {
@@ -161,7 +157,7 @@ fn survey_of<'a>(
         let log = logs[number].as_slice();
         match note_log(&mut survey, channels, next, log) {
             Ok(after) => next = after,
-            Err(fault) => return Err(refusal_for(alloc, number, log, fault, seen)),
+            Err(fault) => return Err(refusal_for(alloc, number, log, fault)),
         }
     }
     Ok(survey)
@@ -190,11 +186,10 @@ pub fn survey_logs<'a, F: FileReader>(
     files: &mut F,
     names: LogNames<'a>,
     form: SurveyForm,
-    seen: &mut Seen,
-) -> Result<Vec<u8>, CommandRefusal>
+) -> Result<Vec<u8>, Refused>
     ensures { HasRead F.answers (λ file. IsSurveyAnswer file names.entry form result) files.old files.new }
 {
-    let logs = read_logs(alloc, files, names.first, names.more, seen)?;
-    let survey = survey_of(alloc, names.channels, form.reading, &logs, seen)?;
+    let logs = read_logs(alloc, files, names.first, names.more)?;
+    let survey = survey_of(alloc, names.channels, form.reading, &logs)?;
     Ok(text_of(alloc, &survey, form)?)
 }

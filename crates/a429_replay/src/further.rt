@@ -10,10 +10,10 @@ ghost use Rattle.a429_replay.specs.Playing.{PlaysTable};
 
 use crate::names::Names;
 use crate::pending::Pending;
-use a429_console::hints::SeenTable;
 use a429_console::hints::warnings::{FurtherCause, Warning};
-use a429_console::refusals::CommandRefusal;
-use a429_console::refusals::tables::propose;
+use a429_console::planning::propose;
+use a429_console::refusals::evidence::TableEvidence;
+use a429_console::refusals::{CommandRefusal, Refused};
 use a429_core::{Event, StationState};
 use a429_equipment::Equipment;
 use a429_slots::laws::plans_are_unique;
@@ -21,32 +21,26 @@ use a429_slots::{OUTPUTS, Proposal};
 use std::alloc::{AllocError, Global};
 use std::marker::Model;
 
-/// What reading and planning a table gave: its proposal or its refusal, and what was read of it, for a hint.
-#[derive(Drop)]
-struct PlannedTable {
-    proposal: Result<Proposal<OUTPUTS>, CommandRefusal>,
-    seen: SeenTable,
+/// What was planned of a table before. If nothing was, the table is read and planned now.
+fn planned_or_propose(
+    alloc: Global,
+    before: Option<Result<Proposal<OUTPUTS>, Refused>>,
+    bytes: &[u8],
+) -> Result<Proposal<OUTPUTS>, Refused>
+    requires { IfSome before (IsProposing bytes.now) }
+    ensures { IsProposing bytes.now result }
+{
+    match before {
+        Some(planned) => planned,
+        None => propose(alloc, bytes),
+    }
 }
 
-impl PlannedTable {
-    /// Reads and plans a table.
-    fn of(alloc: Global, bytes: &[u8]) -> PlannedTable
-        ensures { IsProposing bytes.now result.proposal }
-    {
-        let mut seen = SeenTable::nothing();
-        let proposal = propose(alloc, bytes, &mut seen);
-        PlannedTable { proposal, seen }
-    }
-
-    /// What was planned of a table before. If nothing was, the table is read and planned now.
-    fn or_of(alloc: Global, before: Option<PlannedTable>, bytes: &[u8]) -> PlannedTable
-        requires { IfSome before (λ p. IsProposing bytes.now p.proposal) }
-        ensures { IsProposing bytes.now result.proposal }
-    {
-        match before {
-            Some(planned) => planned,
-            None => PlannedTable::of(alloc, bytes),
-        }
+/// What was read of a table that has no plan, for a hint.
+fn evidence_of(planned: Result<Proposal<OUTPUTS>, Refused>) -> TableEvidence {
+    match planned {
+        Ok(_) => TableEvidence::nothing(),
+        Err(refusal) => refusal.into_parts().1.into_table(),
     }
 }
 
@@ -54,7 +48,7 @@ impl PlannedTable {
 #[derive(Drop)]
 pub struct FurtherTable {
     bytes: Vec<u8>,
-    planned: Option<PlannedTable>,
+    planned: Option<Result<Proposal<OUTPUTS>, Refused>>,
 }
 
 impl Model for FurtherTable {
@@ -67,7 +61,7 @@ impl Model for FurtherTable {
 
     ghost view = { λ t. t.bytes.items };
 
-    ghost invariant = { λ t. IfSome t.planned (λ p. IsProposing t.bytes.items p.proposal) };
+    ghost invariant = { λ t. IfSome t.planned (IsProposing t.bytes.items) };
 }
 
 impl FurtherTable {
@@ -95,8 +89,8 @@ impl FurtherTable {
         ensures kept { OnErr result (lines.new.text.items ≡ lines.old.text.items) }
         ensures same { self.new ≡ self.old }
     {
-        let planned = PlannedTable::or_of(alloc, self.planned.take(), &self.bytes);
-        let played = publish_or_refuse(alloc, state, names, &planned.proposal, lines);
+        let planned = planned_or_propose(alloc, self.planned.take(), &self.bytes);
+        let played = publish_or_refuse(alloc, state, names, &planned, lines);
         self.planned = Some(planned);
         played
     }
@@ -115,8 +109,8 @@ impl FurtherTable {
         let Some(planned) = planned else {
             return;
         };
-        if let Some(cause) = cause_at(alloc, station, &planned.proposal) {
-            Warning::note_further(warnings, number, cause, planned.seen);
+        if let Some(cause) = cause_at(alloc, station, &planned) {
+            Warning::note_further(warnings, number, cause, evidence_of(planned));
         }
     }
 }
@@ -127,7 +121,7 @@ fn publish_or_refuse(
     alloc: Global,
     state: &mut StationState,
     names: &Names,
-    proposal: &Result<Proposal<OUTPUTS>, CommandRefusal>,
+    proposal: &Result<Proposal<OUTPUTS>, Refused>,
     lines: &mut Pending,
 ) -> Result<(), AllocError>
     ensures played { (table : List ℕ) → IsProposing table proposal.now → OnOk result (PlaysTable names.now.sources table
@@ -142,12 +136,12 @@ fn publish_or_refuse(
 
 /// Appends the line of the refusal of a table. If an allocation failed when the table was planned, or fails now, nothing is
 /// appended.
-fn refuse_table(refusal: &CommandRefusal, lines: &mut Pending) -> Result<(), AllocError>
+fn refuse_table(refusal: &Refused, lines: &mut Pending) -> Result<(), AllocError>
     ensures other { OnOk result (refusal.now ≢ Memory) }
     ensures line { OnOk result (lines.new.text.items ≡ lines.old.text.items ++ (refusal_line refusal.now ++ 10 ∷ [])) }
     ensures kept { OnErr result (lines.new.text.items ≡ lines.old.text.items) }
 {
-    match refusal {
+    match refusal.refusal() {
         CommandRefusal::Memory => Err(AllocError),
         refusal => lines.push_refusal(refusal),
     }
@@ -178,13 +172,13 @@ fn publish_plan(
 fn cause_at(
     alloc: Global,
     station: &Equipment,
-    proposal: &Result<Proposal<OUTPUTS>, CommandRefusal>,
+    proposal: &Result<Proposal<OUTPUTS>, Refused>,
 ) -> Option<FurtherCause>
     ensures { (table : List ℕ) → IsProposing table proposal.now → IsTakenBy station.now table → IsNone result }
 {
     plans_are_unique();
     match proposal {
-        Err(refusal) => FurtherCause::of(alloc, refusal),
+        Err(refusal) => FurtherCause::of(alloc, refusal.refusal()),
         Ok(proposal) => cause_of_proposal(alloc, station, proposal),
     }
 }

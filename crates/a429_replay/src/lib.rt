@@ -8,7 +8,7 @@
 //! ```text
 //! match asked.verb {
 //!     ..
-//!     Verb::Replay => replay(alloc, files, first, second, more, seen, warnings, out),
+//!     Verb::Replay => replay(alloc, files, first, second, more, warnings, out),
 //!     ..
 //! }
 //! ```

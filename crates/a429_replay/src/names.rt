@@ -10,7 +10,7 @@ mod guesses;
 mod lists;
 
 use crate::names::lists::NameList;
-use a429_console::hints::{Seen, SeenLine};
+use a429_console::refusals::evidence::LineEvidence;
 use a429_equipment::{Equipment, GroupRow, ReceiverRow, SourceRow};
 use std::alloc::{AllocError, Global};
 use std::marker::Model;
@@ -94,28 +94,16 @@ impl Names {
         })
     }
 
-    /// Keeps the refused line of a text with these names in `seen`, for a hint. The text can publish this number of
-    /// further tables. If an allocation fails, no line is kept.
-    pub fn keep_line(
+    /// The refused line of this number of a text with these names, for a hint. The text can publish this number of
+    /// further tables. `None` if an allocation fails.
+    pub fn line_evidence(
         &self,
         alloc: Global,
         text: &[u8],
         number: usize,
         further: usize,
-        seen: &mut Seen,
-    ) {
-        seen.line = self.seen_line(alloc, text, number, further);
-    }
-
-    /// The line of this number of a text with these names. `None` if an allocation fails.
-    fn seen_line(
-        &self,
-        alloc: Global,
-        text: &[u8],
-        number: usize,
-        further: usize,
-    ) -> Option<SeenLine> {
-        let mut line = SeenLine::of(alloc, text, number).ok()?;
+    ) -> Option<LineEvidence> {
+        let mut line = LineEvidence::of(alloc, text, number).ok()?;
         line.further = further;
         match self.name_line(alloc, &mut line) {
             Ok(()) => Some(line),
@@ -124,7 +112,7 @@ impl Names {
     }
 
     /// Adds the names that a line can have. Error: an allocation fails.
-    fn name_line(&self, alloc: Global, line: &mut SeenLine) -> Result<(), AllocError> {
+    fn name_line(&self, alloc: Global, line: &mut LineEvidence) -> Result<(), AllocError> {
         push_names(alloc, &mut line.receivers, self.receivers.names())?;
         push_names(alloc, &mut line.groups, self.groups.names())
     }

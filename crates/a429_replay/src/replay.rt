@@ -14,13 +14,13 @@ use crate::pending::Pending;
 use crate::playing::play_all;
 use crate::script::{ScriptForm, read_script};
 use crate::station::ReplayStation;
+use a429_console::answered::{Answered, plain_answer};
 use a429_console::files::FileReader;
 use a429_console::files::reading::{read_file, read_files};
-use a429_console::hints::Seen;
 use a429_console::hints::warnings::Warning;
 use a429_console::output::endings::finish;
 use a429_console::output::{Output, OutputFault};
-use a429_console::refusals::{CommandRefusal, refuse};
+use a429_console::refusals::{Refused, refuse};
 use std::alloc::Global;
 
 /// The bytes of the files that a replay reads.
@@ -36,11 +36,10 @@ fn read_further<F: FileReader>(
     alloc: Global,
     files: &mut F,
     names: &[&str],
-    seen: &mut Seen,
-) -> Result<Vec<FurtherTable>, CommandRefusal>
+) -> Result<Vec<FurtherTable>, Refused>
     ensures { HasRead F.answers (λ file. AreTablesRead file (texts_of names.now) result) files.old files.new }
 {
-    let tables = read_files(alloc, files, names, seen)?;
+    let tables = read_files(alloc, files, names)?;
     Ok(further_tables(alloc, tables)?)
 }
 
@@ -51,13 +50,12 @@ fn read_input<F: FileReader>(
     table: &str,
     script: &str,
     further: &[&str],
-    seen: &mut Seen,
-) -> Result<Input, CommandRefusal>
+) -> Result<Input, Refused>
     ensures { HasRead F.answers (λ file. IsInputReading file table.now script.now (texts_of further.now) result) files.old files.new }
 {
-    let table = read_file(alloc, files, table, seen)?;
-    let script = read_file(alloc, files, script, seen)?;
-    let further = read_further(alloc, files, further, seen)?;
+    let table = read_file(alloc, files, table)?;
+    let script = read_file(alloc, files, script)?;
+    let further = read_further(alloc, files, further)?;
     Ok(Input {
         table,
         script,
@@ -74,15 +72,15 @@ struct PreparedReplay {
 
 /// The station that is given, with the events of the script, if that is one of it. Error: the table, its plan, or the
 /// script is refused.
-fn prepare(alloc: Global, input: &Input, seen: &mut Seen) -> Result<PreparedReplay, CommandRefusal>
+fn prepare(alloc: Global, input: &Input) -> Result<PreparedReplay, Refused>
     ensures { MatchResult result (IsPreparedFor (input_of input.now)) (OrMemory (IsNoStart (input_of input.now))) }
 {
-    let station = ReplayStation::open(alloc, &input.table, &mut seen.table)?;
+    let station = ReplayStation::open(alloc, &input.table)?;
     let form = ScriptForm {
         names: &station.names,
         further: input.further.len(),
     };
-    let events = read_script(alloc, &form, &input.script, seen)?;
+    let events = read_script(alloc, &form, &input.script)?;
     Ok(PreparedReplay { station, events })
 }
 
@@ -126,10 +124,9 @@ pub fn replay<F: FileReader, O: Output>(
     table: &str,
     script: &str,
     further: &[&str],
-    seen: &mut Seen,
     warnings: &mut Vec<Warning>,
     out: &mut O,
-) -> Result<u8, OutputFault>
+) -> Result<Answered, OutputFault>
     ensures replayed { HasReplayed F.answers O.contents table.now script.now further.now files.old files.new out.old out.new result }
     ensures taken { HasRead F.answers (λ file. TakesFurther file table.now script.now (texts_of further.now)
         → warnings.new.items ≡ warnings.old.items) files.old files.new }
@@ -137,16 +134,16 @@ pub fn replay<F: FileReader, O: Output>(
     ensures flushed { OnOk result (IsTrue (O.is_flushed out.new)) }
     ensures faults { CountsFault result (O.failures out.old) (O.failures out.new) }
 {
-    let mut input = match read_input(alloc, files, table, script, further, seen) {
+    let mut input = match read_input(alloc, files, table, script, further) {
         Ok(input) => input,
-        Err(refusal) => return refuse(alloc, refusal, seen, out),
+        Err(refusal) => return refuse(alloc, refusal, out),
     };
-    match prepare(alloc, &input, seen) {
+    match prepare(alloc, &input) {
         Ok(mut prepared) => {
             let status = play_prepared(alloc, &mut prepared, &mut input, out);
             note_faults(alloc, &prepared.station.equipment, input.further, warnings);
-            status
+            plain_answer(status)
         }
-        Err(refusal) => refuse(alloc, refusal, seen, out),
+        Err(refusal) => refuse(alloc, refusal, out),
     }
 }

@@ -7,8 +7,8 @@ use crate::kept::KeptEvent;
 use crate::names::Names;
 use crate::reading::read_events;
 use a429_console::files::lines::{LineForm, LinesFault};
-use a429_console::hints::Seen;
-use a429_console::refusals::CommandRefusal;
+use a429_console::refusals::evidence::Evidence;
+use a429_console::refusals::{CommandRefusal, Refused};
 use a429_console::texts::cut_at;
 use a429_word::{decimal_number, raw_word};
 use std::alloc::Global;
@@ -87,23 +87,21 @@ impl LineForm for ScriptForm<'_> {
 }
 
 /// Reads a script. The refusal has the number of its first faulty line, from 1: one that is not an event, names nothing, or
-/// does not end with a line feed. That line is kept in `seen`.
+/// does not end with a line feed. That line is evidence.
 pub fn read_script(
     alloc: Global,
     form: &ScriptForm<'_>,
     script: &[u8],
-    seen: &mut Seen,
-) -> Result<Vec<KeptEvent>, CommandRefusal>
+) -> Result<Vec<KeptEvent>, Refused>
     ensures read { ReadsScript form.now.names.now form.now.further script.now result }
     ensures tables { IfOk result (λ kept. TakesAllTables form.now.further kept.items) }
 {
     match read_events(alloc, form, script) {
         Ok(kept) => Ok(kept),
         Err(LinesFault::Line(line)) => {
-            form.names
-                .keep_line(alloc, script, line, form.further, seen);
-            Err(CommandRefusal::Script(line))
+            let evidence = form.names.line_evidence(alloc, script, line, form.further);
+            Err(Refused::with(CommandRefusal::Script(line), Evidence::of_line(evidence)))
         }
-        Err(LinesFault::NoMemory) => Err(CommandRefusal::Memory),
+        Err(LinesFault::NoMemory) => Err(Refused::plain(CommandRefusal::Memory)),
     }
 }

@@ -7,9 +7,8 @@ ghost use Rattle.a429_console.specs.Tables.{IsTableRefusal};
 
 use crate::names::Names;
 use crate::opening::open_machine;
-use a429_console::hints::SeenTable;
-use a429_console::refusals::CommandRefusal;
-use a429_console::refusals::tables::propose;
+use a429_console::planning::propose;
+use a429_console::refusals::Refused;
 use a429_core::StationState;
 use a429_equipment::Equipment;
 use a429_slots::{OUTPUTS, Proposal};
@@ -26,19 +25,15 @@ pub struct ReplayStation {
 impl ReplayStation {
     /// Opens the station of a table's bytes at slot 0, with no event yet. Error: the table's fault, otherwise the first
     /// fault of its plan.
-    pub fn open(
-        alloc: Global,
-        table: &[u8],
-        seen: &mut SeenTable,
-    ) -> Result<ReplayStation, CommandRefusal>
+    pub fn open(alloc: Global, table: &[u8]) -> Result<ReplayStation, Refused>
         ensures { MatchResult result (IsOpenedFrom table.now) (OrMemory (IsTableRefusal table.now)) }
     {
-        let proposal = propose(alloc, table, seen)?;
+        let proposal = propose(alloc, table)?;
         ReplayStation::of(alloc, proposal)
     }
 
     /// Opens the station of a proposal at slot 0, with no event yet. Error: an allocation failed.
-    fn of(alloc: Global, proposal: Proposal<OUTPUTS>) -> Result<ReplayStation, CommandRefusal>
+    fn of(alloc: Global, proposal: Proposal<OUTPUTS>) -> Result<ReplayStation, Refused>
         requires planned { IsPlanOf proposal.station proposal.plan }
         ensures { OpensStation proposal result }
     {

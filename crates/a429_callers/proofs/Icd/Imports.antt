@@ -107,7 +107,7 @@ module _ (bytes : List ℕ) (a : Proposed) (A : IsWholeInIcd bytes a) (one_plan 
   narrow : is_wide_text [] (icd_csv a) ≡ false
   narrow = no_row_is_wide a.station sound a.plan A.plan
 
-  of_text : (result : Result (Vec ℕ Global) ImportFault) → IsImport [] (icd_csv a) result → ImportsPlan a result
+  of_text : (result : Result (Vec ℕ Global) ImportFault) → IsImport [] false (icd_csv a) result → ImportsPlan a result
   of_text (Ok text) imports = of_lines imports.1 imports.2 (Ok text) imports.3
   of_text (Err NoMemory) imports = tt
   of_text (Err (Csv line kind column)) imports = of_lines imports.1 imports.2 (Err (Csv line kind column)) imports.3

@@ -1,11 +1,14 @@
 //! What a command answers.
 ghost use Rattle.std.specs.Prelude.{◌≤◌};
 
-/// What a command prints, and its status.
+use a429_console::answered::Found;
+
+/// What a command prints, its status, and what it leaves for a hint.
 #[derive(Drop)]
 pub struct Reply {
     pub bytes: Vec<u8>,
     pub status: u8,
+    pub found: Found,
     ghost few: { status ≤ 1 },
 }
 
@@ -17,6 +20,23 @@ impl Reply {
         ensures bytes { result.bytes ≡ bytes }
         ensures status { result.status ≡ 0 }
     {
-        Reply { bytes, status: 0 }
+        Reply {
+            bytes,
+            status: 0,
+            found: Found::Nothing,
+        }
+    }
+
+    /// The same, if it leaves this for a hint.
+    pub fn with(self, found: Found) -> Reply
+        ensures bytes { result.bytes ≡ self.bytes }
+        ensures status { result.status ≡ self.status }
+    {
+        let Reply { bytes, status, .. } = self;
+        Reply {
+            bytes,
+            status,
+            found,
+        }
     }
 }

@@ -7,8 +7,8 @@ ghost use Rattle.a429_console.specs.CommandLine.{IsRow, form_row, row_of, verbs}
 use crate::arguments::help;
 use crate::arguments::options::{
     ALL, ALL_CELLS, BCD, BITS, BNR, CHANNEL, CODE, CSV, DATA, EVENTS, FROM, GROUP, HTML, IN, JSON,
-    LIMIT, MAP, RATE, ROWS, SDI, SLACK, SLOTS, SSM, SUMMARY, SUMMARY_JSON, TEXT, TIME, TOLERANCE,
-    UNTIL, WIDTH,
+    LIMIT, MAP, NAMES, RATE, ROWS, SDI, SLACK, SLOTS, SSM, SUMMARY, SUMMARY_JSON, TEXT, TIME,
+    TOLERANCE, UNTIL, WIDTH,
 };
 use a429_equipment::FRAMES;
 
@@ -146,7 +146,7 @@ static COMMANDS: [CommandForm; 18] = [
         verb: Verb::Import,
         name: "import",
         first: name!("FILE", help::ROWS),
-        options: &[MAP],
+        options: &[MAP, NAMES],
         ..OF_TABLE
     },
     CommandForm {

@@ -102,6 +102,11 @@ pub const MAP: &str = "\
 Take a heading as this column, such as
 --map Equipment=receiver; may be given again";
 
+pub const NAMES: &str = "\
+Make names of texts that are none: `Radio Height`
+becomes radio-height. Two texts that become one
+name are refused";
+
 pub const IMPORT_END: &str = "\
 The heading names the columns, in any order and any case, with spaces or
 underlines. Commas, semicolons or tabs separate fields. Other columns are
@@ -143,12 +148,33 @@ pub const TEXT_LABELS: &str = "With --csv: labels whose zeros a spreadsheet keep
 pub const JSON: &str = "As JSON, an array with an object for each row";
 
 pub const ICD_END: &str = "\
+There is a row for each output:
+  group, rate        its group, and the bit rate in bit/s
+  source, receiver   its source, and the receiver of that source
+  label, sdi         the label in octal, and the SDI or `any`
+  bus, slot          its bus, and its first slot, both from 0
+  period, period_us  its transmit period, in slots and in microseconds
+  min_us, max_us     minimum and maximum transmit interval, as in the table
+  hold               as in the table
+  spacing            the minimum transmit interval in slots
+  latency_us         how long it takes at most until an accepted word is sent
+
 Example:
   a429 icd --csv examples/displays/table.toml";
 
 pub const MARGIN: &str = "Show what would save a bus in each group";
 
 pub const MARGIN_END: &str = "\
+There is a row for each group. If it has more than one bus, a row follows for
+each output that could have a longer period:
+  frame, buses    the frame of the group in slots, and how many buses it has
+  excess          how many cells of a frame must be freed to save a bus
+  bound           no schedule with these intervals has fewer buses than this
+  source, period  an output, and its period in slots
+  next, less      the next longer period, and how many cells that would free
+  max_us          the maximum transmit interval that it needs for that
+  choose          if all outputs with `yes` get their max_us, a bus is saved
+
 Example:
   a429 margin examples/air_data_and_inertial/station.toml";
 
@@ -173,6 +199,10 @@ pub const CODE: &str = "As a header for C (C99), with an array for each group";
 
 pub const SLOTS_END: &str = "\
 The cells are in the order in which each group sends them in one frame.
+  slot, time_us       the slot from 0, and when it begins in the frame
+  bus                 the bus from 0
+  label, sdi, source  the source of the output in this cell
+  period              the transmit period of the output in slots
 
 Example:
   a429 slots --group displays examples/displays/table.toml";
@@ -270,6 +300,10 @@ and a heading may name its columns. TIME must not decrease. Empty lines, and
 lines that begin with #, are ignored. US is in microseconds. Output lines:
   TIME GROUP BUS HEX SOURCE AGE      a word is sent, AGE microseconds old
   TIME RECEIVER HEX refused REASON   a received word is not accepted
+With --summary there is a row for each output, with times in microseconds:
+  sent                   how many words it sent
+  least_us, greatest_us  the time from one send to the next
+  late_us, bound_us      how late a word was sent, and how late it can be
 
 Example:
   a429 simulate examples/displays/table.toml examples/displays/log";
@@ -289,8 +323,11 @@ Widen the intervals of --rows by PERCENT, 0 to 99
 pub const SURVEY_END: &str = "\
 A log has a word on each line. Blanks, commas or semicolons separate its fields,
 and a heading may name its columns. There is a row for each name, label and SDI,
-and a row for each name with all its words. `load` is in per cent of the bit
-rate. An interval, in microseconds, is the time from one word to the next.
+and a row for each name with all its words:
+  words, even                     how many words, and how many have even parity
+  least_us, mean_us, greatest_us  the time from one word to the next
+  first_us, last_us, last_word    the first time, and the last, with its word
+  load                            per cent of the time taken, at the bit rate
 
 Example:
   a429 survey examples/displays/log";

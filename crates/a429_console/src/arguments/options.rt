@@ -80,6 +80,9 @@ pub const TEXT: OptionForm = flag!("text", help::TEXT_LABELS);
 /// `--map`
 pub const MAP: OptionForm = texts!("map", "HEADING=COLUMN", help::MAP);
 
+/// `--names`
+pub const NAMES: OptionForm = flag!("names", help::NAMES);
+
 /// `--all`
 pub const ALL: OptionForm = flag!("all", help::ALL);
 

@@ -11,8 +11,8 @@ use crate::arguments::choices::{Choices, choices_in, is_given};
 use crate::arguments::command_line::{build_command, words_error};
 use crate::arguments::forms::{CommandForm, NameForm, NumberForm, Verb, command_named};
 use crate::arguments::options::{
-    ALL, BCD, BITS, BNR, CHANNEL, CODE, DATA, EVENTS, GROUP, HTML, IN, LIMIT, MAP, RATE, ROWS, SDI,
-    SLACK, SLOTS, SSM, SUMMARY, TEXT, TOLERANCE, UNTIL,
+    ALL, BCD, BITS, BNR, CHANNEL, CODE, DATA, EVENTS, GROUP, HTML, IN, LIMIT, MAP, NAMES, RATE,
+    ROWS, SDI, SLACK, SLOTS, SSM, SUMMARY, TEXT, TOLERANCE, UNTIL,
 };
 use crate::arguments::times::LogOrigin;
 use a429_logs::TimeUnit;
@@ -77,6 +77,8 @@ pub struct Options<'a> {
     pub events: bool,
     /// Labels are written so that a spreadsheet keeps their zeros (`--text`).
     pub text: bool,
+    /// Texts that are no names become names (`--names`).
+    pub names: bool,
     pub fields: FieldOptions<'a>,
 }
 
@@ -270,6 +272,7 @@ fn options_in<'a>(found: &ArgMatches<'a>, choices: Choices) -> Options<'a>
         tolerance: asked_number(found, TOLERANCE.id),
         events: is_given(found, EVENTS.id),
         text: is_given(found, TEXT.id),
+        names: is_given(found, NAMES.id),
         fields: fields_in(found),
     }
 }

@@ -4,9 +4,9 @@ ghost use Rattle.a429_console.specs.Files.{texts_of};
 ghost use Rattle.a429_console.specs.Readings.{HasRead, IsAnswerOf, answer_of};
 ghost use Rattle.a429_console.specs.FileReadings.{AreLogReadings, AreReadings, AreReadingsIn, IsReading, IsReadingIn, printable_char, printable_name};
 
-use crate::files::{FileFault, FileReader, LARGEST_FILE, LARGEST_LOG};
-use crate::hints::Seen;
-use crate::refusals::CommandRefusal;
+use crate::files::{FileFault, FileReader, FileTrouble, LARGEST_FILE, LARGEST_LOG};
+use crate::refusals::evidence::Evidence;
+use crate::refusals::{CommandRefusal, Refused};
 use std::alloc::{AllocError, Global};
 
 /// A character as a refusal prints it. A control character, such as a line feed, is `?`.
@@ -24,22 +24,23 @@ pub fn printable_name(alloc: Global, name: &str) -> Result<String, AllocError>
     name.chars().map(|c| printable_char(c)).collect(alloc)
 }
 
-/// What a command takes of the answer to a file's name: at most `most` bytes.
+/// What a command takes of the answer to a file's name: at most `most` bytes. A refusal has the reader's reason.
 fn bytes_of_answer(
     alloc: Global,
     name: &str,
     most: usize,
     answer: Result<Vec<u8>, FileFault>,
-) -> Result<Vec<u8>, CommandRefusal>
+    trouble: FileTrouble,
+) -> Result<Vec<u8>, Refused>
     ensures { (file : List ℕ → Option (List ℕ)) → IsAnswerOf file name.now (answer_of answer) → IsReadingIn most file name.now result }
 {
     match answer {
         Ok(bytes) if bytes.len() <= most => Ok(bytes),
         Ok(_) | Err(FileFault::Refused) => match printable_name(alloc, name) {
-            Ok(name) => Err(CommandRefusal::File(name)),
-            Err(_) => Err(CommandRefusal::Memory),
+            Ok(name) => Err(Refused::with(CommandRefusal::File(name), Evidence::File(trouble))),
+            Err(_) => Err(Refused::plain(CommandRefusal::Memory)),
         },
-        Err(FileFault::NoMemory) => Err(CommandRefusal::Memory),
+        Err(FileFault::NoMemory) => Err(Refused::plain(CommandRefusal::Memory)),
     }
 }
 
@@ -49,13 +50,12 @@ fn read_up_to<F: FileReader>(
     files: &mut F,
     name: &str,
     most: usize,
-    seen: &mut Seen,
-) -> Result<Vec<u8>, CommandRefusal>
+) -> Result<Vec<u8>, Refused>
     ensures { HasRead F.answers (λ file. IsReadingIn most file name.now result) files.old files.new }
 {
     let answer = files.read(name, most);
-    seen.trouble = files.trouble(name);
-    bytes_of_answer(alloc, name, most, answer)
+    let trouble = files.trouble(name);
+    bytes_of_answer(alloc, name, most, answer, trouble)
 }
 
 /// The bytes of a file, at most 16 MiB. Error: the file cannot be read or is larger, or an allocation failed.
@@ -63,11 +63,10 @@ pub fn read_file<F: FileReader>(
     alloc: Global,
     files: &mut F,
     name: &str,
-    seen: &mut Seen,
-) -> Result<Vec<u8>, CommandRefusal>
+) -> Result<Vec<u8>, Refused>
     ensures { HasRead F.answers (λ file. IsReading file name.now result) files.old files.new }
 {
-    read_up_to(alloc, files, name, LARGEST_FILE, seen)
+    read_up_to(alloc, files, name, LARGEST_FILE)
 }
 
 /// The bytes of several files, at most `most` of each. Error: that of the first file that has one.
@@ -76,13 +75,12 @@ fn read_all_up_to<F: FileReader>(
     files: &mut F,
     names: &[&str],
     most: usize,
-    seen: &mut Seen,
-) -> Result<Vec<Vec<u8>>, CommandRefusal>
+) -> Result<Vec<Vec<u8>>, Refused>
     ensures { HasRead F.answers (λ file. AreReadingsIn most file (texts_of names.now) result) files.old files.new }
 {
     let mut all = Vec::new(alloc);
     for name in names {
-        all.push(read_up_to(alloc, files, name, most, seen)?)?;
+        all.push(read_up_to(alloc, files, name, most)?)?;
     }
     Ok(all)
 }
@@ -92,11 +90,10 @@ pub fn read_files<F: FileReader>(
     alloc: Global,
     files: &mut F,
     names: &[&str],
-    seen: &mut Seen,
-) -> Result<Vec<Vec<u8>>, CommandRefusal>
+) -> Result<Vec<Vec<u8>>, Refused>
     ensures { HasRead F.answers (λ file. AreReadings file (texts_of names.now) result) files.old files.new }
 {
-    read_all_up_to(alloc, files, names, LARGEST_FILE, seen)
+    read_all_up_to(alloc, files, names, LARGEST_FILE)
 }
 
 /// The name of a log, and those of the logs that follow it.
@@ -119,12 +116,11 @@ pub fn read_logs<'a, F: FileReader>(
     files: &mut F,
     first: &'a str,
     more: &'a [&'a str],
-    seen: &mut Seen,
-) -> Result<Vec<Vec<u8>>, CommandRefusal>
+) -> Result<Vec<Vec<u8>>, Refused>
     ensures { HasRead F.answers (λ file. AreLogReadings file (first.now ∷ texts_of more.now) result) files.old files.new }
 {
     match log_names(alloc, first, more) {
-        Ok(names) => read_all_up_to(alloc, files, &names, LARGEST_LOG, seen),
-        Err(_) => Err(CommandRefusal::Memory),
+        Ok(names) => read_all_up_to(alloc, files, &names, LARGEST_LOG),
+        Err(_) => Err(Refused::plain(CommandRefusal::Memory)),
     }
 }

@@ -2,8 +2,8 @@
 ghost use Rattle.std.specs.Prelude.{◌≡◌, IsNone};
 ghost use Rattle.a429_console.specs.declared.refusals.CommandRefusal.TheVariants.{Memory};
 
-use crate::hints::SeenTable;
 use crate::refusals::CommandRefusal;
+use crate::refusals::evidence::TableEvidence;
 use a429_equipment::{Equipment, Name};
 use a429_table::FaultKind;
 use std::alloc::Global;
@@ -64,7 +64,7 @@ pub struct FurtherFault {
     /// Its number among the further tables, from 1.
     pub number: usize,
     pub cause: FurtherCause,
-    pub table: SeenTable,
+    pub table: TableEvidence,
 }
 
 /// What an answer that is no refusal warns of.
@@ -74,6 +74,8 @@ pub enum Warning {
     Further(FurtherFault),
     /// In a log too many words in a row come to the receiver of this name more closely than a bus can carry them.
     CloseWords(Name),
+    /// All intervals of the group of this name are below 1000 µs, and none admits a period: they may be milliseconds.
+    ShortIntervals(Name),
 }
 
 impl Warning {
@@ -82,7 +84,7 @@ impl Warning {
         warnings: &mut Vec<Warning>,
         number: usize,
         cause: FurtherCause,
-        table: SeenTable,
+        table: TableEvidence,
     ) {
         let _ = warnings.push(Warning::Further(FurtherFault {
             number,
@@ -95,6 +97,13 @@ impl Warning {
     pub fn note_close_words(alloc: Global, warnings: &mut Vec<Warning>, receiver: &Name) {
         if let Ok(name) = receiver.copied(alloc) {
             let _ = warnings.push(Warning::CloseWords(name));
+        }
+    }
+
+    /// Notes a group whose intervals may be milliseconds, unless an allocation fails.
+    pub fn note_short_intervals(alloc: Global, warnings: &mut Vec<Warning>, group: &Name) {
+        if let Ok(name) = group.copied(alloc) {
+            let _ = warnings.push(Warning::ShortIntervals(name));
         }
     }
 }

@@ -1,57 +1,18 @@
-//! Tables: their equipment, their proposals, and why there is none.
-ghost use Rattle.std.specs.Prelude.{◌≡◌, Ok, MatchResult};
-ghost use Rattle.a429_table.specs.Reading.{reading};
+//! Refusals of tables that were read: why there is no plan, or not what was asked for.
 ghost use Rattle.a429_slots.specs.Faults.{IsFaultOf};
 ghost use Rattle.a429_slots.specs.declared.planner.PlanFault.TheVariants.{Unfit, TooManyBuses};
 ghost use Rattle.a429_console.specs.RefusalText.{OrMemory};
-ghost use Rattle.a429_console.specs.Tables.{IsGroupRefusal, IsProposedBy, IsTableFault, IsTableRefusal, IsPlanRefusal, IsUnfitNamed};
+ghost use Rattle.a429_console.specs.Tables.{IsGroupRefusal, IsPlanRefusal, IsUnfitNamed};
 
 use crate::files::reading::printable_name;
-use crate::hints::{SeenTable, TableLook};
 use crate::refusals::CommandRefusal;
 use crate::refusals::names::{group_name, source_name};
 use a429_equipment::Equipment;
-use a429_slots::{NoProposal, OUTPUTS, PlanFault, Proposal};
-use a429_table::{TableFault, read_or_keep};
+use a429_slots::{NoProposal, PlanFault};
 use std::alloc::Global;
 
-/// The proposal of a table's bytes. Error: the table's fault, otherwise the first fault of its plan.
-pub fn propose(
-    alloc: Global,
-    table: &[u8],
-    seen: &mut SeenTable,
-) -> Result<Proposal<OUTPUTS>, CommandRefusal>
-    ensures { MatchResult result (IsProposedBy table.now) (OrMemory (IsTableRefusal table.now)) }
-{
-    let equipment = read_table(alloc, table, seen)?;
-    match Proposal::of(alloc, equipment) {
-        Ok(proposal) => Ok(proposal),
-        Err(none) => {
-            let refusal = plan_refusal(alloc, &none);
-            seen.equipment = Some(none.equipment);
-            Err(refusal)
-        }
-    }
-}
-
-/// The equipment of a table's bytes. The refusal is the table's fault.
-pub fn read_table(
-    alloc: Global,
-    table: &[u8],
-    seen: &mut SeenTable,
-) -> Result<Equipment, CommandRefusal>
-    ensures { MatchResult result (λ t. reading table.now ≡ Ok t) (OrMemory (IsTableFault table.now)) }
-{
-    seen.looks = TableLook::of(table);
-    match read_or_keep(alloc, table, &mut seen.document) {
-        Ok(equipment) => Ok(equipment),
-        Err(TableFault::NoMemory) => Err(CommandRefusal::Memory),
-        Err(TableFault::At(kind, place)) => Err(CommandRefusal::Table(kind, place)),
-    }
-}
-
 /// The refusal of an equipment that has no plan.
-fn plan_refusal(alloc: Global, none: &NoProposal) -> CommandRefusal
+pub fn plan_refusal(alloc: Global, none: &NoProposal) -> CommandRefusal
     ensures { IsFaultOf none.now.equipment none.now.fault → OrMemory (IsPlanRefusal none.now.equipment) result }
 {
     match none.fault {

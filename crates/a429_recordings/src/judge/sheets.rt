@@ -6,7 +6,7 @@ use crate::judge::JudgeForm;
 use crate::judge::duties::Judging;
 use crate::judge::events::{EVENT_COLUMNS, add_events};
 use crate::judge::rows::add_groups;
-use a429_console::hints::Seen;
+use a429_console::answered::Found;
 use a429_text::{Rows, Sheet, SheetForm};
 use std::alloc::{AllocError, Global};
 
@@ -27,20 +27,16 @@ const COLUMNS: &[&str] = &[
     "verdict",
 ];
 
-/// What is printed, and whether something was found.
+/// What is printed, whether something was found, and the rows of outputs, for a hint.
 #[derive(Drop)]
 pub struct Judged {
     pub text: Vec<u8>,
     pub found: bool,
+    pub rows: Found,
 }
 
-/// A row for each output and each group, which are kept in `seen` too. Error: an allocation failed.
-fn row_sheet(
-    alloc: Global,
-    judging: &Judging<'_>,
-    form: SheetForm,
-    seen: &mut Seen,
-) -> Result<Judged, AllocError>
+/// A row for each output and each group. Error: an allocation failed.
+fn row_sheet(alloc: Global, judging: &Judging<'_>, form: SheetForm) -> Result<Judged, AllocError>
     ensures { IfOk result (IsJudgeSheet false judging.now form) }
 {
     let mut rows = Rows::new(alloc);
@@ -50,8 +46,11 @@ fn row_sheet(
         rows,
     };
     let text = sheet.render(alloc, form)?;
-    seen.findings = Some(sheet);
-    Ok(Judged { text, found })
+    Ok(Judged {
+        text,
+        found,
+        rows: Found::Rows(sheet),
+    })
 }
 
 /// A row for each finding. Error: an allocation failed.
@@ -66,7 +65,11 @@ fn event_sheet(alloc: Global, judging: &Judging<'_>, form: SheetForm) -> Result<
         rows,
     };
     let text = sheet.render(alloc, form)?;
-    Ok(Judged { text, found })
+    Ok(Judged {
+        text,
+        found,
+        rows: Found::Nothing,
+    })
 }
 
 /// The sheet that is asked for. Error: an allocation failed.
@@ -75,13 +78,12 @@ pub fn judge_sheet(
     judging: &Judging<'_>,
     events: bool,
     form: SheetForm,
-    seen: &mut Seen,
 ) -> Result<Judged, AllocError>
     ensures { IfOk result (IsJudgeSheet events judging.now form) }
 {
     if events {
         event_sheet(alloc, judging, form)
     } else {
-        row_sheet(alloc, judging, form, seen)
+        row_sheet(alloc, judging, form)
     }
 }

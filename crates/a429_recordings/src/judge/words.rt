@@ -7,8 +7,8 @@ ghost use Rattle.a429_console.specs.Names.{number_named};
 ghost use Rattle.a429_recordings.specs.LogItems.{AddsLog, refusal_for};
 
 use crate::logs::{ReadFault, faulty, with_name};
-use a429_console::hints::{LogRefusal, Seen, SeenLog};
-use a429_console::refusals::CommandRefusal;
+use a429_console::refusals::evidence::{Evidence, LogEvidence, LogRefusal};
+use a429_console::refusals::{CommandRefusal, Refused};
 use a429_logs::{LogReader, Reading, StatedWord};
 use a429_replay::Names;
 use a429_slots::{OUTPUTS, Plan};
@@ -194,34 +194,36 @@ fn add_words<'a>(
     Ok(reader.for_next_log())
 }
 
-/// The refusal for a fault of a log, by the number of the log from 0. A faulty line is kept in `seen`.
+/// The refusal for a fault of a log, by the number of the log from 0, with the faulty line.
 fn refusal_for(
     alloc: Global,
     names: &Names,
     number: usize,
     text: &[u8],
     fault: ReadFault,
-    seen: &mut Seen,
-) -> CommandRefusal
+) -> Refused
     ensures { result ≡ refusal_for fault }
 {
     match fault {
         ReadFault::Line(fault) => {
             let line = fault.line;
-            names.keep_line(alloc, text, line, 0, seen);
-            seen.log = Some(SeenLog {
+            let evidence = names.line_evidence(alloc, text, line, 0);
+            let log = LogEvidence {
                 number,
-                ..fault.seen
-            });
-            CommandRefusal::LogLine { line }
+                ..fault.log
+            };
+            Refused::with(
+                CommandRefusal::LogLine { line },
+                Evidence::of_log(evidence, log),
+            )
         }
-        ReadFault::NoMemory => CommandRefusal::Memory,
+        ReadFault::NoMemory => Refused::plain(CommandRefusal::Memory),
     }
 }
 
 /// Reads logs, one after another as if they were one, with channels taken as names. Error: the number of the first faulty
 /// line, from 1 in its log. A line is faulty as the reader of logs says, or if there is no place of its name, or its word is
-/// at 10^14 us or later. The faulty line is kept in `seen`.
+/// at 10^14 us or later.
 pub fn read_words<'a>(
     alloc: Global,
     plan: &Plan<OUTPUTS>,
@@ -230,8 +232,7 @@ pub fn read_words<'a>(
     log: BoxLog,
     reading: Reading,
     texts: &'a [Vec<u8>],
-    seen: &mut Seen,
-) -> Result<BoxWords, CommandRefusal>
+) -> Result<BoxWords, Refused>
     ensures read { IsLogsReading (box_word_by plan.now names.now (texts_of channels.now) log) reading (bytes_of texts.now) result }
     ensures ordered { IfOk result (λ read. AreOrdered read.words.items) }
 {
@@ -241,7 +242,7 @@ pub fn read_words<'a>(
         let text = texts[number].as_slice();
         match add_words(plan, names, channels, log, next, text, &mut words) {
             Ok(after) => next = after,
-            Err(fault) => return Err(refusal_for(alloc, names, number, text, fault, seen)),
+            Err(fault) => return Err(refusal_for(alloc, names, number, text, fault)),
         }
     }
     Ok(BoxWords { words, next })

@@ -6,8 +6,8 @@ ghost use Rattle.a429_recordings.specs.LogItems.{AddsLog, refusal_for};
 ghost use Rattle.a429_recordings.specs.SimulationLog.{AreInTime, IsLogReading, log_word_by, word_for};
 
 use crate::logs::{ReadFault, faulty, with_name};
-use a429_console::hints::{LogRefusal, Seen, SeenLog};
-use a429_console::refusals::CommandRefusal;
+use a429_console::refusals::evidence::{Evidence, LogEvidence, LogRefusal};
+use a429_console::refusals::{CommandRefusal, Refused};
 use a429_logs::{LogReader, Reading, StatedWord};
 use a429_replay::Names;
 use std::alloc::Global;
@@ -75,42 +75,37 @@ fn refusal_of(names: &Names, word: StatedWord<'_>) -> LogRefusal {
     }
 }
 
-/// The refusal for a fault of a log, by the number of the log from 0. A faulty line is kept in `seen`.
-fn refusal_for(
-    alloc: Global,
-    names: &Names,
-    number: usize,
-    log: &[u8],
-    fault: ReadFault,
-    seen: &mut Seen,
-) -> CommandRefusal
+/// The refusal for a fault of a log, by the number of the log from 0, with the faulty line.
+fn refusal_for(alloc: Global, names: &Names, number: usize, log: &[u8], fault: ReadFault) -> Refused
     ensures { result ≡ refusal_for fault }
 {
     match fault {
         ReadFault::Line(fault) => {
             let line = fault.line;
-            names.keep_line(alloc, log, line, 0, seen);
-            seen.log = Some(SeenLog {
+            let evidence = names.line_evidence(alloc, log, line, 0);
+            let log = LogEvidence {
                 number,
-                ..fault.seen
-            });
-            CommandRefusal::LogLine { line }
+                ..fault.log
+            };
+            Refused::with(
+                CommandRefusal::LogLine { line },
+                Evidence::of_log(evidence, log),
+            )
         }
-        ReadFault::NoMemory => CommandRefusal::Memory,
+        ReadFault::NoMemory => Refused::plain(CommandRefusal::Memory),
     }
 }
 
 /// Reads logs, one after another as if they were one, for the receivers of these names, with channels taken as names. Error:
 /// the number of the first faulty line, from 1 in its log. A line is faulty as the reader of logs says, or if its word is at
-/// no receiver, or at 10^14 us or later. The faulty line is kept in `seen`.
+/// no receiver, or at 10^14 us or later.
 pub fn read_words<'a>(
     alloc: Global,
     names: &Names,
     channels: &'a [&'a str],
     reading: Reading,
     logs: &'a [Vec<u8>],
-    seen: &mut Seen,
-) -> Result<Vec<LogWord>, CommandRefusal>
+) -> Result<Vec<LogWord>, Refused>
     ensures words { IsLogReading names.now (texts_of channels.now) reading (bytes_of logs.now) result }
     ensures in_time { IfOk result (λ words. AreInTime words.items) }
 {
@@ -120,7 +115,7 @@ pub fn read_words<'a>(
         let log = logs[number].as_slice();
         match add_words(names, channels, next, log, &mut words) {
             Ok(after) => next = after,
-            Err(fault) => return Err(refusal_for(alloc, names, number, log, fault, seen)),
+            Err(fault) => return Err(refusal_for(alloc, names, number, log, fault)),
         }
     }
     Ok(words)

@@ -8,7 +8,7 @@ use crate::simulate::log::LogWord;
 use crate::simulate::machine::{Happening, Run};
 use crate::simulate::moments::{Moment, Timeline};
 use crate::simulate::tracks::{end_of, tracks_of};
-use a429_console::refusals::CommandRefusal;
+use a429_console::refusals::Refused;
 use a429_core::laws::{calls_are_answered, sent_cells_are_answered};
 use a429_slots::{OUTPUTS, Proposal};
 use std::alloc::Global;
@@ -37,7 +37,7 @@ impl Player {
         proposal: &Proposal<OUTPUTS>,
         words: Vec<LogWord>,
         until: Option<u64>,
-    ) -> Result<Player, CommandRefusal>
+    ) -> Result<Player, Refused>
         requires { AreInTime words.items }
         ensures { IsBeginningOf proposal.now words.items (end_of proposal.now words.items until) result }
     {

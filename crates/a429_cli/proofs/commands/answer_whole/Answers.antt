@@ -12,7 +12,7 @@ returns-clause-read g c =
     let v = c.args.asked.now.verb in
     let r = asked_of c.args.asked.now in
     let reply = c.reply_to-reply.result in
-    read_weaker c.reply_to-reply.ensures (λ file replies. IfOk-weaker c.put_reply.result _ _ (λ status put.
+    read_weaker c.reply_to-reply.ensures.replied (λ file replies. IfOk-weaker c.put_reply.result _ _ (λ status put.
     let answered = subst (λ (trouble : ℕ). IsReplyPut trouble reply status put.0) c.trouble_of.ensures.due put.1 in
     (put.0, inl (whole_reply v file r status put.0 c.requires (reply_by (trouble_of v) (IsAnswerOf v file r) (IsNoAnswer v file r) reply status put.0 replies answered)), put.2))
     c.put_reply.ensures.put)

@@ -32,10 +32,10 @@ pub returns : goal.returns
 returns g c =
     let table = c.in_ok-table.table.items in
     let text = c.in_ok-text.text.items in
-    let judged = rw (c.deref.ensures.value, c.deref-2.ensures.value) at c.verdict_on-verdict.ensures in
+    let judged = rw c.deref.ensures.value at c.verdict_on.ensures in
     read_then c.in_ok-table.ensures c.in_ok-text.ensures (λ file first second.
     let read : AreRead file (c.args.table.now ∷ c.args.plan.now ∷ []) (table ∷ text ∷ []) = (first, (second, tt)) in
-    matched_both c.verdict_on-verdict.result (IsVerdictOnBytes table text) (IsVerdictOf file c.args.table.now c.args.plan.now) (OrMemory (IsUnjudged table)) (OrMemory (IsNoCheck file c.args.table.now c.args.plan.now))
+    matched_both c.verdict_on.result (IsVerdictOnBytes table text) (IsVerdictOf file c.args.table.now c.args.plan.now) (OrMemory (IsUnjudged table)) (OrMemory (IsNoCheck file c.args.table.now c.args.plan.now))
     (λ v is. (table, text, read, is))
     (λ e bad. or_memory_weaker (IsUnjudged table) (IsNoCheck file c.args.table.now c.args.plan.now) e (λ one. inr (table, text, read, one)) bad)
     judged)

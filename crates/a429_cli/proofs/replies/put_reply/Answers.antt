@@ -7,14 +7,14 @@ use Rattle.a429_cli.proofs.replies.put_reply.Goals as goal
 pub returns-in-Ok-clause-put : goal.returns-in-Ok-clause-put
 returns-in-Ok-clause-put g c =
     let reply = c.in-Ok.reply in
-    rw c.in-Ok.is (done_put c.put_answer.result _ (g.O.Output.contents c.args.out.now) (g.O.Output.contents c.put_answer.new.out) c.deref.result.now reply.bytes.items reply.status c.deref.ensures.value (refl, refl)
+    rw (c.in-Ok.is, c.answer_with.ensures) (done_put c.put_answer.result _ (g.O.Output.contents c.args.out.now) (g.O.Output.contents c.put_answer.new.out) c.deref.result.now reply.bytes.items reply.status c.deref.ensures.value (refl, refl)
     c.put_answer.ensures.status c.put_answer.ensures.text)
 
 pub returns-in-Ok-clause-status : goal.returns-in-Ok-clause-status
 returns-in-Ok-clause-status g c =
     let reply = c.in-Ok.reply in
     let few : reply.status ≤ c.args.trouble = omega (arith, reply.few, c.requires) in
-    done_is_few c.put_answer.result reply.status c.args.trouble few c.put_answer.ensures.status
+    rw c.answer_with.ensures (done_is_few c.put_answer.result reply.status c.args.trouble few c.put_answer.ensures.status)
 
 pub returns-in-Err-clause-put : goal.returns-in-Err-clause-put
 returns-in-Err-clause-put g c =

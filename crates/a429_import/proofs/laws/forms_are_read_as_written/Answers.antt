@@ -2,9 +2,12 @@ use Rattle.std.proofs.Common.{refl}
 use Rattle.std.specs.Path.{rsplit_once}
 use Rattle.a429_word.specs.Decimal.{decimal_number, is_numeral}
 use Rattle.a429_word.specs.Texts.{label_value}
-use Rattle.a429_import.specs.ImportFields.{hold_in, label_in, millis_in, number_in, rate_in, sdi_in}
+use Rattle.a429_import.specs.ImportFields.{hold_in, label_in, millis_in, number_in, rate_in, sdi_in, text_in, utf8_in}
 use Rattle.a429_import.specs.ImportForms.{heading_among}
 use Rattle.a429_import.specs.ImportRows.{column_field, is_column_in_millis, is_named, numbers_of}
+use Rattle.a429_equipment.specs.NameForm.{is_name}
+use Rattle.a429_import.specs.MadeNames.{made_field, made_name}
+use Rattle.std.specs.Str.{chars, is_utf8}
 use Rattle.a429_import.proofs.laws.forms_are_read_as_written.Goals as goal
 
 pub returns-clause-fields : goal.returns-clause-fields
@@ -37,3 +40,11 @@ returns-clause-maps c = record { named = refl; last_mark = refl; first = refl; o
 pub returns-clause-alone : goal.returns-clause-alone
 unfolding numbers_of column_field is_column_in_millis is_named rate_in number_in decimal_number is_numeral label_in label_value sdi_in hold_in
 returns-clause-alone c = record { output = refl; alone = refl; rated = refl; least = refl; no_rate = refl }
+
+pub returns-clause-names : goal.returns-clause-names
+unfolding made_field made_name is_name text_in utf8_in is_utf8 chars lib.Utf8.encode
+returns-clause-names c = record { cut = refl; runs = refl; stays = refl; last = refl; nothing = refl; empty = refl; no_text = refl }
+
+pub returns-clause-made : goal.returns-clause-made
+unfolding made_field made_name is_name text_in utf8_in is_utf8 chars is_named lib.Utf8.encode
+returns-clause-made c = record { some = refl }

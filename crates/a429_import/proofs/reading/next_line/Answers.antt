@@ -1,19 +1,25 @@
 use Rattle.std.proofs.Common.{◌∷◌, ◌++◌, [], Some, refl, subst, sym}
 use Rattle.a429_import.specs.declared.reading.LinesRead.{LinesRead}
 use Rattle.a429_import.specs.ImportReading.{AreRead, HaveRows}
-use Rattle.a429_import.proofs.ImportReading.{heading_read, line_read}
+use Rattle.a429_import.proofs.ImportReading.{first_headed, headed_more, heading_read, line_read}
 use Rattle.a429_import.proofs.reading.next_line.Goals as goal
 
-pub returns-in-None : goal.returns-in-None
-returns-in-None c = λ lines known.
+pub returns-in-None-clause-read : goal.returns-in-None-clause-read
+returns-in-None-clause-read c = λ lines known.
     let old : LinesRead = c.args.read.now in
     let new : LinesRead = record { heading = Some c.of.result; rows = old.rows; fault = old.fault } in
     heading_read old new c.of.result c.args.line lines c.heading_fault-fault.result (subst (λ o. HaveRows o old lines) c.in-None.is known) refl c.of.ensures refl c.heading_fault-fault.ensures
 
-pub returns-in-Some : goal.returns-in-Some
-returns-in-Some c = λ lines known.
+pub returns-in-Some-clause-read : goal.returns-in-Some-clause-read
+returns-in-Some-clause-read c = λ lines known.
     let old : LinesRead = c.args.read.now in
     let new : LinesRead = record { heading = old.heading; rows = c.take_below.new.read; fault = old.fault } in
     let there : HaveRows (Some c.in-Some.heading) old lines = subst (λ o. HaveRows o old lines) c.in-Some.is known in
     subst (λ f. AreRead f new (lines ++ c.args.line ∷ [])) (sym c.err.ensures.value)
     (line_read c.in-Some.heading old new c.args.line lines c.take_below.result there c.in-Some.is (c.take_below.ensures there.2.rows there.2.agree there.2.has))
+
+pub returns-in-None-clause-heading : goal.returns-in-None-clause-heading
+returns-in-None-clause-heading c = λ lines headed. first_headed c.of.result c.args.line lines c.args.read.now.heading c.of.ensures c.in-None.is headed
+
+pub returns-in-Some-clause-heading : goal.returns-in-Some-clause-heading
+returns-in-Some-clause-heading c = λ lines headed. headed_more c.in-Some.heading c.args.read.now.heading lines c.args.line c.in-Some.is headed

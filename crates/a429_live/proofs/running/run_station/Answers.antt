@@ -8,12 +8,12 @@ use Rattle.a429_live.proofs.running.run_station.Goals as goal
 
 pub returns-in-Ok-clause-replied : goal.returns-in-Ok-clause-replied
 returns-in-Ok-clause-replied g c =
-    read_weaker c.in-Ok.ensures.report (λ file report.
+    rw c.plain_answer.ensures (read_weaker c.in-Ok.ensures.report (λ file report.
     text_put c.finish.result (IsLiveReply file (asked_of c.args.asked.now)) (g.O.Output.contents c.args.out.now) (g.O.Output.contents c.finish.new.out) c.deref.result.now c.in-Ok.text.items
-    c.deref.ensures.value (inr (report, refl)) c.finish.ensures.status c.finish.ensures.put)
+    c.deref.ensures.value (inr (report, refl)) c.finish.ensures.status c.finish.ensures.put))
 
 pub returns-in-Ok-clause-status : goal.returns-in-Ok-clause-status
-returns-in-Ok-clause-status g c = done_is_few c.finish.result c.finish.ensures.status
+returns-in-Ok-clause-status g c = rw c.plain_answer.ensures (done_is_few c.finish.result c.finish.ensures.status)
 
 pub returns-in-Err-clause-replied : goal.returns-in-Err-clause-replied
 returns-in-Err-clause-replied g c =

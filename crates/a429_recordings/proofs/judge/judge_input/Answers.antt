@@ -22,4 +22,4 @@ returns c =
     let i = files_of c.args.input.now in
     let q = c.in_ok-proposal.proposal in
     let proposed = subst (λ (t : List ℕ). IsProposedBy t q) c.deref.ensures.value c.in_ok-proposal.ensures in
-    judged_of q i c.args.form c.judge_box-judged.result proposed c.judge_box-judged.ensures
+    rw c.with_plan.ensures (judged_of q i c.args.form c.judge_box-judged.result proposed c.judge_box-judged.ensures)

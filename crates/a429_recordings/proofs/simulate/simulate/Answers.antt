@@ -23,12 +23,12 @@ returns-in-Ok-prepare-clause-simulated g c =
     let q = c.in-Ok-prepare.simulation.setting.proposal in
     let form = c.args.form in
     let i = files_of c.in-Ok.input in
-    read_weaker c.in-Ok.ensures (λ file read. IfOk-weaker c.print_simulation.result _ _ (λ status put. (
+    rw c.plain_answer.ensures (read_weaker c.in-Ok.ensures (λ file read. IfOk-weaker c.print_simulation.result _ _ (λ status put. (
       put.0,
       simulated_reply file c.args.table.now (logs_named c.args.names) (channels_named c.args.names) c.args.form i q P.words read P.simulated status put.0 put.1,
       put.2,
     ))
-    (c.print_simulation.ensures.printed P.words (end_of q P.words c.args.form.until) P.begin))
+    (c.print_simulation.ensures.printed P.words (end_of q P.words c.args.form.until) P.begin)))
 
 pub returns-clause-simulated : goal.returns-clause-simulated
 returns-clause-simulated g c = read_weaker c.in-Ok.ensures (λ file read.

@@ -23,10 +23,10 @@ returns-in-Err-clause-replayed g c = read_weaker c.in-Err.ensures (λ file bad.
 pub returns-in-Ok-prepare-clause-replayed : goal.returns-in-Ok-prepare-clause-replayed
 returns-in-Ok-prepare-clause-replayed g c =
     let (q, start, opened, tables) = c.in-Ok-prepare.ensures in
-    read_weaker c.in-Ok.ensures (λ file read. IfOk-weaker c.play_prepared-status.result _ _ (λ status played.
+    rw c.plain_answer.ensures (read_weaker c.in-Ok.ensures (λ file read. IfOk-weaker c.play_prepared-status.result _ _ (λ status played.
     let was = played q start opened in
     (was.0, inr (input_of c.in-Ok.input, q, events_of c.in-Ok-prepare.prepared.events.items, read, start, was.1), was.2))
-    c.play_prepared-status.ensures.played)
+    c.play_prepared-status.ensures.played))
 
 pub returns-in-Err-prepare-clause-replayed : goal.returns-in-Err-prepare-clause-replayed
 returns-in-Err-prepare-clause-replayed g c = read_weaker c.in-Ok.ensures (λ file read.

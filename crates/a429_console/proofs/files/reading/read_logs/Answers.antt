@@ -10,4 +10,4 @@ returns-in-Ok g c =
     (λ file read. subst (λ (names : List (List ℕ)). AreLogReadings file names c.read_all_up_to.result) (ap texts_of c.deref.ensures.value ∙ c.in-Ok.ensures) read)
 
 pub returns-in-Err : goal.returns-in-Err
-returns-in-Err g c = read_none refl (λ file. tt)
+returns-in-Err g c = rw c.plain.ensures (read_none refl (λ file. tt))

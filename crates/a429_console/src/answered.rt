@@ -1,0 +1,117 @@
+//! What a command answered: its status, and what a hint needs beyond it.
+ghost use Rattle.std.specs.Prelude.{◌≡◌};
+
+use crate::output::OutputFault;
+use crate::refusals::Refused;
+use a429_equipment::Equipment;
+use a429_text::Sheet;
+use std::marker::Model;
+
+/// A line of a plan's text that is not as its table asks.
+#[derive(Clone, Copy)]
+pub struct Objection {
+    /// Its number, from 1.
+    pub line: usize,
+    /// The reason that `check` prints.
+    pub reason: &'static str,
+}
+
+/// What an answer that is no refusal leaves for a hint.
+#[derive(Drop)]
+pub enum Found {
+    Nothing,
+    /// What `lint` found of a table, or the rows of `judge`.
+    Rows(Sheet),
+    /// What `check` found wrong in the text of a plan for the station of this equipment.
+    Objection {
+        objection: Objection,
+        equipment: Equipment,
+        text: Vec<u8>,
+    },
+}
+
+/// What a command answered. Clauses see its status.
+#[derive(Drop)]
+pub struct Answered {
+    status: u8,
+    refused: Option<Refused>,
+    found: Found,
+}
+
+impl Model for Answered {
+    ghost use Rattle.std.specs.Prelude.{ℕ};
+
+    ghost Value = { ℕ };
+
+    ghost view = { λ a. a.status };
+}
+
+impl Answered {
+    ghost use Rattle.std.specs.Prelude.{◌≡◌};
+
+    /// An answer with this status, which leaves this for a hint.
+    pub fn of(status: u8, found: Found) -> Answered
+        ensures { result ≡ status }
+    {
+        Answered {
+            status,
+            refused: None,
+            found,
+        }
+    }
+
+    /// A refusal with this status.
+    pub fn of_refused(status: u8, refused: Refused) -> Answered
+        ensures { result ≡ status }
+    {
+        Answered {
+            status,
+            refused: Some(refused),
+            found: Found::Nothing,
+        }
+    }
+
+    /// The status of the command.
+    pub fn status(&self) -> u8
+        ensures { result ≡ self.now }
+    {
+        self.status
+    }
+
+    /// What was refused. `None`: nothing was, or an allocation failed after the first lines.
+    pub fn refused(&self) -> Option<&Refused> {
+        self.refused.as_ref()
+    }
+
+    /// What was found.
+    pub fn found(&self) -> &Found {
+        &self.found
+    }
+}
+
+/// What a command answered with this status, if it leaves this for a hint.
+pub fn answer_with(status: Result<u8, OutputFault>, found: Found) -> Result<Answered, OutputFault>
+    ensures { result ≡ status }
+{
+    match status {
+        Ok(status) => Ok(Answered::of(status, found)),
+        Err(fault) => Err(fault),
+    }
+}
+
+/// The same, if it leaves nothing.
+pub fn plain_answer(status: Result<u8, OutputFault>) -> Result<Answered, OutputFault>
+    ensures { result ≡ status }
+{
+    answer_with(status, Found::Nothing)
+}
+
+/// The status of what a command answered.
+pub fn status_of(answered: &Result<Answered, OutputFault>) -> Result<u8, OutputFault>
+    ensures { result ≡ answered.now }
+{
+    match answered {
+        Ok(answered) => Ok(answered.status()),
+        Err(fault) => Err(*fault),
+    }
+}

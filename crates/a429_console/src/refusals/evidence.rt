@@ -1,0 +1,296 @@
+//! What was read of a refused text, for a hint.
+
+use crate::files::FileTrouble;
+use a429_equipment::Equipment;
+use a429_logs::{LineFault, Shape, TimeUnit};
+use a429_slots::{OUTPUTS, Proposal};
+use a429_table::RefusedTable;
+use std::alloc::{AllocError, Global};
+
+/// What a hint about a refusal needs beyond it. No contract rests on it.
+#[derive(Drop)]
+pub enum Evidence {
+    /// Nothing: the refusal says all, or an allocation failed.
+    Nothing,
+    /// Why the file cannot be read.
+    File(FileTrouble),
+    /// What was read of the refused table, and whether it is the second of two.
+    Table {
+        table: TableEvidence,
+        is_second: bool,
+    },
+    /// The plan of a table that does not have what was asked for.
+    Proposal(Proposal<OUTPUTS>),
+    /// The refused line of a script or of a file of words.
+    Line(LineEvidence),
+    /// The line of a line file up to the refused byte, and that byte.
+    Byte {
+        line: LineEvidence,
+        byte: u8,
+    },
+    /// The refused line of a log.
+    Log {
+        line: LineEvidence,
+        log: LogEvidence,
+    },
+    /// The refused rows of comma-separated values.
+    Rows(RowsEvidence),
+    /// How many threads the run needs.
+    Threads(usize),
+}
+
+impl Evidence {
+    /// What was read of a table.
+    pub fn of_table(table: TableEvidence) -> Evidence {
+        Evidence::Table {
+            table,
+            is_second: false,
+        }
+    }
+
+    /// A refused line of a script or of a file of words. `None`: an allocation failed.
+    pub fn of_line(line: Option<LineEvidence>) -> Evidence {
+        match line {
+            Some(line) => Evidence::Line(line),
+            None => Evidence::Nothing,
+        }
+    }
+
+    /// The byte at this place of a line file, and its line up to that byte.
+    pub fn of_byte(alloc: Global, bytes: &[u8], place: usize) -> Evidence {
+        match (LineEvidence::at(alloc, bytes, place), bytes.get(place)) {
+            (Some(line), Some(byte)) => Evidence::Byte { line, byte: *byte },
+            _ => Evidence::Nothing,
+        }
+    }
+
+    /// A refused line of a log. `None`: an allocation failed.
+    pub fn of_log(line: Option<LineEvidence>, log: LogEvidence) -> Evidence {
+        match line {
+            Some(line) => Evidence::Log { line, log },
+            None => Evidence::Nothing,
+        }
+    }
+
+    /// The same of the second of two tables.
+    pub fn of_second_table(self) -> Evidence {
+        match self {
+            Evidence::Table { table, .. } => Evidence::Table {
+                table,
+                is_second: true,
+            },
+            other => other,
+        }
+    }
+
+    /// The same, with this plan if it is nothing.
+    pub fn or_plan(self, proposal: Proposal<OUTPUTS>) -> Evidence {
+        match self {
+            Evidence::Nothing => Evidence::Proposal(proposal),
+            other => other,
+        }
+    }
+
+    /// The same of a log after this number of other logs.
+    pub fn after_logs(self, before: usize) -> Evidence {
+        match self {
+            Evidence::Log { line, log } => Evidence::Log {
+                line,
+                log: LogEvidence {
+                    number: log.number.saturating_add(before),
+                    ..log
+                },
+            },
+            other => other,
+        }
+    }
+
+    /// What was read of a table; nothing if it is evidence of something else.
+    pub fn into_table(self) -> TableEvidence {
+        match self {
+            Evidence::Table { table, .. } => table,
+            _ => TableEvidence::nothing(),
+        }
+    }
+}
+
+/// A refused line of a script, of a file of words or of a log; of a line file, its part before the refused byte.
+#[derive(Drop)]
+pub struct LineEvidence {
+    /// Its number, from 1.
+    pub number: usize,
+    /// Its bytes, without the line feed.
+    pub bytes: Vec<u8>,
+    /// Whether it has a line feed.
+    pub is_ended: bool,
+    /// The last line before it that states something: empty ones and comments do not.
+    pub before: Vec<u8>,
+    /// The names of the receivers and of the groups that it can name.
+    pub receivers: Vec<String>,
+    pub groups: Vec<String>,
+    /// How many further tables it can publish.
+    pub further: usize,
+}
+
+/// The last line of a text that states something; empty lines and comments do not.
+fn last_stated(text: &[u8]) -> &[u8] {
+    let mut last: &[u8] = &[];
+    for line in text.split(|byte| *byte == b'\n') {
+        if !line.is_empty() && !line.starts_with(b"#") {
+            last = line;
+        }
+    }
+    last
+}
+
+impl LineEvidence {
+    /// The line of this number. Error: an allocation fails.
+    pub fn of(alloc: Global, text: &[u8], number: usize) -> Result<LineEvidence, AllocError> {
+        let mut rest = text;
+        for _ in 1..number {
+            rest = match rest.iter().position(|byte| *byte == b'\n') {
+                Some(end) => &rest[end + 1..],
+                None => &[],
+            };
+        }
+        let end = rest.iter().position(|byte| *byte == b'\n');
+        let above = text.len().saturating_sub(rest.len());
+        let before = last_stated(text.get(..above).unwrap_or(&[]));
+        Ok(LineEvidence {
+            number,
+            bytes: Vec::from_slice(alloc, &rest[..end.unwrap_or(rest.len())])?,
+            is_ended: end.is_some(),
+            before: Vec::from_slice(alloc, before)?,
+            receivers: Vec::new(alloc),
+            groups: Vec::new(alloc),
+            further: 0,
+        })
+    }
+
+    /// The line of the byte at this place, up to that byte. `None`: there is none, or an allocation fails.
+    fn at(alloc: Global, bytes: &[u8], place: usize) -> Option<LineEvidence> {
+        let before = bytes.get(..place)?;
+        let feeds = before.iter().filter(|byte| **byte == b'\n').count();
+        LineEvidence::of(alloc, before, feeds.saturating_add(1)).ok()
+    }
+}
+
+/// Why a line of a log is refused.
+#[derive(Clone, Copy)]
+pub enum LogRefusal {
+    /// It is faulty.
+    Line(LineFault),
+    /// No receiver has the name of its word.
+    Receiver,
+    /// The name of its word is not UTF-8.
+    Name,
+    /// No group has the name of its word, or the group has no bus of its number.
+    Group,
+    /// Its time is too late.
+    Late,
+}
+
+/// Why a line of a log is refused, and how it was read.
+#[derive(Clone, Copy)]
+pub struct LogEvidence {
+    pub why: LogRefusal,
+    /// The number of the log, from 0.
+    pub number: usize,
+    /// The form of the log's rows. `None` if the line is the first that states something.
+    pub shape: Option<Shape>,
+    /// The unit of times.
+    pub unit: TimeUnit,
+}
+
+/// What a text looks like that is given as a table.
+#[derive(Clone, Copy, PartialEq, Eq)]
+pub enum TableLook {
+    PlanText,
+    Script,
+    /// Rows for `import`.
+    Rows,
+    /// The line of a refusal.
+    Refusal,
+    Log,
+    Other,
+}
+
+impl TableLook {
+    /// By the first words of the text, or its last line.
+    pub fn of(text: &[u8]) -> TableLook {
+        let first_words: [&[u8]; 4] = [b"arrive ", b"cell ", b"frame ", b"publish "];
+        if text.starts_with(b"plan ") {
+            TableLook::PlanText
+        } else if first_words.iter().any(|word| text.starts_with(word)) {
+            TableLook::Script
+        } else if text.starts_with(b"refused ") {
+            TableLook::Refusal
+        } else if has_columns(text) {
+            TableLook::Rows
+        } else if last_stated(text)
+            .first()
+            .is_some_and(|byte| byte.is_ascii_digit())
+        {
+            TableLook::Log
+        } else {
+            TableLook::Other
+        }
+    }
+}
+
+/// Whether the first line of a text names columns of rows for `import`, separated by commas.
+fn has_columns(text: &[u8]) -> bool {
+    let end = text.iter().position(|byte| *byte == b'\n');
+    let heading = &text[..end.unwrap_or(text.len())];
+    heading.split(|byte| *byte == b',').any(|name| name == b"source".as_slice()
+        || name == b"min_us".as_slice())
+}
+
+/// What was read of a table that has a fault or no plan.
+#[derive(Drop)]
+pub struct TableEvidence {
+    /// Which kind of file it looks like.
+    pub looks: TableLook,
+    /// The parsed document of the refused table.
+    pub document: Option<RefusedTable>,
+    /// Its equipment, if it has no plan.
+    pub equipment: Option<Equipment>,
+}
+
+impl TableEvidence {
+    /// Nothing was read.
+    pub fn nothing() -> TableEvidence {
+        TableEvidence {
+            looks: TableLook::Other,
+            document: None,
+            equipment: None,
+        }
+    }
+
+    /// A text that is refused as a table, and its document if it has one.
+    pub fn of_text(text: &[u8], document: Option<RefusedTable>) -> TableEvidence {
+        TableEvidence {
+            looks: TableLook::of(text),
+            document,
+            equipment: None,
+        }
+    }
+
+    /// The equipment of a table that was read.
+    pub fn of_equipment(equipment: Equipment) -> TableEvidence {
+        TableEvidence {
+            looks: TableLook::Other,
+            document: None,
+            equipment: Some(equipment),
+        }
+    }
+}
+
+/// Rows of comma-separated values that are refused.
+#[derive(Drop)]
+pub struct RowsEvidence {
+    /// The bytes of their file.
+    pub bytes: Vec<u8>,
+    /// The name of the column that is at fault, if one is.
+    pub column: Option<&'static str>,
+}

@@ -1,0 +1,12 @@
+use Rattle.std.proofs.Common.{subst, sym}
+use Rattle.a429_import.specs.Imports.{IsImportBy}
+use Rattle.a429_import.specs.MadeReading.{IsReadBy}
+use Rattle.a429_import.proofs.import.table_by.Goals as goal
+
+pub returns-then-makes_names : goal.returns-then-makes_names
+returns-then-makes_names c = λ lines known.
+    subst (λ b. IsImportBy b lines c.made_table.result) (sym c.if-makes_names.true) (c.made_table.ensures lines (subst (λ b. IsReadBy b c.args.read.now lines) c.if-makes_names.true known))
+
+pub returns-else-makes_names : goal.returns-else-makes_names
+returns-else-makes_names c = λ lines known.
+    subst (λ b. IsImportBy b lines c.table_of_lines.result) (sym c.if-makes_names.false) (c.table_of_lines.ensures lines (subst (λ b. IsReadBy b c.args.read.now lines) c.if-makes_names.false known))

@@ -1,0 +1,87 @@
+//! The lines of a text, one after the other, from its heading on.
+ghost use Rattle.std.specs.Prelude.{◌≡◌, ◌++◌, ◌∷◌, [], filter, IfOk, List, OnOk};
+ghost use Rattle.csv.specs.Records.{fields_of};
+ghost use Rattle.a429_import.specs.declared.lines.CsvLine.{CsvLine};
+ghost use Rattle.a429_import.specs.ImportForms.{from_heading, separator_in};
+ghost use Rattle.a429_import.specs.ImportMaps.{given_texts};
+ghost use Rattle.a429_import.specs.ImportReading.{IsOfNamed};
+ghost use Rattle.a429_import.specs.Imports.{AreNamedLines, has_text};
+ghost use Rattle.a429_import.specs.MadeReading.{IsReadBy};
+
+use crate::forms::Form;
+use crate::lines::{CsvLine, count_before, line_of};
+use crate::made_reading::{NamesRead, take_by};
+use crate::maps::named_line;
+use csv::ReaderBuilder;
+use std::alloc::{AllocError, Global};
+
+/// Takes one more line. A first line is the heading: it gets its names by texts HEADING=COLUMN. The answer is whether the
+/// heading was taken. Error: an allocation failed.
+fn take_named(
+    alloc: Global,
+    maps: &[&str],
+    makes_names: bool,
+    is_below: bool,
+    read: &mut NamesRead,
+    line: CsvLine,
+) -> Result<bool, AllocError>
+    requires { (lines : List CsvLine) × IsOfNamed (given_texts maps.now) is_below (IsReadBy makes_names read.old) lines }
+    ensures { IfOk result (λ below. (lines : List CsvLine) → IsOfNamed (given_texts maps.now) is_below (IsReadBy makes_names read.old) lines
+        → IsOfNamed (given_texts maps.now) below (IsReadBy makes_names read.new) (lines ++ line ∷ [])) }
+{
+    match named_line(alloc, maps, is_below, line) {
+        Ok(named) => {
+            take_by(alloc, makes_names, read, named)?;
+            Ok(true)
+        }
+        Err(fault) => Err(fault),
+    }
+}
+
+/// The same, unless the fields of the line are all empty. Error: an allocation failed.
+fn take_filled(
+    alloc: Global,
+    maps: &[&str],
+    makes_names: bool,
+    is_below: bool,
+    read: &mut NamesRead,
+    line: CsvLine,
+) -> Result<bool, AllocError>
+    requires { (lines : List CsvLine) × IsOfNamed (given_texts maps.now) is_below (IsReadBy makes_names read.old) lines }
+    ensures { IfOk result (λ below. (lines : List CsvLine) → IsOfNamed (given_texts maps.now) is_below (IsReadBy makes_names read.old) lines
+        → IsOfNamed (given_texts maps.now) below (IsReadBy makes_names read.new) (lines ++ filter (λ l. has_text (fields_of l.fields)) (line ∷ []))) }
+{
+    if line.has_text() {
+        take_named(alloc, maps, makes_names, is_below, read, line)
+    } else {
+        Ok(is_below)
+    }
+}
+
+/// Takes all lines of a text of this form from its heading on. Error: an allocation failed.
+pub fn read_lines(
+    alloc: Global,
+    maps: &[&str],
+    makes_names: bool,
+    text: &[u8],
+    form: Form<'_>,
+    read: &mut NamesRead,
+) -> Result<(), AllocError>
+    requires separator { form.separator ≡ separator_in (given_texts maps.now) text.now }
+    requires text { form.text.now ≡ from_heading (given_texts maps.now) text.now }
+    requires read { IsReadBy makes_names read.old [] }
+    ensures { OnOk result ((all : List CsvLine) × AreNamedLines (given_texts maps.now) text.now all × IsReadBy makes_names read.new all) }
+{
+    let reader = ReaderBuilder::new()
+        .has_headers(false)
+        .flexible(true)
+        .delimiter(form.separator)
+        .from_reader(alloc, form.text);
+    let mut count = count_before(text, form.text);
+    let mut is_below = false;
+    for row in reader.into_byte_records() {
+        let line = line_of(form, &mut count, row)?;
+        is_below = take_filled(alloc, maps, makes_names, is_below, read, line)?;
+    }
+    Ok(())
+}
