@@ -7,44 +7,29 @@
 //! `data/README.md` describes the form of a file of cases.
 #![tactic(auto)]
 
-mod malformed;
+mod arguments;
+mod case;
+mod files;
+mod outcome;
+mod outputs;
 mod parts;
-mod pieces;
 mod playing;
-mod rows;
+mod reported;
+mod sections;
 mod spelling;
-mod stated;
-mod words;
 
-use malformed::Malformed;
-use playing::Player;
+use a429_cli::MemoryFiles;
+use playing::take_file;
 use std::process::ExitCode;
-use std::rt::Files;
-use std::sync::Wait;
-use std::thread::Threads;
-use std::{env, fs, io};
-
-/// Plays the cases of a file, or keeps its text for later ones.
-fn take_file<R: Files + Print + AllocGlobal + Threads + Wait>(
-    rt: &R,
-    player: &mut Player<'_, R>,
-    path: &str,
-) {
-    let name = match path.rsplit_once('/') {
-        Some((_, name)) => name,
-        None => path,
-    };
-    match fs::read(rt, path) {
-        Ok(bytes) if name.ends_with(".cases") => player.play_file(name, &bytes),
-        Ok(bytes) => player.keep(name, bytes),
-        Err(_) => player.report(name, Err(Malformed::File)),
-    }
-}
+use std::{env, io};
 
 fn main(rt: HostRuntime) -> io::Result<ExitCode> {
-    let mut player = Player::new(&rt);
+    let mut texts = MemoryFiles {
+        files: Vec::new(rt.alloc()),
+    };
+    let mut are_met = true;
     for path in env::args(&rt)?.skip(1) {
-        take_file(&rt, &mut player, &path);
+        are_met = take_file(&rt, &mut texts, &path) && are_met;
     }
-    Ok(ExitCode::from(u8::from(player.has_failed())))
+    Ok(ExitCode::from(u8::from(!are_met)))
 }

@@ -1,13 +1,11 @@
 //! The bytes of a part of a case, and the files that have them.
 
-use crate::malformed::Malformed;
-use crate::pieces::{name_and_rest, number_before};
-use crate::spelling::{apply_edits, bytes_of_spelling, push_spelling};
+use crate::spelling::{edited, number_before, spelled};
 use a429_cli::MemoryFiles;
 use std::alloc::{AllocError, Global};
 
 /// The bytes of the file of this name.
-fn find_file<'a>(files: &'a MemoryFiles, name: &str) -> Option<&'a [u8]> {
+pub fn find_file<'a>(files: &'a MemoryFiles, name: &str) -> Option<&'a [u8]> {
     for file in &files.files {
         if file.0.as_str() == name {
             return Some(file.1.as_slice());
@@ -16,71 +14,44 @@ fn find_file<'a>(files: &'a MemoryFiles, name: &str) -> Option<&'a [u8]> {
     None
 }
 
-/// Keeps a file under its name. The name must be new.
-pub fn keep_file(
-    alloc: Global,
-    files: &mut MemoryFiles,
-    name: &str,
-    bytes: Vec<u8>,
-) -> Result<(), Malformed> {
+/// Keeps a file under its name. `None` if there is one of this name, or if an allocation failed.
+pub fn keep_file(alloc: Global, files: &mut MemoryFiles, name: &str, bytes: Vec<u8>) -> Option<()> {
     if find_file(files, name).is_some() {
-        return Err(Malformed::Twice);
+        return None;
     }
-    Ok(push_file(alloc, files, name, bytes)?)
+    let name = String::from_str(alloc, name).ok()?;
+    files.files.push((name, bytes)).ok()
 }
 
-fn push_file(
-    alloc: Global,
-    files: &mut MemoryFiles,
-    name: &str,
-    bytes: Vec<u8>,
-) -> Result<(), AllocError> {
-    let name = String::from_str(alloc, name)?;
-    files.files.push((name, bytes))?;
-    Ok(())
+/// The name at the beginning of a part, and the rest of the part, which says what the part has.
+pub fn name_and_form(part: &str) -> Option<(&str, &str)> {
+    let (head, _) = part.split_once('\n').unwrap_or((part, ""));
+    let (name, _) = head.split_once(' ').unwrap_or((head, ""));
+    Some((name, part.strip_prefix(name)?))
 }
 
-/// Keeps a text that cases share: its name and its form are in the head.
-pub fn share_text(
-    alloc: Global,
-    texts: &mut MemoryFiles,
-    head: &str,
-    lines: Option<&str>,
-) -> Result<(), Malformed> {
-    let (name, form) = name_and_rest(head);
-    let bytes = part_bytes(alloc, texts, form, lines)?;
+/// Keeps a text that cases share.
+pub fn share_part(alloc: Global, texts: &mut MemoryFiles, part: &str) -> Option<()> {
+    let (name, form) = name_and_form(part)?;
+    let bytes = part_bytes(alloc, texts, form)?;
     keep_file(alloc, texts, name, bytes)
 }
 
-/// The bytes of a part: its lines, or what the form in its head says.
-pub fn part_bytes(
-    alloc: Global,
-    texts: &MemoryFiles,
-    form: &str,
-    lines: Option<&str>,
-) -> Result<Vec<u8>, Malformed> {
-    match lines {
-        None => form_bytes(alloc, texts, form),
-        Some(lines) if form.is_empty() => lines_bytes(alloc, lines),
-        Some(_) => Err(Malformed::Part),
+/// The bytes of a part, of which this follows the name: spelled, of a shared text, or lines. `None` if it is none of these.
+pub fn part_bytes(alloc: Global, texts: &MemoryFiles, form: &str) -> Option<Vec<u8>> {
+    if let Some(text) = form.strip_prefix(" has ") {
+        return spelled(alloc, text).ok();
     }
-}
-
-/// The bytes of a part without lines.
-fn form_bytes(alloc: Global, texts: &MemoryFiles, form: &str) -> Result<Vec<u8>, Malformed> {
-    if let Some(text) = form.strip_prefix("is ") {
-        return shared_bytes(alloc, texts, text);
-    }
-    match form.strip_prefix("has ") {
-        Some(text) => bytes_of_spelling(alloc, text),
-        None if form.is_empty() => Ok(Vec::new(alloc)),
-        None => Err(Malformed::Part),
+    match form.strip_prefix(" is ") {
+        Some(text) => shared_bytes(alloc, texts, text),
+        None if form.is_empty() => Some(Vec::new(alloc)),
+        None => lines_bytes(alloc, form.strip_prefix('\n')?).ok(),
     }
 }
 
 /// The bytes of lines, each with its line feed. If a line begins with a backslash, the rest of it is spelled and has no
 /// line feed.
-fn lines_bytes(alloc: Global, lines: &str) -> Result<Vec<u8>, Malformed> {
+fn lines_bytes(alloc: Global, lines: &str) -> Result<Vec<u8>, AllocError> {
     let mut bytes = Vec::new(alloc);
     for line in lines.split('\n') {
         push_line(alloc, &mut bytes, line)?;
@@ -88,33 +59,26 @@ fn lines_bytes(alloc: Global, lines: &str) -> Result<Vec<u8>, Malformed> {
     Ok(bytes)
 }
 
-fn push_line(alloc: Global, bytes: &mut Vec<u8>, line: &str) -> Result<(), Malformed> {
-    if let Some(text) = line.strip_prefix('\\') {
-        return push_spelling(alloc, bytes, text);
+fn push_line(alloc: Global, bytes: &mut Vec<u8>, line: &str) -> Result<(), AllocError> {
+    match line.strip_prefix('\\') {
+        Some(text) => bytes.extend_from_slice(&spelled(alloc, text)?),
+        None => {
+            bytes.extend_from_slice(line.as_bytes())?;
+            bytes.extend_from_slice(b"\n")
+        }
     }
-    bytes.extend_from_slice(line.as_bytes())?;
-    Ok(bytes.extend_from_slice(b"\n")?)
 }
 
 /// The bytes of `NAME`, of `NAME with EDITS`, or of `N bytes of NAME`.
-fn shared_bytes(alloc: Global, texts: &MemoryFiles, text: &str) -> Result<Vec<u8>, Malformed> {
-    if let Some((name, edits)) = text.split_once(" with ") {
-        return match find_file(texts, name) {
-            Some(bytes) => apply_edits(alloc, bytes, edits),
-            None => Err(Malformed::Name),
-        };
-    }
-    let found = match number_before(text, " bytes of ") {
-        Some((count, name)) => first_bytes(texts, count, name),
-        None => find_file(texts, text),
-    };
-    match found {
-        Some(bytes) => Ok(Vec::from_slice(alloc, bytes)?),
-        None => Err(Malformed::Name),
-    }
+fn shared_bytes(alloc: Global, texts: &MemoryFiles, text: &str) -> Option<Vec<u8>> {
+    let (name, edits) = text.split_once(" with ").unwrap_or((text, ""));
+    edited(alloc, named_bytes(texts, name)?, edits)
 }
 
-/// The first bytes of a text, as many as given.
-fn first_bytes<'a>(texts: &'a MemoryFiles, count: usize, name: &str) -> Option<&'a [u8]> {
-    find_file(texts, name)?.get(..count)
+/// The bytes of `NAME`, or of `N bytes of NAME`.
+fn named_bytes<'a>(texts: &'a MemoryFiles, text: &str) -> Option<&'a [u8]> {
+    match number_before(text, " bytes of ") {
+        Some((count, name)) => find_file(texts, name)?.get(..count),
+        None => find_file(texts, text),
+    }
 }

@@ -1,7 +1,7 @@
-pub mod Refusals
 pub mod ReportLines
 pub mod Left
 pub mod Ran
+pub mod AnsweredCalls
 pub mod WholeAnswers
 pub mod Imported
 pub mod LiveAnswers

@@ -11,5 +11,6 @@ pub mod JudgeAnswers
 pub mod Loads
 pub mod Findings
 pub mod Importing
+pub mod Calls
 pub mod Replies
 pub mod ProgramRuns

@@ -1,11 +1,12 @@
 -- What the program does with its arguments.
-use Rattle.std.specs.Prelude.{◌≡◌, ◌≤◌, [], ◌∷◌, ◌⊎◌, ℕ, List, Bool, false, Option, IsTrue, codes, if◌then◌else◌}
+use Rattle.std.specs.Prelude.{◌≡◌, ◌≤◌, [], ◌∷◌, ◌⊎◌, ℕ, List, Bool, false, Option, IsTrue, codes}
 use Rattle.std.specs.Str.{bytes_eq}
 use Rattle.a429_console.specs.Ends.{EndsBy, IsLeft, IsMemoryRefused, IsMistakeTold, IsPutTo, IsWhole, Writing}
 use Rattle.a429_console.specs.GivenWords.{AreAllWords, HasNoText}
 use Rattle.a429_console.specs.RequestRows.{AsksFor}
 use Rattle.a429_console.specs.Requests.{AskedBytes}
-use Rattle.a429_console.specs.Usage.{is_run, kinds_of_words, live_kinds_of_words}
+use Rattle.a429_console.specs.Usage.{is_run}
+use Rattle.a429_cli.specs.Calls.{kinds_here}
 use Rattle.a429_cli.specs.Replies.{IsReplyOrMemory, IsSilent, trouble_of}
 
 -- what files a reader has, and whether they are known
@@ -24,7 +25,7 @@ pub record IsCallDone {X Y : Type 0} (live : Bool) (words : List (List ℕ)) (re
   pub answered : (r : AskedBytes) → is_run r.verb ≡ live → AsksFor words r → (status ≤ trouble_of r.verb) × (IsTrue reader.tells → IsWhole out → IsPutTo (IsReplyOrMemory reader.file r) out status)
   pub read : (r : AskedBytes) → is_run r.verb ≡ live → AsksFor words r → IsWhole out → Reads (λ file. IsPutTo (IsReplyOrMemory file r) out status)
   pub quiet : (r : AskedBytes) → is_run r.verb ≡ live → AsksFor words r → Reads (λ file. IsSilent file r → status ≡ 0 → IsLeft err)
-  pub ends : EndsBy (if live then live_kinds_of_words words else kinds_of_words words) out err status
+  pub ends : EndsBy (kinds_here live words) out err status
 
 -- the arguments went to the call that does the command which the first of them names
 abbrev pub CommandIsDone : {X Y : Type 0} → List (List ℕ) → Reader → (((List ℕ → Option (List ℕ)) → Type 0) → Type 0) → Writing X → Writing Y → ℕ → Type 0

@@ -1,10 +1,8 @@
 -- What is answered to what is asked for.
-use Rattle.std.specs.Prelude.{◌≡◌, ◌≤◌, ◌∷◌, ⊤, ℕ, List, Bool, true, false, IfOk, Option, Result}
+use Rattle.std.specs.Prelude.{◌∷◌, ⊤, ℕ, List, Bool, true, false, Option, Result}
 use Rattle.a429_console.specs.Outputs.{FailedCalls, OrNoMemory}
 use Rattle.a429_console.specs.Replying.{RepliesByReader, RepliesToWords}
-use Rattle.a429_console.specs.RequestRows.{AsksFor}
 use Rattle.a429_console.specs.Requests.{AskedBytes}
-use Rattle.a429_console.specs.Usage.{is_run}
 use Rattle.a429_console.specs.declared.arguments.forms.Verb.{Verb}
 use Rattle.a429_console.specs.declared.arguments.forms.Verb.TheVariants as verb
 use Rattle.a429_console.specs.declared.files.FileFault.{FileFault}
@@ -41,10 +39,6 @@ trouble_of verb.Lint = 2
 trouble_of verb.Diff = 2
 trouble_of verb.Judge = 2
 trouble_of _ = 1
-
--- a request for another command than `live` ends with at most the status of its refusals
-abbrev pub HasStatusOf : {E : Type 0} → List (List ℕ) → Result ℕ E → Type 0
-HasStatusOf words result = (r : AskedBytes) → is_run r.verb ≡ false → AsksFor words r → IfOk result (λ status. status ≤ trouble_of r.verb)
 
 -- the status and the bytes of such an answer, by these files and by what the command is given
 abbrev pub IsAnswerOf : Verb → (List ℕ → Option (List ℕ)) → AskedBytes → ℕ → List ℕ → Type 0

@@ -1,16 +1,17 @@
 //! Commands, from arguments and files to bytes.
 ghost use Rattle.std.specs.Prelude.{[], ◌∷◌, ◌≡◌, ◌≤◌, ◌+◌, ◌⊎◌, false, true, IfOk, IsTrue, OnErr, OnOk};
-ghost use Rattle.a429_console.specs.Ends.{EndsBy, EndsOrFails, writing};
+ghost use Rattle.a429_console.specs.Ends.{EndsBy, writing};
 ghost use Rattle.a429_console.specs.Files.{texts_of};
 ghost use Rattle.a429_console.specs.Outputs.{CountsFault, IsPut};
 ghost use Rattle.a429_console.specs.Readings.{HasRead, HasReadFrom};
 ghost use Rattle.a429_console.specs.RequestRows.{AsksFor};
 ghost use Rattle.a429_console.specs.Requests.{AskedBytes, asked_of};
 ghost use Rattle.a429_recordings.specs.LogItems.{channels_named, logs_named};
-ghost use Rattle.a429_cli.specs.Replies.{HasStatusOf, IsAnswerOf, IsNoAnswer, IsReplyOrMemory, RepliesToCommand, RepliesToCommandByReader, IsSilent, is_whole, trouble_of};
+ghost use Rattle.a429_cli.specs.Replies.{IsAnswerOf, IsNoAnswer, IsReplyOrMemory, RepliesToCommand, RepliesToCommandByReader, IsSilent, is_whole, trouble_of};
 ghost use Rattle.a429_cli.specs.WholeReplies.{Replies};
-ghost use Rattle.a429_console.specs.Usage.{elsewhere, is_run, kinds_of_words};
+ghost use Rattle.a429_console.specs.Usage.{is_run, kinds_of_words};
 
+use crate::calls::{asked_here, ended};
 use crate::drawings::{Picture, drawing_reply};
 use crate::encode::encode_reply;
 use crate::findings::{diff_reply, lint_reply};
@@ -21,18 +22,16 @@ use crate::loads::load_reply;
 use crate::plan_texts::{PlanText, check_reply, plan_reply};
 use crate::replies::put_reply;
 use crate::replies::reply::Reply;
-use crate::runs::{is_run, is_whole, trouble_of};
+use crate::runs::{is_whole, trouble_of};
 use crate::slots::{SlotsForm, slots_reply};
 use crate::surveys::survey_reply;
 use crate::word::word_reply;
-use a429_console::answered::{Answered, status_of};
+use a429_console::answered::Answered;
 use a429_console::arguments::forms::Verb;
-use a429_console::arguments::replies::explain;
-use a429_console::arguments::requests::{Asked, other_call_error, parse};
+use a429_console::arguments::requests::Asked;
 use a429_console::files::FileReader;
+use a429_console::hints::Hints;
 use a429_console::hints::warnings::Warning;
-use a429_console::hints::{Hints, tell_hints};
-use a429_console::output::endings::tell_fault;
 use a429_console::output::{Output, OutputFault};
 use a429_console::refusals::Refused;
 use a429_recordings::simulate::{LogNames, SimulationForm, simulate};
@@ -65,109 +64,17 @@ pub fn command<'a, H: Hints, F: FileReader, O: Output, V: Output>(
     ensures ends { EndsBy (kinds_of_words (texts_of words.entry.now)) (writing O.contents O.failures O.is_flushed out.old out.new)
         (writing V.contents V.failures V.is_flushed err.old err.new) result }
 {
-    match answer_words(alloc, words, hints, files, out, err) {
-        Ok(status) => status,
-        Err(fault) => {
-            tell_fault(fault, err);
-            1
-        }
-    }
-}
-
-/// The same, if the error is the output's.
-fn answer_words<'a, H: Hints, F: FileReader, O: Output, V: Output>(
-    alloc: Global,
-    words: &'a [&'a str],
-    hints: &H,
-    files: &mut F,
-    out: &mut O,
-    err: &mut V,
-) -> Result<u8, OutputFault>
-    ensures read { (r : AskedBytes) → is_run r.verb ≡ false → AsksFor (texts_of words.entry.now) r
-        → HasReadFrom F.answers (λ file. IfOk result (IsPut (IsReplyOrMemory file r) (O.contents out.old) (O.contents out.new))) files.old }
-    ensures quiet { (r : AskedBytes) → is_run r.verb ≡ false → AsksFor (texts_of words.entry.now) r
-        → HasReadFrom F.answers (λ file. IsSilent file r → IfOk result (λ status. status ≡ 0 → err.new ≡ err.old)) files.old }
-    ensures asked { HasStatusOf (texts_of words.entry.now) result }
-    ensures ends { EndsOrFails (kinds_of_words (texts_of words.entry.now)) (writing O.contents O.failures O.is_flushed out.old out.new)
-        (writing V.contents V.failures V.is_flushed err.old err.new) result }
-{
-    match parse(alloc, words) {
-        Ok(asked) => answer_here(alloc, &asked, hints, files, out, err),
-        Err(error) => explain(alloc, &error, words, hints, out, err),
-    }
-}
-
-/// Answers what is asked for, if it is one of the commands of `command`.
-fn answer_here<H: Hints, F: FileReader, O: Output, V: Output>(
-    alloc: Global,
-    asked: &Asked,
-    hints: &H,
-    files: &mut F,
-    out: &mut O,
-    err: &mut V,
-) -> Result<u8, OutputFault>
-    ensures read { is_run asked.now.verb ≡ false → HasReadFrom F.answers (λ file. IfOk result
-        (IsPut (IsReplyOrMemory file (asked_of asked.now)) (O.contents out.old) (O.contents out.new))) files.old }
-    ensures quiet { is_run asked.now.verb ≡ false → HasReadFrom F.answers (λ file. IsSilent file (asked_of asked.now)
-        → IfOk result (λ status. status ≡ 0 → err.new ≡ err.old)) files.old }
-    ensures asked { is_run asked.now.verb ≡ false → IfOk result (λ status. status ≤ trouble_of asked.now.verb) }
-    ensures ends { EndsOrFails (elsewhere (is_run asked.now.verb)) (writing O.contents O.failures O.is_flushed out.old out.new)
-        (writing V.contents V.failures V.is_flushed err.old err.new) result }
-{
-    if is_run(asked.verb) {
-        let error = other_call_error(alloc, "this call does not run `live`");
-        explain(alloc, &error, &[], hints, out, err)
-    } else {
-        answer_with_hint(alloc, asked, hints, files, out, err)
-    }
-}
-
-/// Writes to `err` what can be done about a refusal, or warnings, if the output took the answer.
-pub fn tell_result<H: Hints, V: Output>(
-    alloc: Global,
-    asked: &Asked,
-    answered: &Result<Answered, OutputFault>,
-    warnings: &[Warning],
-    hints: &H,
-    err: &mut V,
-)
-    ensures quiet { warnings.now ≡ [] → IfOk answered.now (λ status. status ≡ 0 → err.new ≡ err.old) }
-    ensures left { OnErr answered.now (err.new ≡ err.old) }
-    ensures once { (V.failures err.new).count ≤ (V.failures err.old).count + 1 }
-{
-    if let Ok(answered) = answered {
-        tell_hints(alloc, asked, answered, warnings, hints, err);
-    }
-}
-
-/// Answers what `command` is asked for. After a refusal it writes to `err` what can be done about it, otherwise warnings.
-fn answer_with_hint<H: Hints, F: FileReader, O: Output, V: Output>(
-    alloc: Global,
-    asked: &Asked,
-    hints: &H,
-    files: &mut F,
-    out: &mut O,
-    err: &mut V,
-) -> Result<u8, OutputFault>
-    requires { is_run asked.now.verb ≡ false }
-    ensures read { HasReadFrom F.answers (λ file. IfOk result
-        (IsPut (IsReplyOrMemory file (asked_of asked.now)) (O.contents out.old) (O.contents out.new))) files.old }
-    ensures status { IfOk result (λ status. status ≤ trouble_of asked.now.verb) }
-    ensures few { IfOk result (λ status. status ≤ 2) }
-    ensures flushed { OnOk result (IsTrue (O.is_flushed out.new)) }
-    ensures faults { CountsFault result (O.failures out.old) (O.failures out.new) }
-    ensures quiet { HasReadFrom F.answers (λ file. IsSilent file (asked_of asked.now)
-        → IfOk result (λ status. status ≡ 0 → err.new ≡ err.old)) files.old }
-    ensures left { OnErr result (err.new ≡ err.old) }
-    ensures once { (V.failures err.new).count ≤ (V.failures err.old).count + 1 }
-{
+    let asked = match asked_here(alloc, words, false, hints, out, err) {
+        Ok(asked) => asked,
+        Err(status) => return status,
+    };
     let mut warnings = Vec::new(alloc);
-    let result = answer(alloc, asked, files, &mut warnings, out);
-    tell_result(alloc, asked, &result, &warnings, hints, err);
-    let status = status_of(&result);
+    let answered = answer(alloc, &asked, files, &mut warnings, out);
+    let status = ended(alloc, &asked, &answered, &warnings, hints, err);
     // `drop` keeps the proof short: a drop in place goes through all parts.
-    drop(result);
+    drop(answered);
     drop(warnings);
+    drop(asked);
     status
 }
 

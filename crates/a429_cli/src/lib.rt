@@ -17,6 +17,7 @@
 //! ```
 #![tactic(auto)]
 
+mod calls;
 mod commands;
 mod drawings;
 mod encode;

@@ -272,7 +272,8 @@ fn say_remedy(sheet: Sheet, column: &str, text: &str, hint: &mut HintText) {
                     hint.say("; --names makes such names");
                 }
             }
-            _ => {}
+            Ok(None) => {}
+            Err(_) => hint.give_up(),
         },
         _ => {}
     }

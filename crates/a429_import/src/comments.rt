@@ -119,7 +119,7 @@ pub fn with_texts(alloc: Global, given: &GivenTexts, text: Vec<u8>) -> Result<Ve
         Ok(plain) => commented(alloc, given, plain)?,
         Err(_) => String::new(alloc),
     };
-    if state_same(alloc, table.as_bytes(), text.as_slice()) {
+    if state_same(alloc, table.as_bytes(), text.as_slice())? {
         Ok(table.into_bytes())
     } else {
         Ok(text)

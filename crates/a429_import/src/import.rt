@@ -127,8 +127,7 @@ fn narrow_table(
     requires text { form.text.now ≡ from_heading (given_texts maps.now) text.now }
     ensures { is_wide_text (given_texts maps.now) text.now ≡ false → IsImport (given_texts maps.now) makes_names text.now result }
 {
-    // A row with a new name has 11 bytes. So a chain has 12 names on average at most, and 16 MiB of rows take 64 MiB of
-    // memory.
+    // A row with a new name has 11 bytes. So a chain has 12 names on average at most.
     let mut read = NamesRead::new(alloc, makes_names, text.len() / 128)?;
     read_table(alloc, maps, makes_names, text, form, &mut read)
 }

@@ -1,12 +1,12 @@
 //! Whether two tables state one equipment.
-ghost use Rattle.std.specs.Prelude.{◌≡◌, true};
+ghost use Rattle.std.specs.Prelude.{◌≡◌, IfOk, false, true};
 ghost use Rattle.a429_equipment.specs.SameStation.{all_agree, same_sdi, same_station};
 ghost use Rattle.a429_table.specs.Reading.{reading};
 ghost use Rattle.a429_import.specs.SameTables.{same_output};
 
 use a429_equipment::{Equipment, OutputRow};
-use a429_table::read_equipment;
-use std::alloc::Global;
+use a429_table::{TableFault, read_equipment};
+use std::alloc::{AllocError, Global};
 
 fn same_number(a: Option<u32>, b: Option<u32>) -> bool
     ensures { result ≡ same_sdi a b }
@@ -86,15 +86,25 @@ fn same_equipment(a: &Equipment, b: &Equipment) -> bool
     same_heads(a, b) && same_rows(a, b)
 }
 
-/// Whether the bytes of two tables are read as one equipment. It is not so if memory runs out.
-pub fn state_same(alloc: Global, a: &[u8], b: &[u8]) -> bool
-    ensures { result ≡ true → reading a.now ≡ reading b.now }
+/// A table with a fault is not the same as another. Error: an allocation failed.
+fn unread(fault: TableFault) -> Result<bool, AllocError>
+    ensures { IfOk result (λ is_same. is_same ≡ false) }
+{
+    match fault {
+        TableFault::NoMemory => Err(AllocError),
+        TableFault::At(..) => Ok(false),
+    }
+}
+
+/// Whether the bytes of two tables are read as one equipment. Error: an allocation failed.
+pub fn state_same(alloc: Global, a: &[u8], b: &[u8]) -> Result<bool, AllocError>
+    ensures { IfOk result (λ is_same. is_same ≡ true → reading a.now ≡ reading b.now) }
 {
     match read_equipment(alloc, a) {
         Ok(first) => match read_equipment(alloc, b) {
-            Ok(second) => same_equipment(&first, &second),
-            Err(_) => false,
+            Ok(second) => Ok(same_equipment(&first, &second)),
+            Err(fault) => unread(fault),
         },
-        Err(_) => false,
+        Err(fault) => unread(fault),
     }
 }

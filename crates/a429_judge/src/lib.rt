@@ -5,16 +5,12 @@
 //!
 //! ```text
 //! let mut judge = Judge::new(alloc);
-//! for (time, raw) in heard {
-//!     ..
-//!     judge.heard(Some(0), mark).expect(rt, "a word");
-//! }
+//! judge.heard(Some(0), mark(1000)).expect(rt, "a word");
+//! judge.sent(sent(1440)).expect(rt, "a word");
 //! ..
-//!     judge.sent(word).expect(rt, "a word");
-//! ..
-//! judge
-//!     .judgement(alloc, &duties, &duties[0])
-//!     .expect(rt, "a judgement")
+//! let judgement = judge
+//!     .judgement(alloc, &[DUTY], &DUTY)
+//!     .expect(rt, "a judgement");
 //! ```
 #![tactic(auto)]
 
@@ -27,8 +23,6 @@ mod known;
 pub mod laws;
 mod recordings;
 mod rows;
-#[cfg(test)]
-mod tests;
 mod windows;
 
 pub use duties::{Duty, Heard, Sent};

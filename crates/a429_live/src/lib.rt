@@ -6,7 +6,7 @@
 //!
 //! ```text
 //! let mut warnings = Vec::new(alloc);
-//! let result = run_station(rt, alloc, files, asked, &mut warnings, out, progress);
+//! let answered = run_station(rt, alloc, files, &asked, &mut warnings, out, progress);
 //! ```
 #![tactic(auto)]
 

@@ -15,6 +15,8 @@ mod packing;
 #[cfg(test)]
 mod plans;
 #[cfg(test)]
+mod recordings;
+#[cfg(test)]
 mod records;
 #[cfg(test)]
 mod sockets;

@@ -5,11 +5,11 @@
 //! and not with the number of words.
 //!
 //! ```text
-//! let mut survey = Survey::new(rt.alloc());
-//! for (time, name, raw) in WORDS {
-//!     survey.note(name, time, raw).expect(&rt, "a word");
+//! let mut survey = Survey::new(alloc);
+//! for (time, raw) in WORDS {
+//!     survey.note("a", time, raw).expect(rt, "a word");
 //! }
-//! let sheet = survey.sheet(rt.alloc(), 100000).expect(&rt, "a sheet");
+//! let sheet = survey.sheet(alloc, 100000).expect(rt, "a sheet");
 //! ```
 #![tactic(auto)]
 
@@ -21,7 +21,5 @@ mod past;
 mod rows;
 mod starts;
 mod survey;
-#[cfg(test)]
-mod tests;
 
 pub use survey::{NoteFault, Survey};

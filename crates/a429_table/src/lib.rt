@@ -11,10 +11,13 @@
 //! A refused table has the kind of its fault and the place. `read_or_keep` also keeps what was read:
 //!
 //! ```text
-//! match read_or_keep(alloc, table, &mut seen.document) {
+//! match read_or_keep(alloc, table, &mut document) {
 //!     Ok(equipment) => Ok(equipment),
-//!     Err(TableFault::NoMemory) => Err(CommandRefusal::Memory),
-//!     Err(TableFault::At(kind, place)) => Err(CommandRefusal::Table(kind, place)),
+//!     Err(TableFault::NoMemory) => Err(Refused::plain(CommandRefusal::Memory)),
+//!     Err(TableFault::At(kind, place)) => {
+//!         let refusal = CommandRefusal::Table(kind, place);
+//!         Err(Refused::of_table(refusal, TableEvidence::of_text(table, document)))
+//!     }
 //! }
 //! ```
 #![tactic(auto)]

@@ -1,8 +1,7 @@
 //! Boards of real plans, and watchers in threads of their own.
-ghost use Rattle.std.specs.Prelude.{◌≡◌, All};
 
-use crate::support::{ONE, let_go, open_board, plan_of, publish};
-use a429_board::{Planner, Watcher};
+use crate::support::{ONE, let_go, plan_of};
+use a429_board::{Board, Planner, Watcher};
 use a429_slots::{OUTPUTS, Plan};
 use std::alloc::Global;
 use std::process::Abort;
@@ -21,31 +20,6 @@ fn number_of_all(watchers: &mut [Watcher]) -> Option<u64> {
         common = Some(number);
     }
     common
-}
-
-/// Gives one of the watchers what was published. The others get nothing.
-fn tell_one(planner: &mut Planner, watchers: &mut Vec<Watcher>)
-    requires { All (λ w. w.book ≡ planner.old.book) watchers.old.items }
-{
-    if let Some(watcher) = watchers.get_mut(0) {
-        planner.tell(watcher);
-    }
-}
-
-/// What two watchers read after one plan was published, which only one of them was given.
-fn read_after_one<R: Wait + Abort>(rt: &R, alloc: Global) -> (Option<u64>, Option<u64>) {
-    let (mut planner, mut watchers) = open_board(rt, alloc, ONE, 0, 2);
-    let answer = publish(rt, alloc, &mut planner, ONE);
-    tell_one(&mut planner, &mut watchers);
-    let read = number_of_all(watchers.as_mut_slice());
-    planner.close(rt);
-    let_go(watchers);
-    (answer, read)
-}
-
-#[test]
-fn watchers_read_what_was_published(rt: HostRuntime) {
-    assert!(rt; read_after_one(&rt, rt.alloc()) == (Some(1), Some(1)));
 }
 
 /// Reads this number of times, and says whether the numbers never fell.
@@ -105,8 +79,8 @@ fn soak<R: Threads + Wait + Sync>(
 /// Ten watchers read while plans are published: how many plans and falls there were, and which number all of them read
 /// after it. None of them was given a plan.
 fn soak_ten<R: Threads + Wait + Abort + Sync>(rt: &R, alloc: Global) -> ((u64, u64), Option<u64>) {
-    let (mut planner, mut watchers) = open_board(rt, alloc, ONE, 0, 10);
     let plan = plan_of(rt, alloc, ONE);
+    let (mut planner, mut watchers) = Board::open(rt, alloc, plan, 10).expect(rt, "a board");
     let soaked = soak(rt, &mut planner, plan, watchers.as_mut_slice());
     let last = number_of_all(watchers.as_mut_slice());
     planner.close(rt);

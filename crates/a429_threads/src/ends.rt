@@ -64,16 +64,6 @@ pub fn open_ends<R: Abort, const C: u32>(rt: &R, alloc: Global, table: &str) -> 
 }
 
 impl Ends {
-    /// The transmitter meets the receiver.
-    pub fn meet(&mut self) {
-        let Ends {
-            receiver,
-            transmitter,
-            ..
-        } = self;
-        transmitter.meet(receiver);
-    }
-
     /// The last accepted word of the first source, with its number among them.
     pub fn load(&mut self) -> Option<(u64, u32)> {
         let (count, word) = self.transmitter.load_numbered(0)?;

@@ -1,4 +1,4 @@
-//! Tests of what threads share: the plans of a board, current values, the workers of a station, and stations that run.
+//! Tests of what threads share: the plans of a board, current values, and stations that run.
 #![tactic(auto)]
 
 #[cfg(test)]
@@ -15,5 +15,3 @@ mod stations;
 mod support;
 #[cfg(test)]
 mod values;
-#[cfg(test)]
-mod workers;

@@ -7,7 +7,7 @@ mod spacing;
 mod stopping;
 
 use crate::devices::{FailingLine, FailingSink, line_of, sink_of};
-use crate::support::{EVEN, FIRST, ONE, SECOND, THREE, THREE_FASTER, TWO, let_go, read};
+use crate::support::{EVEN, FIRST, HELD, ONE, SECOND, THREE, THREE_FASTER, TWO, let_go, read};
 use a429_equipment::Equipment;
 use a429_station::{Control, LiveFault, Report, Station, live};
 use a429_word::Word;
@@ -28,7 +28,7 @@ struct Setup<'a> {
     /// The words of each line.
     words: &'a [&'a [u32]],
     frames: u32,
-    /// Whether the second line fails in its first call, and each sink.
+    /// Whether the second line fails after its first word, and each sink after its first cell.
     line_fails: bool,
     sinks_fail: bool,
 }
@@ -44,6 +44,11 @@ fn setup_of<'a>(table: &'a str, words: &'a [&'a [u32]], frames: u32) -> Setup<'a
     }
 }
 
+/// The call in which a device fails: its second, or none.
+fn failing(fails: bool) -> u64 {
+    if fails { 2 } else { 0 }
+}
+
 /// Adds a line.
 fn push_line<R: Abort>(rt: &R, lines: &mut Vec<FailingLine>, line: FailingLine) {
     lines.push(line).expect(rt, "memory");
@@ -53,7 +58,7 @@ fn lines_of<R: Abort>(rt: &R, alloc: Global, setup: &Setup<'_>) -> Vec<FailingLi
     let mut lines = Vec::new(alloc);
     for words in setup.words {
         let fails = setup.line_fails && lines.len() == 1;
-        push_line(rt, &mut lines, line_of(rt, alloc, *words, u64::from(fails)));
+        push_line(rt, &mut lines, line_of(rt, alloc, *words, failing(fails)));
     }
     lines
 }
@@ -62,7 +67,7 @@ fn sinks_of<R: Abort>(rt: &R, alloc: Global, count: usize, fail: bool) -> Vec<Fa
     let mut sinks = Vec::new(alloc);
     for _ in 0..count {
         sinks
-            .push(sink_of(alloc, u64::from(fail)))
+            .push(sink_of(alloc, failing(fail)))
             .expect(rt, "memory");
     }
     sinks
@@ -128,8 +133,9 @@ type CellRow = (u32, u64, Option<u32>);
 #[derive(Clone, Copy)]
 struct Outcome {
     fault: Option<LiveFault>,
-    /// The marks of its gate.
+    /// The marks of its gate, and how often a worker came to one of its points.
     marks: u64,
+    passed: u64,
     /// How many words two receivers accepted, and how many cells the sinks of two groups took.
     accepted: (u64, u64),
     cells: (usize, usize),
@@ -146,6 +152,7 @@ struct Outcome {
 const NOTHING: Outcome = Outcome {
     fault: None,
     marks: 0,
+    passed: 0,
     accepted: (0, 0),
     cells: (0, 0),
     refused: (0, 0),
@@ -244,8 +251,13 @@ fn run_held<R: Threads + Wait + Clock + Abort + Sync>(
     let mut control = MarksRun { made: &gate.made };
     let outcome = run(rt, alloc, setup, &gate, &mut control);
     let marks = gate.made.load(Ordering::SeqCst);
+    let passed = gate.passed.load(Ordering::SeqCst);
     let_go(gate);
-    Outcome { marks, ..outcome }
+    Outcome {
+        marks,
+        passed,
+        ..outcome
+    }
 }
 
 /// A word for each of two receivers.
@@ -263,12 +275,24 @@ fn word_taken_before_a_cell_goes_out_in_it(rt: HostRuntime) {
     assert!(rt; outcome.first == Some((0, 0, Some(FIRST))));
 }
 
+#[test]
+fn a_word_is_sent_as_often_as_it_may_be_held(rt: HostRuntime) {
+    let outcome = run_held(&rt, rt.alloc(), &setup_of(HELD, ONE_WORD, 4), Held::InTurn);
+    assert!(rt; outcome.cells == (4, 0) && outcome.words == 2);
+}
+
 /// A word of label 001, one of even parity, and one of a label without a source.
 const MIXED_WORDS: &[&[u32]] = &[&[0x00000080, EVEN, 0x80000021]];
 
 /// How often two receivers accepted, how many cells two groups sent, and how many words of even parity and without a
-/// source the first receiver had; and the fault.
-type Counts = ((u64, u64), (usize, usize), (u64, u64), Option<LiveFault>);
+/// source the first receiver had; how often workers came to the gate, twice for a word or a cell; and the fault.
+type Counts = (
+    (u64, u64),
+    (usize, usize),
+    (u64, u64),
+    u64,
+    Option<LiveFault>,
+);
 
 /// A run at a gate that holds so, and its counts.
 type RunRow = (&'static str, &'static [&'static [u32]], u32, Held, Counts);
@@ -280,7 +304,7 @@ static RUNS: [RunRow; 4] = [
         WORDS,
         1,
         Held::UntilAll,
-        ((1, 1), (1, 1), (0, 0), None),
+        ((1, 1), (1, 1), (0, 0), 8, None),
     ),
     // A run of no frames takes its words.
     (
@@ -288,7 +312,7 @@ static RUNS: [RunRow; 4] = [
         ONE_WORD,
         0,
         Held::Nothing,
-        ((1, 0), (0, 0), (0, 0), None),
+        ((1, 0), (0, 0), (0, 0), 2, None),
     ),
     // Words and cells are counted.
     (
@@ -296,7 +320,7 @@ static RUNS: [RunRow; 4] = [
         MIXED_WORDS,
         2,
         Held::Nothing,
-        ((1, 0), (8, 0), (1, 1), None),
+        ((1, 0), (8, 0), (1, 1), 22, None),
     ),
     // The frames of one run are few.
     (
@@ -304,12 +328,11 @@ static RUNS: [RunRow; 4] = [
         WORDS,
         1000001,
         Held::UntilAll,
-        ((0, 0), (0, 0), (0, 0), Some(LiveFault::TooMuch)),
+        ((0, 0), (0, 0), (0, 0), 0, Some(LiveFault::TooMuch)),
     ),
 ];
 
-/// Whether the run of a row comes to that. A run that is refused begins nothing: no worker comes to its gate, and its
-/// control does not run.
+/// Whether the run of a row comes to that. A run that is refused begins nothing: its control does not run.
 fn comes_to<R: Threads + Wait + Clock + Abort + Sync>(rt: &R, alloc: Global, row: &RunRow) -> bool {
     let (table, words, frames, held, counts) = *row;
     let outcome = run_held(rt, alloc, &setup_of(table, words, frames), held);
@@ -317,10 +340,12 @@ fn comes_to<R: Threads + Wait + Clock + Abort + Sync>(rt: &R, alloc: Global, row
         accepted,
         cells,
         refused,
+        passed,
         fault,
         ..
     } = outcome;
-    (accepted, cells, refused, fault) == counts && fault.is_none() == (outcome.marks > 0)
+    (accepted, cells, refused, passed, fault) == counts
+        && fault.is_none() == (outcome.marks & CONTROL > 0)
 }
 
 #[test]

@@ -1,13 +1,10 @@
 //! Tables and words, and what is made of a table.
-ghost use Rattle.std.specs.Prelude.{◌≡◌, ◌<◌, All, IfSome};
 
-use a429_board::{Board, Planner, Watcher};
 use a429_equipment::Equipment;
 use a429_slots::{OUTPUTS, Plan, plan};
 use a429_table::read_equipment;
 use std::alloc::Global;
 use std::process::Abort;
-use std::sync::Wait;
 
 /// A word of label 203.
 pub const FIRST: u32 = 0x600000c1;
@@ -34,6 +31,25 @@ name = "g"
 source = "s"
 min_us = 1
 max_us = 360
+"#;
+
+/// The same, whose group sends each of its words twice at most.
+pub const HELD: &str = r#"version = 2
+[[receiver]]
+name = "r"
+[[source]]
+name = "s"
+receiver = "r"
+label = "203"
+sdi = "any"
+[[group]]
+name = "g"
+rate = 100000
+[[group.output]]
+source = "s"
+min_us = 1
+max_us = 360
+hold = 2
 "#;
 
 /// Two receivers, each with one source, of the labels 001 and 002, and two groups, which send one source each.
@@ -140,41 +156,6 @@ pub fn plan_of<R: Abort>(rt: &R, alloc: Global, table: &str) -> Plan<OUTPUTS> {
     let plan = plan_of_read(rt, alloc, &equipment);
     let_go(equipment);
     plan
-}
-
-/// A board with this number of watchers, which begins with the plan of a table under this number.
-pub fn open_board<R: Wait + Abort>(
-    rt: &R,
-    alloc: Global,
-    table: &str,
-    number: u64,
-    watchers: u32,
-) -> (Planner, Vec<Watcher>)
-    requires { 0 < watchers }
-    ensures { All (λ w. w.book ≡ result.0.book) result.1.items }
-{
-    let plan = plan_of(rt, alloc, table).numbered(number);
-    Board::open(rt, alloc, plan, watchers).expect(rt, "a board")
-}
-
-/// Publishes the plan of a table. Answers the plan's number; `None` if it is refused.
-pub fn publish<R: Wait + Abort>(
-    rt: &R,
-    alloc: Global,
-    planner: &mut Planner,
-    table: &str,
-) -> Option<u64>
-    ensures { planner.new.book ≡ planner.old.book }
-{
-    planner.publish(rt, plan_of(rt, alloc, table)).ok()
-}
-
-/// The last of the watchers, which are of the planner's board.
-pub fn one_of(all: &mut Vec<Watcher>, planner: &Planner) -> Option<Watcher>
-    requires { All (λ w. w.book ≡ planner.now.book) all.old.items }
-    ensures { IfSome result (λ w. w.book ≡ planner.now.book) }
-{
-    all.pop()
 }
 
 /// Drops a value. The proof of a call is short; that of a drop in place goes through all parts of the value.

@@ -6,17 +6,12 @@
 //! loops in tests; `OpenGate` holds none.
 //!
 //! ```text
-//! let (raw, parity) = match receive_all(line, receiver, 0, &OpenGate) {
-//!     Err(ReceiveFault::TooMuch { raw, totals }) => (raw, totals.parity),
-//!     _ => (0, 0),
-//! };
-//! let accepted = receiver.accept(raw) == Accept::Accepted(0);
-//! let rest = match receive_all(line, receiver, 0, &OpenGate) {
-//!     Ok(totals) => totals.accepted,
-//!     Err(_) => 0,
-//! };
+//! receive_all(line, receiver, 0, &OpenGate).is_ok()
 //! ..
-//! let answer = send_frames(&mut workers.transmit, &mut sink, 0, 2, gate);
+//! send_frames(transmit, sink, 0, frames, &OpenGate).is_ok()
+//! ..
+//! transmit.meet(first);
+//! transmit.meet(second);
 //! ```
 #![tactic(auto)]
 

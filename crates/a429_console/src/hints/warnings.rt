@@ -74,7 +74,7 @@ pub enum Warning {
     Further(FurtherFault),
     /// In a log too many words in a row come to the receiver of this name more closely than a bus can carry them.
     CloseWords(Name),
-    /// All intervals of the group of this name are below 1000 µs, and none admits a period: they may be milliseconds.
+    /// All intervals of the group of this name are below 1000 µs, and none allows a period: they may be milliseconds.
     ShortIntervals(Name),
 }
 

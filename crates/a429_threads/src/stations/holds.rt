@@ -91,6 +91,8 @@ pub struct Holds<'a, R: Clock> {
     held: Held,
     turns: u64,
     pub made: AtomicU64,
+    /// How often a worker came to one of its points.
+    pub passed: AtomicU64,
 }
 
 /// The gate that holds so, before any mark.
@@ -100,6 +102,7 @@ pub fn gate<'a, R: Clock>(rt: &'a R, held: Held, turns: u64) -> Holds<'a, R> {
         held,
         turns,
         made: AtomicU64::new(0),
+        passed: AtomicU64::new(0),
     }
 }
 
@@ -117,6 +120,7 @@ fn are_made<R: Clock>(rt: &R, made: &AtomicU64, awaited: u64, turns: u64) -> boo
 impl<'a, R: Clock> Gate for Holds<'a, R> {
     fn pass<S>(&self, point: Point, _shown: &S) -> Result<(), GateFault> {
         let (own, awaited) = bits(self.held, point);
+        self.passed.fetch_add(1, Ordering::SeqCst);
         self.made.fetch_or(own, Ordering::SeqCst);
         if are_made(self.rt, &self.made, awaited, self.turns) {
             return Ok(());

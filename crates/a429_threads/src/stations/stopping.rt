@@ -1,101 +1,90 @@
 //! Stations that stop: which fault is reported if several workers have one.
 
-use super::{ONE_WORD, Setup, run, setup_of};
+use super::{ONE_WORD, Setup, WORDS, run, setup_of};
 use crate::devices::ShutGate;
 use crate::support::{ONE, TWO};
-use a429_station::{Control, LiveFault, NoControl, Station};
+use a429_station::{Control, LiveFault, Station};
 use a429_workers::{OpenGate, Point};
 use std::alloc::{AllocError, Global};
 use std::process::Abort;
 use std::sync::Wait;
 use std::thread::Threads;
 
-#[test]
-fn a_shut_gate_ends_the_run(rt: HostRuntime) {
-    let gate = ShutGate {
-        at: Point::BeforeAccept(0, 0),
-    };
-    let outcome = run(
-        &rt,
-        rt.alloc(),
-        &setup_of(ONE, ONE_WORD, 1),
-        &gate,
-        &mut NoControl,
-    );
-    assert!(rt; outcome.fault == Some(LiveFault::Gate));
+/// Publishes nothing. It answers at once, perhaps that an allocation failed.
+#[derive(Clone, Copy)]
+struct Idle {
+    fails: bool,
 }
 
-/// Answers at once that an allocation failed.
-#[derive(Clone, Copy)]
-struct Refused;
-
-impl<R: Wait> Control<R> for Refused {
+impl<R: Wait> Control<R> for Idle {
     fn run(&mut self, _station: &mut Station<'_, R>) -> Result<(), AllocError> {
-        Err(AllocError)
+        if self.fails { Err(AllocError) } else { Ok(()) }
     }
 }
 
-/// Why the station of two receivers stops if the first line gives these words and both sinks fail. The second line
-/// fails if `line_fails` says so.
-fn fault_of_run<R: Threads + Wait + Abort, K: Control<R>>(
+/// Why a station of two receivers and two groups stops at a gate that is open.
+fn fault_of_run<R: Threads + Wait + Abort>(
     rt: &R,
     alloc: Global,
-    words: &[u32],
-    line_fails: bool,
-    control: &mut K,
+    setup: &Setup<'_>,
+    control_fails: bool,
 ) -> Option<LiveFault> {
-    let lines: [&[u32]; 2] = [words, &[]];
-    let setup = Setup {
-        table: TWO,
-        words: &lines,
-        frames: 1,
-        line_fails,
-        sinks_fail: true,
+    let mut control = Idle {
+        fails: control_fails,
     };
-    run(rt, alloc, &setup, &OpenGate, control).fault
+    run(rt, alloc, setup, &OpenGate, &mut control).fault
 }
 
-/// Why it stops if the first line gives one word: with a line that fails, and without.
-fn faults<R: Threads + Wait + Abort, K: Control<R>>(
-    rt: &R,
-    alloc: Global,
-    control: &mut K,
-) -> (Option<LiveFault>, Option<LiveFault>) {
-    let words = [0x00000080];
-    let with = fault_of_run(rt, alloc, &words, true, control);
-    (with, fault_of_run(rt, alloc, &words, false, control))
-}
+/// Whether the second line fails, both sinks, and the control; and the fault of the run.
+type Stop = (bool, bool, bool, Option<LiveFault>);
 
-const SOURCE_THEN_SINK: (Option<LiveFault>, Option<LiveFault>) = (
-    Some(LiveFault::Source),
-    Some(LiveFault::Sink),
-);
+static STOPS: [Stop; 6] = [
+    (false, false, false, None),
+    (true, true, false, Some(LiveFault::Source)),
+    (false, true, false, Some(LiveFault::Sink)),
+    // a worker's fault before that of the control
+    (true, true, true, Some(LiveFault::Source)),
+    (false, true, true, Some(LiveFault::Sink)),
+    (false, false, true, Some(LiveFault::NoMemory)),
+];
+
+/// Whether a run stops so.
+fn stops<R: Threads + Wait + Abort>(rt: &R, alloc: Global, stop: &Stop) -> bool {
+    let (line_fails, sinks_fail, control_fails, fault) = *stop;
+    let setup = Setup {
+        line_fails,
+        sinks_fail,
+        ..setup_of(TWO, WORDS, 2)
+    };
+    fault_of_run(rt, alloc, &setup, control_fails) == fault
+}
 
 #[test]
 fn the_first_fault_is_answered(rt: HostRuntime) {
-    assert!(rt; faults(&rt, rt.alloc(), &mut NoControl) == SOURCE_THEN_SINK);
+    for stop in &STOPS {
+        assert!(rt; stops(&rt, rt.alloc(), stop));
+    }
 }
 
 #[test]
 fn too_many_words_are_answered_before_the_next_receivers_fault(rt: HostRuntime) {
     let words = vec![in rt.alloc(); 0x00000080; 1000001].expect(&rt, "memory");
-    let fault = fault_of_run(&rt, rt.alloc(), words.as_slice(), true, &mut NoControl);
+    let lines: [&[u32]; 2] = [words.as_slice(), &[0x00000040]];
+    let setup = Setup {
+        line_fails: true,
+        ..setup_of(TWO, &lines, 1)
+    };
+    let fault = fault_of_run(&rt, rt.alloc(), &setup, false);
     assert!(rt; fault == Some(LiveFault::TooMuch));
 }
 
 #[test]
-fn a_workers_fault_is_answered_before_the_controls(rt: HostRuntime) {
-    assert!(rt; faults(&rt, rt.alloc(), &mut Refused) == SOURCE_THEN_SINK);
-}
-
-#[test]
-fn a_controls_fault_is_answered_where_no_worker_has_one(rt: HostRuntime) {
-    let outcome = run(
-        &rt,
-        rt.alloc(),
-        &setup_of(ONE, ONE_WORD, 1),
-        &OpenGate,
-        &mut Refused,
-    );
-    assert!(rt; outcome.fault == Some(LiveFault::NoMemory));
+fn a_shut_gate_ends_the_run(rt: HostRuntime) {
+    let gate = ShutGate {
+        at: Point::BeforeAccept(0, 0),
+    };
+    let mut control = Idle { fails: false };
+    let setup = setup_of(ONE, ONE_WORD, 1);
+    let fault = run(&rt, rt.alloc(), &setup, &gate, &mut control).fault;
+    assert!(rt; fault == Some(LiveFault::Gate));
 }

@@ -1,48 +1,76 @@
-use Rattle.std.proofs.Common.{arith}
+use Rattle.std.proofs.Common.{◌≡◌, ◌≤◌, ◌∙◌, [], ℕ, ap, arith, inl, inr, refl, subst}
+use Rattle.std.specs.Prelude.{IfOk}
 use Rattle.a429_console.specs.Ends.{writing}
 use Rattle.a429_console.specs.Files.{texts_of}
 use Rattle.a429_console.specs.Outputs.{IsPut}
+use Rattle.a429_console.specs.Readings.{HasRead}
+use Rattle.a429_console.specs.Requests.{AskedBytes}
 use Rattle.a429_console.specs.Usage.{kinds_of_words}
-use Rattle.a429_console.proofs.CallEnds.{done_ends, failed_ends}
-use Rattle.a429_console.proofs.Endings.{failure_shows}
-use Rattle.a429_console.proofs.ReadingParts.{known_read, read_weaker}
-use Rattle.a429_cli.specs.Replies.{IsReplyOrMemory}
+use Rattle.a429_console.proofs.ReadingParts.{known_read, read_none, read_weaker}
+use Rattle.a429_cli.specs.Replies.{IsReplyOrMemory, IsSilent, trouble_of}
+use Rattle.a429_cli.proofs.AnsweredCalls.{answer_ends, answer_is_few, answer_put}
 use Rattle.a429_cli.proofs.WholeAnswers.{least_trouble}
 use Rattle.a429_cli.proofs.commands.command.Goals as goal
 
-pub returns-in-Ok-clause-replied : goal.returns-in-Ok-clause-replied
-returns-in-Ok-clause-replied g c = λ r other asks tells none.
-    let h = c.in-Ok.ensures.read r other asks in
-    known_read g.F.FileReader.answers g.F.FileReader.tells g.F.FileReader.file g.met.F.FileReader.known
-    {P = λ file. IsPut (IsReplyOrMemory file r) (g.O.Output.contents c.args.out.now) (g.O.Output.contents c.answer_words.new.out) c.in-Ok.status} c.args.files.now h.0 h.1 tells
-
-pub returns-in-Ok-clause-read : goal.returns-in-Ok-clause-read
-returns-in-Ok-clause-read g c = λ r other asks none. c.in-Ok.ensures.read r other asks
-
-pub returns-in-Ok-clause-ends : goal.returns-in-Ok-clause-ends
-returns-in-Ok-clause-ends g c =
-    done_ends (kinds_of_words (texts_of c.args.words.now)) (writing g.O.Output.contents g.O.Output.failures g.O.Output.is_flushed c.args.out.now c.answer_words.new.out)
-    (writing g.V.Output.contents g.V.Output.failures g.V.Output.is_flushed c.args.err.now c.answer_words.new.err) c.in-Ok.status c.in-Ok.ensures.ends
-
 pub returns-in-Err-clause-replied : goal.returns-in-Err-clause-replied
-returns-in-Err-clause-replied g c = λ r other asks tells none. absurd (failure_shows c.in-Err.fault (g.O.Output.failures c.args.out.now) (g.O.Output.failures c.answer_words.new.out) c.in-Err.ensures.ends.faults none)
+returns-in-Err-clause-replied g c = λ r other asks tells none. let put = (c.in-Err.ensures.spent r other asks).1 none in (put.0, inr put.1, put.2)
 
 pub returns-in-Err-clause-read : goal.returns-in-Err-clause-read
-returns-in-Err-clause-read g c = λ r other asks none. absurd (failure_shows c.in-Err.fault (g.O.Output.failures c.args.out.now) (g.O.Output.failures c.answer_words.new.out) c.in-Err.ensures.ends.faults none)
-
-pub returns-in-Err-clause-asked : goal.returns-in-Err-clause-asked
-returns-in-Err-clause-asked g c = λ r other asks. least_trouble r.verb 1 (omega arith)
-
-pub returns-in-Err-clause-ends : goal.returns-in-Err-clause-ends
-returns-in-Err-clause-ends g c =
-    failed_ends (kinds_of_words (texts_of c.args.words.now)) (writing g.O.Output.contents g.O.Output.failures g.O.Output.is_flushed c.args.out.now c.answer_words.new.out)
-    (writing g.V.Output.contents g.V.Output.failures g.V.Output.is_flushed c.args.err.now c.tell_fault.new.err) c.answer_words.new.err c.in-Err.fault c.in-Err.ensures.ends
-    c.tell_fault.ensures.announced c.tell_fault.ensures.hushed c.tell_fault.ensures.once
-
-pub returns-in-Ok-clause-quiet : goal.returns-in-Ok-clause-quiet
-returns-in-Ok-clause-quiet g c = λ r other asks. c.in-Ok.ensures.quiet r other asks
+returns-in-Err-clause-read g c = λ r other asks none. let put = (c.in-Err.ensures.spent r other asks).1 none in (c.args.files.now, read_none refl (λ file. (put.0, inr put.1, put.2)))
 
 pub returns-in-Err-clause-quiet : goal.returns-in-Err-clause-quiet
 returns-in-Err-clause-quiet g c = λ r other asks.
-    let h = c.in-Err.ensures.quiet r other asks in
-    (h.0, read_weaker h.1 (λ file is takes zero. absurd (omega (arith, zero))))
+    let one : c.in-Err.status ≡ 1 = (c.in-Err.ensures.spent r other asks).0 in
+    (c.args.files.now, read_none refl (λ file takes zero. absurd (omega (arith, one, zero))))
+
+pub returns-in-Err-clause-asked : goal.returns-in-Err-clause-asked
+returns-in-Err-clause-asked g c = λ r other asks.
+    let one : c.in-Err.status ≡ 1 = (c.in-Err.ensures.spent r other asks).0 in
+    least_trouble r.verb c.in-Err.status (omega (arith, one))
+
+pub returns-in-Err-clause-ends : goal.returns-in-Err-clause-ends
+returns-in-Err-clause-ends g c = c.in-Err.ensures.ends
+
+pub returns-clause-replied : goal.returns-clause-replied
+returns-clause-replied g c = λ r other asks tells none.
+    let out = writing g.O.Output.contents g.O.Output.failures g.O.Output.is_flushed c.args.out.now c.answer-answered.new.out in
+    let put = subst (λ (a : AskedBytes). HasRead g.F.FileReader.answers
+    (λ file. IfOk c.answer-answered.result (IsPut (IsReplyOrMemory file a) (g.O.Output.contents c.asked_here.new.out) (g.O.Output.contents c.answer-answered.new.out)))
+    c.args.files.now c.answer-answered.new.files) (c.in-Ok.ensures.request r asks) c.answer-answered.ensures.read in
+    answer_put (IsReplyOrMemory (g.F.FileReader.file c.args.files.now) r) out c.asked_here.new.out c.answer-answered.result c.ended-status.result c.in-Ok.ensures.left
+    (known_read g.F.FileReader.answers g.F.FileReader.tells g.F.FileReader.file g.met.F.FileReader.known c.args.files.now c.answer-answered.new.files put tells)
+    c.ended-status.ensures.done c.answer-answered.ensures.faults none
+
+pub returns-clause-read : goal.returns-clause-read
+returns-clause-read g c = λ r other asks none.
+    let out = writing g.O.Output.contents g.O.Output.failures g.O.Output.is_flushed c.args.out.now c.answer-answered.new.out in
+    let put = subst (λ (a : AskedBytes). HasRead g.F.FileReader.answers
+    (λ file. IfOk c.answer-answered.result (IsPut (IsReplyOrMemory file a) (g.O.Output.contents c.asked_here.new.out) (g.O.Output.contents c.answer-answered.new.out)))
+    c.args.files.now c.answer-answered.new.files) (c.in-Ok.ensures.request r asks) c.answer-answered.ensures.read in (
+      c.answer-answered.new.files,
+      read_weaker put (λ file is. answer_put (IsReplyOrMemory file r) out c.asked_here.new.out c.answer-answered.result c.ended-status.result c.in-Ok.ensures.left is
+          c.ended-status.ensures.done c.answer-answered.ensures.faults none),
+    )
+
+pub returns-clause-quiet : goal.returns-clause-quiet
+returns-clause-quiet g c = λ r other asks.
+    let silent = subst (λ (a : AskedBytes). HasRead g.F.FileReader.answers (λ file. IsSilent file a → c.answer-answered.new.warnings.items ≡ c.new-warnings.result.items)
+    c.args.files.now c.answer-answered.new.files) (c.in-Ok.ensures.request r asks) c.answer-answered.ensures.silent in (
+      c.answer-answered.new.files,
+      read_weaker silent (λ file same takes zero.
+          let none : c.answer-answered.new.warnings.items ≡ [] = same takes ∙ c.new-warnings.ensures.items in
+          c.ended-status.ensures.quiet (c.deref.ensures.value ∙ none) zero ∙ c.in-Ok.ensures.left_told),
+    )
+
+pub returns-clause-asked : goal.returns-clause-asked
+returns-clause-asked g c = λ r other asks.
+    let few = subst (λ (a : AskedBytes). IfOk c.answer-answered.result (λ status. status ≤ trouble_of a.verb)) (c.in-Ok.ensures.request r asks) c.answer-answered.ensures.status in
+    answer_is_few c.answer-answered.result c.ended-status.result (trouble_of r.verb) (least_trouble r.verb 1 (omega arith)) few c.ended-status.ensures.done c.ended-status.ensures.failed
+
+pub returns-clause-ends : goal.returns-clause-ends
+returns-clause-ends g c =
+    let a = c.answer-answered.ensures in
+    let e = c.ended-status.ensures in
+    answer_ends (kinds_of_words (texts_of c.args.words.now)) (writing g.O.Output.contents g.O.Output.failures g.O.Output.is_flushed c.args.out.now c.answer-answered.new.out)
+    (writing g.V.Output.contents g.V.Output.failures g.V.Output.is_flushed c.args.err.now c.ended-status.new.err) c.asked_here.new.out c.asked_here.new.err c.answer-answered.result
+    c.ended-status.result c.in-Ok.ensures.kinds c.in-Ok.ensures.left c.in-Ok.ensures.left_told a.few a.flushed a.faults e.done e.failed e.announced e.hushed e.once

@@ -1,0 +1,204 @@
+//! A case: what a command is given, and what it must do.
+
+use crate::files::CaseFiles;
+use crate::outcome::{Outcome, is_output, is_told};
+use crate::outputs::{Limits, NO_LIMITS, output};
+use crate::parts::{find_file, keep_file, name_and_form, part_bytes};
+use crate::reported::Reported;
+use crate::spelling::number_before;
+use a429_cli::MemoryFiles;
+use bstr::ByteSlice;
+use std::alloc::{AllocError, Global};
+use std::io::ErrorKind;
+
+/// A case.
+#[derive(Drop)]
+pub struct Case<'a> {
+    /// The path of the program, and its arguments.
+    pub words: Vec<&'a [u8]>,
+    /// The parts by their names. Those that are no files of the command have what it must write.
+    pub files: CaseFiles<'a>,
+    status: u8,
+    /// How many bytes an output takes in one call.
+    piece: usize,
+    /// How many calls the output that is to fail has at least. 0: none is to fail.
+    least_calls: usize,
+    /// Whether that is standard error.
+    is_err: bool,
+}
+
+/// The case of a line of arguments and of parts. `None` if it cannot be read.
+pub fn case_of<'a>(
+    alloc: Global,
+    texts: &MemoryFiles,
+    line: &'a [u8],
+    parts: &str,
+) -> Option<Case<'a>> {
+    let mut case = Case {
+        words: Vec::new(alloc),
+        files: CaseFiles {
+            files: MemoryFiles {
+                files: Vec::new(alloc),
+            },
+            given: usize::MAX,
+            reads: 0,
+            unread: Vec::new(alloc),
+            has_reread: false,
+        },
+        status: 0,
+        piece: usize::MAX,
+        least_calls: 0,
+        is_err: false,
+    };
+    push_words(&mut case.words, line).ok()?;
+    for part in parts.split("\n--- ") {
+        case.take(alloc, texts, part)?;
+    }
+    Some(case)
+}
+
+/// Appends the path of the program, and the arguments of a line. Text between quotes is one argument, which may have
+/// spaces or be empty.
+fn push_words<'a>(words: &mut Vec<&'a [u8]>, line: &'a [u8]) -> Result<(), AllocError> {
+    words.push(b"a429")?;
+    let mut is_quoted = false;
+    for piece in line.split_str(b"\"") {
+        if is_quoted {
+            words.push(piece)?;
+        } else {
+            push_plain(words, piece)?;
+        }
+        is_quoted = !is_quoted;
+    }
+    Ok(())
+}
+
+/// Appends the arguments that spaces separate.
+fn push_plain<'a>(words: &mut Vec<&'a [u8]>, text: &'a [u8]) -> Result<(), AllocError> {
+    for word in text.split_str(b" ") {
+        if !word.is_empty() {
+            words.push(word)?;
+        }
+    }
+    Ok(())
+}
+
+impl Case<'_> {
+    /// Reads a part.
+    fn take(&mut self, alloc: Global, texts: &MemoryFiles, part: &str) -> Option<()> {
+        let (name, form) = name_and_form(part)?;
+        match name {
+            "out" => self.take_out(alloc, texts, form.strip_prefix(' ')?),
+            "fails" => self.take_failing(form.strip_prefix(' ')?),
+            "memory" => {
+                self.files.given = form.trim().parse::<usize>().ok()?;
+                Some(())
+            }
+            _ => self.keep(
+                alloc,
+                name.trim_matches('"'),
+                part_bytes(alloc, texts, form)?,
+            ),
+        }
+    }
+
+    fn keep(&mut self, alloc: Global, name: &str, bytes: Vec<u8>) -> Option<()> {
+        keep_file(alloc, &mut self.files.files, name, bytes)
+    }
+
+    /// Reads `STATUS FORM`.
+    fn take_out(&mut self, alloc: Global, texts: &MemoryFiles, part: &str) -> Option<()> {
+        let (status, form) = name_and_form(part)?;
+        self.status = status.parse::<u8>().ok()?;
+        self.keep(alloc, "out", part_bytes(alloc, texts, form)?)
+    }
+
+    /// Reads `OUTPUT PIECE CALLS`.
+    fn take_failing(&mut self, part: &str) -> Option<()> {
+        let (output, numbers) = part.split_once(' ')?;
+        let (piece, calls) = number_before(numbers, " ")?;
+        self.is_err = output == "err";
+        self.piece = piece;
+        self.least_calls = calls.parse::<usize>().ok()?;
+        Some(())
+    }
+
+    /// Before the command runs. The output that is to fail does so after this number of calls.
+    pub fn begin(&mut self, alloc: Global, good_calls: usize, kind: ErrorKind) -> Outcome {
+        self.files.begin(&self.words);
+        let mut whole = NO_LIMITS;
+        whole.piece = self.piece;
+        let failing = Limits {
+            piece: self.piece,
+            good_calls,
+            kind,
+        };
+        let (out, err) = if self.is_err {
+            (whole, failing)
+        } else {
+            (failing, whole)
+        };
+        Outcome {
+            out: output(alloc, out),
+            err: output(alloc, err),
+            reported: Reported::new(),
+            status: 0,
+        }
+    }
+
+    /// Whether the program did what the case states.
+    pub fn is_met(&self, alloc: Global, outcome: &Outcome) -> bool {
+        outcome.status == self.status
+            && !self.files.has_reread
+            && outcome.is_flushed()
+            && self.has_output(outcome)
+            && outcome.has_errors(find_file(&self.files.files, "err"))
+            && self.has_reports(alloc, outcome)
+    }
+
+    fn has_output(&self, outcome: &Outcome) -> bool {
+        match find_file(&self.files.files, "out") {
+            Some(stated) => is_output(stated, &outcome.out.writer.bytes),
+            None => false,
+        }
+    }
+
+    fn has_reports(&self, alloc: Global, outcome: &Outcome) -> bool {
+        match find_file(&self.files.files, "progress") {
+            Some(stated) => outcome.reported.are(alloc, stated),
+            None => true,
+        }
+    }
+
+    /// How many calls the output that is to fail has. `None` if they are fewer than stated.
+    pub fn failing_calls(&self, whole: &Outcome) -> Option<usize> {
+        if self.least_calls == 0 {
+            return Some(0);
+        }
+        let calls = whole.outputs(self.is_err).0.calls;
+        if calls < self.least_calls {
+            None
+        } else {
+            Some(calls)
+        }
+    }
+
+    /// Whether the command ended with status 1 at the call that failed, and wrote nothing more there.
+    pub fn ends_short(
+        &self,
+        whole: &Outcome,
+        cut: &Outcome,
+        good_calls: usize,
+        kind: ErrorKind,
+    ) -> bool {
+        let ((failed, other), (all, rest)) = (cut.outputs(self.is_err), whole.outputs(self.is_err));
+        cut.status == 1
+            && failed.calls == good_calls.saturating_add(1)
+            && all.bytes.starts_with(&failed.bytes)
+            && if self.is_err {
+                other.bytes == rest.bytes
+            } else {
+                is_told(&other.bytes, kind)
+            }
+    }
+}
