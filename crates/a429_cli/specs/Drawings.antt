@@ -7,15 +7,14 @@ use Rattle.a429_slots.specs.Proposed.{Proposed}
 use Rattle.a429_documents.specs.Drawing.{IsDrawingFault, image_height}
 use Rattle.a429_documents.specs.declared.drawing.DrawingFault.{DrawingFault}
 use Rattle.a429_documents.specs.declared.drawing.DrawingFault.TheVariants as drawing
-use Rattle.a429_console.specs.FileReadings.{readable}
 use Rattle.a429_console.specs.Requests.{OptionBytes}
-use Rattle.a429_console.specs.Tables.{IsGroupRefusal, IsProposedBy}
+use Rattle.a429_console.specs.Tables.{IsGroupRefusal}
 use Rattle.a429_console.specs.RefusalText.{OrMemory}
 use Rattle.a429_console.specs.declared.refusals.CommandRefusal.{CommandRefusal}
 use Rattle.a429_console.specs.declared.refusals.CommandRefusal.TheVariants as refused
 use Rattle.a429_cli.specs.declared.drawings.Picture.{Picture}
 use Rattle.a429_cli.specs.declared.replies.reply.Reply.{Reply}
-use Rattle.a429_cli.specs.PlanReplies.{IsNoPlan}
+use Rattle.a429_cli.specs.Proposals.{IsNoPlan, IsProposedIn}
 use Rattle.a429_cli.specs.WholeReplies.{Replies}
 
 -- the number of the first group of this name
@@ -51,12 +50,12 @@ IsUndrawn q group picture refusal =
 
 -- the table in a file has a plan that can be drawn so
 abbrev pub HasImageOf : (List ℕ → Option (List ℕ)) → List ℕ → Option (List ℕ) → Picture → Type 0
-HasImageOf file name group picture = (table : List ℕ) × (q : Proposed) × (readable (file name) ≡ Some table) × IsProposedBy table q × HasImage q group picture
+HasImageOf file name group picture = (q : Proposed) × IsProposedIn file name q × HasImage q group picture
 
 -- why there is none: the file, or its table, or the plan of that, or its groups, or the image
 abbrev pub IsNoImage : (List ℕ → Option (List ℕ)) → List ℕ → Option (List ℕ) → Picture → CommandRefusal → Type 0
 IsNoImage file name group picture refusal =
-    IsNoPlan file name refusal ⊎ ((table : List ℕ) × (q : Proposed) × (readable (file name) ≡ Some table) × IsProposedBy table q × IsUndrawn q group picture refusal)
+    IsNoPlan file name refusal ⊎ ((q : Proposed) × IsProposedIn file name q × IsUndrawn q group picture refusal)
 
 -- a picture of it is printed, with status 0; nothing is said of its bytes
 abbrev pub IsImageOf : (List ℕ → Option (List ℕ)) → List ℕ → Option (List ℕ) → Picture → ℕ → List ℕ → Type 0

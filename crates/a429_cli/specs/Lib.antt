@@ -3,6 +3,7 @@ pub mod WordLines
 pub mod Encoding
 pub mod LineReports
 pub mod LineReplies
+pub mod Proposals
 pub mod PlanReplies
 pub mod Drawings
 pub mod SlotReplies

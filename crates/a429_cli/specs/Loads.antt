@@ -1,12 +1,11 @@
 -- The command `load`: what it writes, and its status (profile: output).
-use Rattle.std.specs.Prelude.{◌≡◌, ℕ, Bool, true, false, List, Option, Some, max, min, option_map}
+use Rattle.std.specs.Prelude.{◌≡◌, ℕ, Bool, true, false, List, Option, max, min, option_map}
 use Rattle.a429_text.specs.Sheets.{sheet_text}
 use Rattle.a429_text.specs.declared.sheets.SheetForm.{SheetForm}
 use Rattle.a429_slots.specs.Proposed.{Proposed}
 use Rattle.a429_documents.specs.Load.{any_above, load_columns, load_rows, shown_for}
 use Rattle.a429_console.specs.CommandLine.{most_percent}
-use Rattle.a429_console.specs.FileReadings.{readable}
-use Rattle.a429_console.specs.Tables.{IsProposedBy}
+use Rattle.a429_cli.specs.Proposals.{IsProposedIn}
 
 -- the limit in per cent: the rules of the command line let only 1 to 100 through
 abbrev pub limit_of : Option ℕ → Option ℕ
@@ -24,5 +23,4 @@ IsLoad q limit form status bytes =
 
 -- the same of the plan of the table in a file
 abbrev pub IsLoadOf : (List ℕ → Option (List ℕ)) → Option ℕ → SheetForm → List ℕ → ℕ → List ℕ → Type 0
-IsLoadOf file limit form name status bytes =
-    (table : List ℕ) × (q : Proposed) × (readable (file name) ≡ Some table) × IsProposedBy table q × IsLoad q (limit_of limit) form status bytes
+IsLoadOf file limit form name status bytes = (q : Proposed) × IsProposedIn file name q × IsLoad q (limit_of limit) form status bytes

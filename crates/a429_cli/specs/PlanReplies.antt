@@ -9,6 +9,7 @@ use Rattle.a429_text.specs.Fields.{Field}
 use Rattle.a429_text.specs.Sheets.{sheet_text}
 use Rattle.a429_documents.specs.Document.{icd_columns, icd_rows}
 use Rattle.a429_documents.specs.Margins.{IsMargin, margin_columns}
+use Rattle.a429_cli.specs.Proposals.{IsProposedIn}
 use Rattle.a429_cli.specs.WholeReplies.{Replies}
 use Rattle.a429_cli.specs.declared.plan_texts.PlanText.{PlanText}
 use Rattle.a429_cli.specs.declared.plan_texts.PlanText.TheVariants.{Plan, Document, Margin}
@@ -18,9 +19,8 @@ use Rattle.a429_cert.specs.Judged.{IsVerdictOnBytes}
 use Rattle.a429_cert.specs.Printed.{verdict_text}
 use Rattle.a429_cert.specs.declared.verdicts.Verdict.{Verdict}
 use Rattle.a429_cert.specs.declared.verdicts.Verdict.TheVariants as verdicts
-use Rattle.a429_console.specs.FileReadings.{AreRead, IsFirstUnread, IsFileRefusal, readable}
+use Rattle.a429_console.specs.FileReadings.{AreRead, IsFirstUnread}
 use Rattle.a429_console.specs.Names.{group_name, output_name}
-use Rattle.a429_console.specs.Tables.{IsProposedBy, IsTableRefusal}
 use Rattle.a429_console.specs.RefusalText.{OrMemory}
 use Rattle.a429_console.specs.declared.refusals.CommandRefusal.{CommandRefusal}
 use Rattle.a429_console.specs.declared.refusals.CommandRefusal.TheVariants as refused
@@ -35,12 +35,7 @@ IsTextOf (Margin form) e p text = (rows : List (List Field)) × IsMargin e p row
 
 -- it is this text about the plan of the table in a file, and the status is 0
 abbrev pub IsPlanTextOf : (List ℕ → Option (List ℕ)) → PlanText → List ℕ → ℕ → List ℕ → Type 0
-IsPlanTextOf file kind name status text =
-    (table : List ℕ) × (q : Proposed) × (readable (file name) ≡ Some table) × IsProposedBy table q × IsTextOf kind q.station q.plan text × (status ≡ 0)
-
--- why there is none: the file, or its table, or the plan of that
-abbrev pub IsNoPlan : (List ℕ → Option (List ℕ)) → List ℕ → CommandRefusal → Type 0
-IsNoPlan file name refusal = IsFileRefusal file name refusal ⊎ ((table : List ℕ) × (readable (file name) ≡ Some table) × IsTableRefusal table refusal)
+IsPlanTextOf file kind name status text = (q : Proposed) × IsProposedIn file name q × IsTextOf kind q.station q.plan text × (status ≡ 0)
 
 -- ---- check
 

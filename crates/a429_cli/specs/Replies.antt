@@ -9,10 +9,11 @@ use Rattle.a429_console.specs.declared.files.FileFault.{FileFault}
 use Rattle.a429_console.specs.declared.refusals.CommandRefusal.{CommandRefusal}
 use Rattle.a429_cli.specs.WordLines.{IsNoWord, IsWordOf}
 use Rattle.a429_cli.specs.LineReplies.{IsLinesReply}
-use Rattle.a429_cli.specs.PlanReplies.{IsCheckOf, IsNoCheck, IsNoPlan, IsPlanTextOf}
+use Rattle.a429_cli.specs.PlanReplies.{IsCheckOf, IsNoCheck, IsPlanTextOf}
 use Rattle.a429_cli.specs.Drawings.{IsImageOf, IsNoImage, picture_of}
 use Rattle.a429_cli.specs.Encoding.{IsEncoded, IsNotEncoded}
 use Rattle.a429_cli.specs.Loads.{IsLoadOf}
+use Rattle.a429_cli.specs.Proposals.{IsNoPlan}
 use Rattle.a429_cli.specs.SlotReplies.{IsNoSlots, IsSlotsOf, slots_form}
 use Rattle.a429_cli.specs.Findings.{IsDiffOf, IsLinted, IsNoDiff, IsNoLint}
 use Rattle.a429_cli.specs.Importing.{ImportsNoShortGroup, IsImported, IsNoImport}

@@ -7,11 +7,11 @@ ghost use Rattle.a429_cli.specs.WholeReplies.{Replies};
 ghost use Rattle.a429_console.specs.declared.refusals.CommandRefusal.TheVariants.{Memory};
 ghost use Rattle.a429_slots.specs.Tables.{groups_of};
 
+use crate::proposals::propose_file;
 use crate::replies::reply::Reply;
 use a429_console::arguments::requests::Options;
 use a429_console::files::FileReader;
-use a429_console::files::reading::read_file;
-use a429_console::planning::{propose, with_plan};
+use a429_console::planning::with_plan;
 use a429_console::refusals::tables::no_group;
 use a429_console::refusals::{CommandRefusal, Refused};
 use a429_documents::{Drawing, DrawingFault, DrawingForm, draw_text, page_text};
@@ -142,8 +142,7 @@ pub fn drawing_reply<F: FileReader>(
     ensures { HasRead F.answers (λ file. Replies (IsImageOf file name.now (option_copied group.entry) picture)
         (IsNoImage file name.now (option_copied group.entry) picture) result) files.old files.new }
 {
-    let table = read_file(alloc, files, name)?;
-    let proposal = propose(alloc, &table)?;
+    let proposal = propose_file(alloc, files, name)?;
     let image = image_of(alloc, &proposal, group, picture);
     with_plan(image, proposal)
 }

@@ -30,6 +30,7 @@ mod live;
 mod loads;
 mod plan_texts;
 mod program;
+mod proposals;
 mod replies;
 mod runs;
 mod slots;

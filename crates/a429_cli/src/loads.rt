@@ -2,14 +2,13 @@
 ghost use Rattle.std.specs.Prelude.{◌≡◌, ◌≤◌, IfOk, IfSome};
 ghost use Rattle.a429_console.specs.Readings.{HasRead};
 ghost use Rattle.a429_cli.specs.Loads.{IsLoad, IsLoadOf, above_status, limit_of};
-ghost use Rattle.a429_cli.specs.PlanReplies.{IsNoPlan};
+ghost use Rattle.a429_cli.specs.Proposals.{IsNoPlan};
 ghost use Rattle.a429_cli.specs.WholeReplies.{Replies};
 
+use crate::proposals::propose_file;
 use crate::replies::reply::Reply;
 use a429_console::answered::Found;
 use a429_console::files::FileReader;
-use a429_console::files::reading::read_file;
-use a429_console::planning::propose;
 use a429_console::refusals::Refused;
 use a429_documents::load_sheet;
 use a429_slots::{OUTPUTS, Proposal};
@@ -63,7 +62,6 @@ pub fn load_reply<F: FileReader>(
 ) -> Result<Reply, Refused>
     ensures { HasRead F.answers (λ file. Replies (IsLoadOf file limit form name.now) (IsNoPlan file name.now) result) files.old files.new }
 {
-    let table = read_file(alloc, files, name)?;
-    let proposal = propose(alloc, &table)?;
+    let proposal = propose_file(alloc, files, name)?;
     Ok(load_of(alloc, &proposal, limit, form)?)
 }

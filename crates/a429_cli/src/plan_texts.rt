@@ -4,17 +4,19 @@ ghost use Rattle.std.specs.Io.KnownBytes.{Appends};
 ghost use Rattle.a429_cert.specs.Judged.{IsVerdictOnBytes};
 ghost use Rattle.a429_cert.specs.Printed.{verdict_text};
 ghost use Rattle.a429_console.specs.Readings.{HasRead};
-ghost use Rattle.a429_cli.specs.PlanReplies.{AnswersCheck, IsJudging, IsNoPlan, IsPlanTextOf, IsTextOf, IsUnjudged, IsVerdictReply, verdict_status};
+ghost use Rattle.a429_cli.specs.PlanReplies.{AnswersCheck, IsJudging, IsPlanTextOf, IsTextOf, IsUnjudged, IsVerdictReply, verdict_status};
+ghost use Rattle.a429_cli.specs.Proposals.{IsNoPlan};
 ghost use Rattle.a429_cli.specs.WholeReplies.{Replies};
 ghost use Rattle.a429_console.specs.RefusalText.{OrMemory};
 ghost use Rattle.a429_console.specs.Tables.{IsUnfitNamed};
 
+use crate::proposals::propose_file;
 use crate::replies::reply::Reply;
 use a429_cert::{NoVerdict, Verdict, judge, plan_text};
 use a429_console::answered::{Found, Objection};
 use a429_console::files::FileReader;
 use a429_console::files::reading::read_file;
-use a429_console::planning::{propose, read_table};
+use a429_console::planning::read_table;
 use a429_console::refusals::evidence::TableEvidence;
 use a429_console::refusals::tables::unfit;
 use a429_console::refusals::{CommandRefusal, Refused};
@@ -65,8 +67,7 @@ pub fn plan_reply<F: FileReader>(
 ) -> Result<Reply, Refused>
     ensures { HasRead F.answers (λ file. Replies (IsPlanTextOf file kind name.now) (IsNoPlan file name.now) result) files.old files.new }
 {
-    let table = read_file(alloc, files, name)?;
-    let proposal = propose(alloc, &table)?;
+    let proposal = propose_file(alloc, files, name)?;
     let text = text_of(alloc, kind, &proposal)?;
     Ok(Reply::done(text))
 }

@@ -7,11 +7,11 @@ ghost use Rattle.a429_cli.specs.SlotReplies.{GivesSlots, IsNoSlots, IsSlotsOf, s
 ghost use Rattle.a429_cli.specs.WholeReplies.{Replies};
 
 use crate::drawings::group_asked;
+use crate::proposals::propose_file;
 use crate::replies::reply::Reply;
 use a429_console::arguments::requests::Options;
 use a429_console::files::FileReader;
-use a429_console::files::reading::read_file;
-use a429_console::planning::{propose, with_plan};
+use a429_console::planning::with_plan;
 use a429_console::refusals::Refused;
 use a429_documents::{slot_header, slot_sheet};
 use a429_slots::{OUTPUTS, Proposal};
@@ -90,8 +90,7 @@ pub fn slots_reply<F: FileReader>(
     ensures { HasRead F.answers (λ file. Replies (IsSlotsOf file form name.now (option_copied group.entry))
         (IsNoSlots file name.now (option_copied group.entry)) result) files.old files.new }
 {
-    let table = read_file(alloc, files, name)?;
-    let proposal = propose(alloc, &table)?;
+    let proposal = propose_file(alloc, files, name)?;
     let reply = slots_of(alloc, &proposal, group, form);
     with_plan(reply, proposal)
 }

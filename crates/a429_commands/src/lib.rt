@@ -1,8 +1,5 @@
-//! Callers of commands and of the program that conclude from what these promise, and a test of what a terminal shows
-//! during a run.
+//! Callers of commands and of the program that conclude from what these promise.
 #![tactic(auto)]
 
-#[cfg(test)]
-mod progress;
 pub mod replays;
 pub mod words;

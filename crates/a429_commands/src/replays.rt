@@ -5,17 +5,17 @@ ghost use Rattle.a429_console.specs.MemoryFile.{file_of};
 ghost use Rattle.a429_commands.specs.Replayed.{IsPlayedToTheEnd, IsReplayReply};
 
 use crate::words::run_on_words;
-use a429_cli::{CountedWriter, MemoryFiles, NoProgress, command};
+use a429_cli::{CountedWriter, Hints, MemoryFiles, NoProgress, command};
 use a429_console::laws::plain_words_ask;
-use a429_hints::HintLines;
 use std::alloc::Global;
 use std::sync::Wait;
 use std::thread::Threads;
 
 /// The status of a replay over files in memory, and what it writes, if all of it was taken. With status 0 that is the
 /// answers to all events of the script, from the opening of the table's own plan.
-pub fn replay_in_memory(
+pub fn replay_in_memory<H: Hints>(
     alloc: Global,
+    hints: &H,
     files: &mut MemoryFiles,
     table: &str,
     script: &str,
@@ -29,7 +29,7 @@ pub fn replay_in_memory(
     let words = ["replay", table, script];
     let mut out = CountedWriter::new(Vec::new(alloc));
     let mut err = CountedWriter::new(Vec::new(alloc));
-    let status = command(alloc, &words, &HintLines, files, &mut out, &mut err);
+    let status = command(alloc, &words, hints, files, &mut out, &mut err);
     if out.failures > 0 {
         return None;
     }
@@ -38,8 +38,9 @@ pub fn replay_in_memory(
 
 /// The same by the whole program, on arguments in memory: its path, which need not be text, `replay`, and the two names. It
 /// may wait for threads, since the program may.
-pub fn replay_by_words<R: AllocGlobal + Threads + Wait>(
+pub fn replay_by_words<R: AllocGlobal + Threads + Wait, H: Hints>(
     rt: &R,
+    hints: &H,
     files: &mut MemoryFiles,
     path: &[u8],
     table: &str,
@@ -54,15 +55,7 @@ pub fn replay_by_words<R: AllocGlobal + Threads + Wait>(
     let words: [&[u8]; 4] = [path, b"replay", table.as_bytes(), script.as_bytes()];
     let mut out = CountedWriter::new(Vec::new(rt.alloc()));
     let mut err = CountedWriter::new(Vec::new(rt.alloc()));
-    let status = run_on_words(
-        rt,
-        &words,
-        &HintLines,
-        files,
-        &mut out,
-        &mut err,
-        &NoProgress,
-    );
+    let status = run_on_words(rt, &words, hints, files, &mut out, &mut err, &NoProgress);
     if out.failures > 0 {
         return None;
     }

@@ -8,7 +8,7 @@
 //!
 //! ```text
 //! let table = read_file(alloc, files, name)?;
-//! let proposal = propose(alloc, &table)?;
+//! propose(alloc, &table)
 //! ```
 #![tactic(auto)]
 

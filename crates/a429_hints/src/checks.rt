@@ -35,7 +35,7 @@ pub struct JudgedText<'a> {
 }
 
 /// Says what is wrong with a line of a plan text.
-pub fn tell_objection(judged: JudgedText, objection: Objection, hint: &mut HintText) {
+pub fn tell_objection(judged: JudgedText, objection: Objection, hint: &HintText) {
     let Objection { line, reason } = objection;
     hint.turn_to_line(line);
     if judged.text.starts_with(b"refused ") {
@@ -129,7 +129,7 @@ fn form_of(due: DueLine, version: u32) -> &'static str {
     }
 }
 
-fn tell_form(judged: JudgedText, due: DueLine, line: usize, found: &str, hint: &mut HintText) {
+fn tell_form(judged: JudgedText, due: DueLine, line: usize, found: &str, hint: &HintText) {
     hint.begin(": ");
     if matches!(due, DueLine::End) {
         return hint.end("the text must end before this line");
@@ -147,7 +147,7 @@ fn tell_form(judged: JudgedText, due: DueLine, line: usize, found: &str, hint: &
 }
 
 /// Says which value was found, which was expected, and what that is.
-fn tell_values(judged: JudgedText, due: DueLine, reason: &str, found: &str, hint: &mut HintText) {
+fn tell_values(judged: JudgedText, due: DueLine, reason: &str, found: &str, hint: &HintText) {
     let equipment = judged.equipment;
     match (reason, due) {
         ("bound", DueLine::Bound(group)) => tell_bound(judged, group, found, hint),
@@ -174,7 +174,7 @@ fn tell_values(judged: JudgedText, due: DueLine, reason: &str, found: &str, hint
 }
 
 /// Begins a hint with the value that was found in a line. A place is a bus and an offset.
-fn begin_found(found: &str, reason: &str, hint: &mut HintText) {
+fn begin_found(found: &str, reason: &str, hint: &HintText) {
     hint.begin(": found ");
     if reason == "place" {
         hint.say_number("bus ", number_at(found, "bus"));
@@ -185,14 +185,14 @@ fn begin_found(found: &str, reason: &str, hint: &mut HintText) {
 }
 
 /// Says which value was found in a line, and which number was expected.
-fn tell_number(found: &str, due: u32, reason: &str, hint: &mut HintText) {
+fn tell_number(found: &str, due: u32, reason: &str, hint: &HintText) {
     begin_found(found, reason, hint);
     hint.say_number(", expected ", u64::from(due));
     hint.end_text(": ", meaning(reason));
 }
 
 /// Says which value was found in a line, and which text was expected.
-fn tell_text(found: &str, due: &str, reason: &str, hint: &mut HintText) {
+fn tell_text(found: &str, due: &str, reason: &str, hint: &HintText) {
     begin_found(found, reason, hint);
     hint.say_text(", expected ", due);
     hint.end_text(": ", meaning(reason));
@@ -233,7 +233,7 @@ fn tell_output_value(
     group: usize,
     found: &str,
     reason: &str,
-    hint: &mut HintText,
+    hint: &HintText,
 ) {
     let Some(row) = output_of(equipment, group, found) else {
         return;
@@ -275,7 +275,7 @@ fn demand_of(equipment: &Equipment, group: usize) -> u64 {
 }
 
 /// Says which certificate is expected. Its number of buses is that of the group's line, less 1.
-fn tell_bound(judged: JudgedText, group: NumberedGroup, found: &str, hint: &mut HintText) {
+fn tell_bound(judged: JudgedText, group: NumberedGroup, found: &str, hint: &HintText) {
     let NumberedGroup { number, line } = group;
     let buses = number_at(text_of(judged.text, line), "buses");
     hint.begin(": found `");
@@ -287,7 +287,7 @@ fn tell_bound(judged: JudgedText, group: NumberedGroup, found: &str, hint: &mut 
 }
 
 /// Says which earlier output uses a cell of the output of this line.
-fn tell_shared(judged: JudgedText, due: DueLine, line: usize, found: &str, hint: &mut HintText) {
+fn tell_shared(judged: JudgedText, due: DueLine, line: usize, found: &str, hint: &HintText) {
     let DueLine::Output(group) = due else {
         return;
     };

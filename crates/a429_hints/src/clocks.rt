@@ -4,7 +4,7 @@ use crate::hint::HintText;
 use a429_text::{Sheet, SheetForm};
 
 /// Says that a log has no time in common with that of the words that came in.
-pub fn tell_apart(heard: &str, hint: &mut HintText) {
+pub fn tell_apart(heard: &str, hint: &HintText) {
     hint.begin(": no time is within this log and within ");
     hint.say_quoted("", heard);
     hint.end("; both logs need times of one clock");
@@ -72,7 +72,7 @@ fn look_shifted(sends: Sends) -> bool {
 }
 
 /// Says that a log of what was sent may have another clock than the log of what came in, by the rows of `judge`.
-pub fn tell_clocks(heard: &str, judged: &Sheet, hint: &mut HintText) {
+pub fn tell_clocks(heard: &str, judged: &Sheet, hint: &HintText) {
     let Ok(bytes) = judged.render(hint.alloc, SheetForm::Csv) else {
         return hint.give_up();
     };

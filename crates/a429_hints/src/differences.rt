@@ -10,7 +10,7 @@ use a429_word::Sdi;
 const IN_FIRST: &str = " in the first table";
 
 /// Says what differs first between a further table and the first table, with both values.
-pub fn tell_difference(table: &str, running: &Equipment, other: &Equipment, hint: &mut HintText) {
+pub fn tell_difference(table: &str, running: &Equipment, other: &Equipment, hint: &HintText) {
     hint.begin(": its station differs from that of ");
     match printable_name(hint.alloc, table) {
         Ok(shown) => hint.say(shown.as_str()),
@@ -27,7 +27,7 @@ pub fn tell_difference(table: &str, running: &Equipment, other: &Equipment, hint
 }
 
 /// Says both numbers if they differ, and answers whether they do.
-fn tell_count(what: &str, running: usize, other: usize, hint: &mut HintText) -> bool {
+fn tell_count(what: &str, running: usize, other: usize, hint: &HintText) -> bool {
     if running == other {
         return false;
     }
@@ -39,7 +39,7 @@ fn tell_count(what: &str, running: usize, other: usize, hint: &mut HintText) -> 
 }
 
 /// Says both names of a row if they differ, and answers whether they do.
-fn tell_name(kind: &str, place: usize, own: &str, found: &str, hint: &mut HintText) -> bool {
+fn tell_name(kind: &str, place: usize, own: &str, found: &str, hint: &HintText) -> bool {
     if own == found {
         return false;
     }
@@ -52,7 +52,7 @@ fn tell_name(kind: &str, place: usize, own: &str, found: &str, hint: &mut HintTe
 }
 
 /// Says which receiver differs first, in its name or its filters, and answers whether one does.
-fn tell_receivers(running: &[ReceiverRow], other: &[ReceiverRow], hint: &mut HintText) -> bool {
+fn tell_receivers(running: &[ReceiverRow], other: &[ReceiverRow], hint: &HintText) -> bool {
     for (place, (own, found)) in running.iter().zip(other).enumerate() {
         if tell_name(
             "receiver",
@@ -69,7 +69,7 @@ fn tell_receivers(running: &[ReceiverRow], other: &[ReceiverRow], hint: &mut Hin
 }
 
 /// Says both lists of filters of a receiver if they differ, and answers whether they do.
-fn tell_filters(own: &ReceiverRow, found: &ReceiverRow, hint: &mut HintText) -> bool {
+fn tell_filters(own: &ReceiverRow, found: &ReceiverRow, hint: &HintText) -> bool {
     let are_same = match (own.filters.list(), found.filters.list()) {
         (None, None) => true,
         (Some(own), Some(found)) => own == found,
@@ -86,7 +86,7 @@ fn tell_filters(own: &ReceiverRow, found: &ReceiverRow, hint: &mut HintText) -> 
 }
 
 /// Says words, and the filters of a receiver as a table writes them.
-fn say_filters(words: &str, filters: &FilterSet, hint: &mut HintText) {
+fn say_filters(words: &str, filters: &FilterSet, hint: &HintText) {
     hint.say(words);
     let Some(filters) = filters.list() else {
         return hint.say("no key `filters`");
@@ -103,7 +103,7 @@ fn say_filters(words: &str, filters: &FilterSet, hint: &mut HintText) {
 }
 
 /// Says which source differs first, and answers whether one does.
-fn tell_sources(running: &Equipment, other: &Equipment, hint: &mut HintText) -> bool {
+fn tell_sources(running: &Equipment, other: &Equipment, hint: &HintText) -> bool {
     let (own, found) = (running.sources(), other.sources());
     for (place, (a, b)) in own.iter().zip(found).enumerate() {
         if tell_source(running.receivers(), place, a, b, hint) {
@@ -119,7 +119,7 @@ fn tell_source(
     place: usize,
     own: &SourceRow,
     found: &SourceRow,
-    hint: &mut HintText,
+    hint: &HintText,
 ) -> bool {
     if tell_name(
         "source",
@@ -152,7 +152,7 @@ fn tell_source(
 }
 
 /// Says words, and an SDI as a table writes it.
-fn say_sdi(words: &str, sdi: Option<Sdi>, hint: &mut HintText) {
+fn say_sdi(words: &str, sdi: Option<Sdi>, hint: &HintText) {
     match sdi {
         Some(sdi) => hint.say_value(words, sdi),
         None => hint.say_text(words, "any"),
@@ -168,7 +168,7 @@ fn receiver_name<'a>(receivers: &'a [ReceiverRow], number: usize) -> &'a str {
 }
 
 /// Says which group differs first, in its name or its bit rate, and answers whether one does.
-fn tell_groups(running: &[GroupRow], other: &[GroupRow], hint: &mut HintText) -> bool {
+fn tell_groups(running: &[GroupRow], other: &[GroupRow], hint: &HintText) -> bool {
     for (place, (own, found)) in running.iter().zip(other).enumerate() {
         if tell_name("group", place, own.name.as_str(), found.name.as_str(), hint)
             || tell_rate(own, found, hint)
@@ -180,7 +180,7 @@ fn tell_groups(running: &[GroupRow], other: &[GroupRow], hint: &mut HintText) ->
 }
 
 /// Says both bit rates of a group if they differ, and answers whether they do.
-fn tell_rate(own: &GroupRow, found: &GroupRow, hint: &mut HintText) -> bool {
+fn tell_rate(own: &GroupRow, found: &GroupRow, hint: &HintText) -> bool {
     if own.rate == found.rate {
         return false;
     }

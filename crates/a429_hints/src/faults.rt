@@ -18,7 +18,7 @@ pub const SAME_SOURCE: &str =
 
 /// Says what is at each place of a table with a fault of this kind, and what must be there. No line is named: the reader
 /// of TOML reports the line and the column only for what it refuses itself.
-pub fn tell_table_fault(document: &RefusedTable, kind: FaultKind, hint: &mut HintText) {
+pub fn tell_table_fault(document: &RefusedTable, kind: FaultKind, hint: &HintText) {
     match document {
         RefusedTable::Tree(root) => tell_places(root, kind, hint),
         RefusedTable::NotToml(error) => match error.to_string(hint.alloc) {
@@ -32,7 +32,7 @@ pub fn tell_table_fault(document: &RefusedTable, kind: FaultKind, hint: &mut Hin
     }
 }
 
-fn tell_places(root: &Value, kind: FaultKind, hint: &mut HintText) {
+fn tell_places(root: &Value, kind: FaultKind, hint: &HintText) {
     let Ok(places) = places_of(hint.alloc, root, kind) else {
         return hint.give_up();
     };
@@ -45,13 +45,13 @@ fn tell_places(root: &Value, kind: FaultKind, hint: &mut HintText) {
 }
 
 /// Begins a line about a row of a table.
-fn begin_row(row: &TableRow, words: &str, hint: &mut HintText) {
+fn begin_row(row: &TableRow, words: &str, hint: &HintText) {
     hint.begin(": ");
     say_row("", row, hint);
     hint.say(words);
 }
 
-fn tell_row(kind: FaultKind, row: &TableRow, hint: &mut HintText) {
+fn tell_row(kind: FaultKind, row: &TableRow, hint: &HintText) {
     match kind {
         FaultKind::UnknownKey => tell_unknown_keys(row, hint),
         FaultKind::UnknownName => tell_unknown_name(row, hint),
@@ -68,7 +68,7 @@ fn tell_row(kind: FaultKind, row: &TableRow, hint: &mut HintText) {
 }
 
 /// Says with which earlier row a row clashes, and in what.
-fn tell_twin(kind: FaultKind, what: &str, row: &TableRow, hint: &mut HintText) {
+fn tell_twin(kind: FaultKind, what: &str, row: &TableRow, hint: &HintText) {
     if let Some(twin) = twin_of(row, kind) {
         begin_row(row, " and ", hint);
         say_row("", &twin, hint);
@@ -77,7 +77,7 @@ fn tell_twin(kind: FaultKind, what: &str, row: &TableRow, hint: &mut HintText) {
 }
 
 /// Says what is wrong with each value of a row that has a fault of its own.
-fn tell_values(kind: FaultKind, row: &TableRow, hint: &mut HintText) {
+fn tell_values(kind: FaultKind, row: &TableRow, hint: &HintText) {
     if !row.value.is_table() {
         begin_row(row, " is ", hint);
         say_found("", Some(row.value), hint);
@@ -96,7 +96,7 @@ fn tell_values(kind: FaultKind, row: &TableRow, hint: &mut HintText) {
 }
 
 /// Says what is at a key, and what must be there.
-fn tell_value(column: &Column, row: &TableRow, found: Option<&Value>, hint: &mut HintText) {
+fn tell_value(column: &Column, row: &TableRow, found: Option<&Value>, hint: &HintText) {
     begin_row(row, ": `", hint);
     hint.say(column.key);
     match (found, column.shape) {
@@ -114,7 +114,7 @@ fn tell_value(column: &Column, row: &TableRow, found: Option<&Value>, hint: &mut
 }
 
 /// Says which end of an interval has a fault.
-fn tell_interval(row: &TableRow, hint: &mut HintText) {
+fn tell_interval(row: &TableRow, hint: &HintText) {
     let (Some(Value::Integer(min_us)), Some(Value::Integer(max_us))) = (
         row.value.get("min_us"),
         row.value.get("max_us"),
@@ -141,7 +141,7 @@ fn tell_interval(row: &TableRow, hint: &mut HintText) {
 }
 
 /// Says which array has the version of a table, if a row has it instead of the top.
-fn tell_late_version(row: &TableRow, hint: &mut HintText) {
+fn tell_late_version(row: &TableRow, hint: &HintText) {
     for key in ["receiver", "source", "group"] {
         if has_version_in(row.root, key) {
             hint.begin(": `version` is after a [[");
@@ -162,7 +162,7 @@ fn has_version_in(root: &Value, key: &str) -> bool {
 }
 
 /// Says what is wrong with the first filter of a receiver that is not a text of the form LLL/MMM.
-fn tell_filter(kind: FaultKind, row: &TableRow, hint: &mut HintText) {
+fn tell_filter(kind: FaultKind, row: &TableRow, hint: &HintText) {
     for (number, filter) in rows_at(row.value, "filters").iter().enumerate() {
         if is_faulty_filter(kind, filter) {
             begin_row(row, ": filter ", hint);
@@ -185,7 +185,7 @@ fn is_faulty_filter(kind: FaultKind, filter: &Value) -> bool {
 }
 
 /// Names each key that a row must not have, the keys that it can have, and the right place of the key or the nearest key.
-fn tell_unknown_keys(row: &TableRow, hint: &mut HintText) {
+fn tell_unknown_keys(row: &TableRow, hint: &HintText) {
     let Value::Table(table) = row.value else {
         return;
     };
@@ -197,7 +197,7 @@ fn tell_unknown_keys(row: &TableRow, hint: &mut HintText) {
     }
 }
 
-fn tell_unknown_key(version: TableVersion, row: &TableRow, key: &str, hint: &mut HintText) {
+fn tell_unknown_key(version: TableVersion, row: &TableRow, key: &str, hint: &HintText) {
     begin_row(row, ": ", hint);
     hint.say_quoted("unknown key ", key);
     hint.say_value("; the keys in version ", version.number());
@@ -213,7 +213,7 @@ fn tell_unknown_key(version: TableVersion, row: &TableRow, key: &str, hint: &mut
 }
 
 /// Says which key is the nearest to an unknown one, and ends the line.
-fn say_nearest_key(version: TableVersion, place: TablePlace, key: &str, hint: &mut HintText) {
+fn say_nearest_key(version: TableVersion, place: TablePlace, key: &str, hint: &HintText) {
     let shown = short_text(key);
     let mut nearest = Nearest::to(shown.as_str());
     for column in columns_of(version, place) {
@@ -256,7 +256,7 @@ fn has_key(version: TableVersion, place: TablePlace, text: &str) -> bool {
 }
 
 /// Says which name of a row is unknown, and which name is the nearest.
-fn tell_unknown_name(row: &TableRow, hint: &mut HintText) {
+fn tell_unknown_name(row: &TableRow, hint: &HintText) {
     let key = match row.place {
         TablePlace::Source(_) => "receiver",
         _ => "source",

@@ -8,7 +8,7 @@ pub const REFUSED_OUTPUT: &str =
     "this is the output of a command that refused its file; correct that, and run the command again";
 
 /// Says why the file of this name cannot be read.
-pub fn tell_trouble(trouble: FileTrouble, name: &str, hint: &mut HintText) {
+pub fn tell_trouble(trouble: FileTrouble, name: &str, hint: &HintText) {
     hint.turn_to(name);
     if let FileTrouble::TooLarge(most) = trouble {
         hint.begin(": ");

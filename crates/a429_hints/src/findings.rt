@@ -47,7 +47,7 @@ fn has_row(rows: &Rows, kind: &str) -> bool {
 }
 
 /// Says what to do about each kind of finding in the rows of `lint`, one line a kind.
-pub fn tell_findings(rows: &Rows, hint: &mut HintText) {
+pub fn tell_findings(rows: &Rows, hint: &HintText) {
     for kind in KINDS.split(' ') {
         if has_row(rows, kind) {
             hint.begin(": ");

@@ -12,7 +12,7 @@ use std::alloc::{AllocError, Global};
 use std::cmp::min;
 
 /// Says which of the texts HEADING=COLUMN is not met. If all are, names each column that the heading lacks or has twice.
-pub fn tell_heading(sheet: Sheet, maps: &[&str], hint: &mut HintText) {
+pub fn tell_heading(sheet: Sheet, maps: &[&str], hint: &HintText) {
     hint.turn_to_line(sheet.titles.number as usize);
     let mut are_met = true;
     for text in maps {
@@ -27,7 +27,7 @@ pub fn tell_heading(sheet: Sheet, maps: &[&str], hint: &mut HintText) {
 }
 
 /// Says why a text HEADING=COLUMN is not met.
-fn tell_map(titles: &CsvLine, text: &str, hint: &mut HintText) {
+fn tell_map(titles: &CsvLine, text: &str, hint: &HintText) {
     hint.begin(": --map ");
     hint.say_quoted("", text);
     let column = column_in(text);
@@ -48,7 +48,7 @@ fn tell_map(titles: &CsvLine, text: &str, hint: &mut HintText) {
 }
 
 /// Names each column that the heading lacks or has twice.
-fn tell_columns(sheet: Sheet, hint: &mut HintText) {
+fn tell_columns(sheet: Sheet, hint: &HintText) {
     let mut unlike: usize = 0;
     for column in IMPORT_COLUMNS.as_slice() {
         let times = times_in(&sheet.heading.line, *column);
@@ -64,7 +64,7 @@ fn tell_columns(sheet: Sheet, hint: &mut HintText) {
 }
 
 /// Names the columns that the heading lacks and that no field is like, and the fields of the heading.
-fn tell_unlike(sheet: Sheet, count: usize, hint: &mut HintText) {
+fn tell_unlike(sheet: Sheet, count: usize, hint: &HintText) {
     hint.begin(if count == 1 {
         ": this column is missing:"
     } else {
@@ -81,7 +81,7 @@ fn tell_unlike(sheet: Sheet, count: usize, hint: &mut HintText) {
 }
 
 /// Says how many times the heading has a column.
-fn tell_twice(name: &str, times: usize, hint: &mut HintText) {
+fn tell_twice(name: &str, times: usize, hint: &HintText) {
     hint.begin(": the column ");
     hint.say(name);
     hint.say_count(" is in the heading ", times);
@@ -89,7 +89,7 @@ fn tell_twice(name: &str, times: usize, hint: &mut HintText) {
 }
 
 /// Says that the heading lacks a column, and which field is like it. The answer is whether one is.
-fn tell_missing(sheet: Sheet, name: &str, hint: &mut HintText) -> bool {
+fn tell_missing(sheet: Sheet, name: &str, hint: &HintText) -> bool {
     let Some(near) = nearest_field(hint.alloc, sheet.titles, name) else {
         return false;
     };
@@ -103,7 +103,7 @@ fn tell_missing(sheet: Sheet, name: &str, hint: &mut HintText) -> bool {
 }
 
 /// Names the fields of a heading.
-fn say_fields(titles: &CsvLine, hint: &mut HintText) {
+fn say_fields(titles: &CsvLine, hint: &HintText) {
     hint.say("; the heading has");
     for place in 0..min(titles.len(), LISTED) {
         hint.say_quoted(" ", text_of(titles.field(place)));
@@ -160,7 +160,7 @@ fn nearest_field<'a>(alloc: Global, titles: &'a CsvLine, name: &'a str) -> Optio
 }
 
 /// Says which field of a heading is nearest to a name.
-fn say_nearest_field(titles: &CsvLine, name: &str, hint: &mut HintText) {
+fn say_nearest_field(titles: &CsvLine, name: &str, hint: &HintText) {
     if let Some(near) = nearest_field(hint.alloc, titles, name) {
         hint.say_quoted("; the nearest is ", near);
     }

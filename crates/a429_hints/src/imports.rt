@@ -11,8 +11,8 @@ use a429_console::refusals::evidence::RowsEvidence;
 use a429_console::refusals::{CommandRefusal, CsvKind};
 use a429_filter::Filter;
 use a429_import::{
-    CsvLine, Heading, ImportColumn, LineCount, column_in, csv_lines, form_fault, is_column_named,
-    made_name, named_by,
+    CsvLine, Heading, IMPORT_COLUMNS, ImportColumn, LineCount, column_in, csv_lines, form_fault,
+    is_column_named, made_name, named_by,
 };
 
 /// How many bytes of a file are read for a hint.
@@ -28,7 +28,7 @@ pub fn tell_rows(
     maps: &[&str],
     makes_names: bool,
     evidence: &RowsEvidence,
-    hint: &mut HintText,
+    hint: &HintText,
 ) {
     if let Some(kind) = other_rows(&evidence.bytes) {
         return hint.say_line(kind);
@@ -62,7 +62,7 @@ fn tell_lines(
     maps: &[&str],
     makes_names: bool,
     evidence: &RowsEvidence,
-    hint: &mut HintText,
+    hint: &HintText,
 ) {
     let Ok(named) = named_by(hint.alloc, maps, titles) else {
         return hint.give_up();
@@ -86,7 +86,7 @@ fn tell_lines(
 }
 
 /// Says that a row has too many fields. The row is not read for it.
-fn tell_wide(line: u64, hint: &mut HintText) {
+fn tell_wide(line: u64, hint: &HintText) {
     hint.turn_to_line(line as usize);
     hint.say_line(
         "the row has more than 100000 fields; spreadsheet programs have at most 16384 columns",
@@ -116,18 +116,29 @@ fn other_rows(bytes: &[u8]) -> Option<&'static str> {
     other_file(bytes)
 }
 
+/// The column that is at fault.
+fn column_of(evidence: &RowsEvidence) -> Option<ImportColumn> {
+    let name = evidence.column?;
+    for column in IMPORT_COLUMNS.as_slice() {
+        if column.name() == name {
+            return Some(*column);
+        }
+    }
+    None
+}
+
 /// Says what is wrong with the first faulty row, and with the next ones that are faulty by themselves.
 fn tell_faulty_rows(
     sheet: Sheet,
     line: u64,
     kind: CsvKind,
     evidence: &RowsEvidence,
-    hint: &mut HintText,
+    hint: &HintText,
 ) {
     let Some(row) = sheet.row_on(line) else {
         return;
     };
-    match (evidence.column, kind) {
+    match (column_of(evidence), kind) {
         (None, _) if has_open_quote(&evidence.bytes, line) => {
             begin_row(row, ": ", hint);
             return hint.end("the row has a quote that is not closed");
@@ -140,7 +151,7 @@ fn tell_faulty_rows(
 }
 
 /// Says what is wrong with rows after a line that are faulty by themselves.
-fn tell_later_rows(sheet: Sheet, line: u64, hint: &mut HintText) {
+fn tell_later_rows(sheet: Sheet, line: u64, hint: &HintText) {
     let mut faulty: usize = 1;
     for row in sheet.rows {
         if row.number <= line {
@@ -160,15 +171,15 @@ fn tell_later_rows(sheet: Sheet, line: u64, hint: &mut HintText) {
 }
 
 /// Says what is wrong with a row by itself: the column that does not have its form, or the number of its fields.
-fn tell_fault(sheet: Sheet, row: &CsvLine, column: Option<ImportColumn>, hint: &mut HintText) {
+fn tell_fault(sheet: Sheet, row: &CsvLine, column: Option<ImportColumn>, hint: &HintText) {
     match column {
-        Some(column) => tell_form(sheet, row, column.name(), hint),
+        Some(column) => tell_form(sheet, row, column, hint),
         None => tell_count(sheet, row, hint),
     }
 }
 
 /// Says how many fields a row has, and how many the heading has.
-fn tell_count(sheet: Sheet, row: &CsvLine, hint: &mut HintText) {
+fn tell_count(sheet: Sheet, row: &CsvLine, hint: &HintText) {
     begin_row(row, ": the row has ", hint);
     hint.say_count("", row.len());
     hint.say_count(" fields, but the heading has ", sheet.titles.len());
@@ -189,15 +200,15 @@ fn has_open_quote(bytes: &[u8], line: u64) -> bool {
 }
 
 /// Says what is wrong with a field that does not have the form of its column.
-fn tell_form(sheet: Sheet, row: &CsvLine, column: &str, hint: &mut HintText) {
+fn tell_form(sheet: Sheet, row: &CsvLine, column: ImportColumn, hint: &HintText) {
     let Ok(text) = str::from_utf8(sheet.field(row, column)) else {
         begin_column(sheet, row, column, hint);
         return hint.end("the field is not UTF-8: save the file as UTF-8");
     };
-    if is_of_output(column) && sheet.field(row, "group").is_empty() {
+    if is_of_output(column) && sheet.field(row, ImportColumn::Group).is_empty() {
         return tell_no_group(sheet, row, column, text, hint);
     }
-    if column != "filters" {
+    if column != ImportColumn::Filters {
         return tell_field(sheet, row, column, text, hint);
     }
     for part in text.split(' ') {
@@ -208,23 +219,23 @@ fn tell_form(sheet: Sheet, row: &CsvLine, column: &str, hint: &mut HintText) {
 }
 
 /// The column that names the owner of a column: a source, a receiver or a group.
-fn owner_of(column: &str) -> &'static str {
+fn owner_of(column: ImportColumn) -> ImportColumn {
     match column {
-        "filters" => "receiver",
-        "rate" => "group",
-        _ => "source",
+        ImportColumn::Filters => ImportColumn::Receiver,
+        ImportColumn::Rate => ImportColumn::Group,
+        _ => ImportColumn::Source,
     }
 }
 
 /// Says why a row differs from an earlier one: their texts become one name, or it contradicts that row.
-fn tell_differs(sheet: Sheet, row: &CsvLine, column: &str, hint: &mut HintText) {
+fn tell_differs(sheet: Sheet, row: &CsvLine, column: ImportColumn, hint: &HintText) {
     if !(sheet.makes_names && is_of_names(column) && tell_twin_text(sheet, row, column, hint)) {
         tell_difference(sheet, row, column, hint);
     }
 }
 
 /// Says which earlier text of a column becomes the same name as that of a row. The answer is whether there is one.
-fn tell_twin_text(sheet: Sheet, row: &CsvLine, column: &str, hint: &mut HintText) -> bool {
+fn tell_twin_text(sheet: Sheet, row: &CsvLine, column: ImportColumn, hint: &HintText) -> bool {
     let text = sheet.text(row, column);
     let Ok(name) = made_name(hint.alloc, text) else {
         hint.give_up();
@@ -249,9 +260,9 @@ fn tell_twin_text(sheet: Sheet, row: &CsvLine, column: &str, hint: &mut HintText
 /// The first row whose text in a column becomes this name.
 fn first_of_name<'a>(
     sheet: Sheet<'a>,
-    column: &str,
+    column: ImportColumn,
     name: &[u8],
-    hint: &mut HintText,
+    hint: &HintText,
 ) -> Option<&'a CsvLine> {
     for row in sheet.rows {
         match made_name(hint.alloc, sheet.text(row, column)) {
@@ -264,13 +275,13 @@ fn first_of_name<'a>(
 }
 
 /// Says in what a row contradicts an earlier one.
-fn tell_difference(sheet: Sheet, row: &CsvLine, column: &str, hint: &mut HintText) {
+fn tell_difference(sheet: Sheet, row: &CsvLine, column: ImportColumn, hint: &HintText) {
     let owner = owner_of(column);
     let name = sheet.field(row, owner);
     for earlier in sheet.rows {
         if sheet.field(earlier, owner) == name {
             begin_column(sheet, row, column, hint);
-            hint.say(owner);
+            hint.say(owner.name());
             hint.say_quoted(" ", sheet.text(row, owner));
             hint.say_quoted(" has ", sheet.text(row, column));
             hint.say_quoted(" on this line, but ", sheet.text(earlier, column));
@@ -294,7 +305,7 @@ fn heading_for<'a>(maps: &[&'a str], column: ImportColumn) -> &'a str {
 }
 
 /// Says that the intervals of a group may be milliseconds, and which columns are in milliseconds.
-pub fn tell_short_intervals(group: &str, maps: &[&str], hint: &mut HintText) {
+pub fn tell_short_intervals(group: &str, maps: &[&str], hint: &HintText) {
     hint.begin(": the intervals of group ");
     hint.say_text(group, " are all below 1000 us, and none allows a period");
     hint.say("; if they are in ms, name the columns min_ms and max_ms, or give --map \"");

@@ -19,13 +19,13 @@ pub fn has_name(names: &[String], name: &str) -> bool {
 }
 
 /// Says that a name is unknown, which name is the nearest, and which names there are.
-pub fn tell_names(kind: &str, name: &str, names: &[String], hint: &mut HintText) {
+pub fn tell_names(kind: &str, name: &str, names: &[String], hint: &HintText) {
     begin_names(kind, name, names, hint);
     hint.end("");
 }
 
 /// The same, and the line goes on.
-pub fn begin_names(kind: &str, name: &str, names: &[String], hint: &mut HintText) {
+pub fn begin_names(kind: &str, name: &str, names: &[String], hint: &HintText) {
     hint.begin(": no ");
     hint.say_text(kind, " has the name ");
     hint.say_quoted("", name);
@@ -51,7 +51,7 @@ pub fn nearest_of<'a>(alloc: Global, text: &'a str, names: &'a [String]) -> Opti
 }
 
 /// Says which of these names is the nearest to a name.
-fn say_nearest(name: &str, names: &[String], hint: &mut HintText) {
+fn say_nearest(name: &str, names: &[String], hint: &HintText) {
     let shown = short_text(name);
     if let Some(near) = nearest_of(hint.alloc, shown.as_str(), names) {
         hint.say_text("; the nearest is ", near);
@@ -59,7 +59,7 @@ fn say_nearest(name: &str, names: &[String], hint: &mut HintText) {
 }
 
 /// Says how many names are not listed, if there are any.
-pub fn say_more(count: usize, hint: &mut HintText) {
+pub fn say_more(count: usize, hint: &HintText) {
     if count > LISTED {
         hint.say_count(" and ", count - LISTED);
         hint.say(" more");

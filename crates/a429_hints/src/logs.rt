@@ -37,7 +37,7 @@ pub fn tell_log_line<'a>(
     line: &'a LineEvidence,
     log: &LogEvidence,
     channels: &'a [&'a str],
-    hint: &mut HintText,
+    hint: &HintText,
 ) {
     if let Some(kind) = other_file(&line.bytes) {
         return hint.say_line(kind);
@@ -125,7 +125,7 @@ fn tell_unknown(
     bus: Option<&str>,
     read: &ReadLine<'_>,
     names: &[String],
-    hint: &mut HintText,
+    hint: &HintText,
 ) {
     begin_names(kind, name, names, hint);
     let channel = channel_in(read);
@@ -140,7 +140,7 @@ fn tell_unknown(
 }
 
 /// Says the name that a channel may have: the nearest of these, or the only one.
-fn say_likely(name: &str, names: &[String], hint: &mut HintText) {
+fn say_likely(name: &str, names: &[String], hint: &HintText) {
     let shown = short_text(name);
     if let Some(near) = nearest_of(hint.alloc, shown.as_str(), names) {
         return hint.say_text("=", near);
@@ -152,13 +152,7 @@ fn say_likely(name: &str, names: &[String], hint: &mut HintText) {
 }
 
 /// Says the value of `--channel` that takes a channel as the nearest of these names.
-fn say_channel(
-    channel: &str,
-    name: &str,
-    bus: Option<&str>,
-    names: &[String],
-    hint: &mut HintText,
-) {
+fn say_channel(channel: &str, name: &str, bus: Option<&str>, names: &[String], hint: &HintText) {
     let Some(quote) = quotes_of(channel) else {
         return hint.say("FROM=NAME");
     };
@@ -188,7 +182,7 @@ fn quotes_of(text: &str) -> Option<&'static str> {
 }
 
 /// Says that no group has the name of a word, or that the group has no bus of its number.
-fn tell_group(line: &LineEvidence, read: &ReadLine<'_>, hint: &mut HintText) {
+fn tell_group(line: &LineEvidence, read: &ReadLine<'_>, hint: &HintText) {
     let name = name_in(read);
     if has_name(&line.receivers, name) && !has_name(&line.groups, name) {
         hint.begin(": ");
@@ -227,7 +221,7 @@ fn names_of(column: Column) -> &'static str {
 }
 
 /// Says that a line belongs to another kind of file, by its first field, and answers whether it does.
-fn tell_first_field(line: &LineEvidence, read: &ReadLine<'_>, hint: &mut HintText) -> bool {
+fn tell_first_field(line: &LineEvidence, read: &ReadLine<'_>, hint: &HintText) -> bool {
     let first = field(read, 0);
     if is_script_word(first) {
         hint.begin(": this is a line of a script");
@@ -241,7 +235,7 @@ fn tell_first_field(line: &LineEvidence, read: &ReadLine<'_>, hint: &mut HintTex
 }
 
 /// Says what is wrong with a heading.
-fn tell_heading(fault: HeadingFault, hint: &mut HintText) {
+fn tell_heading(fault: HeadingFault, hint: &HintText) {
     match fault {
         HeadingFault::Lacks(column) => {
             hint.begin(": the line begins with no digit, so it is read as a heading");
@@ -256,7 +250,7 @@ fn tell_heading(fault: HeadingFault, hint: &mut HintText) {
 }
 
 /// Says what is wrong with a row.
-fn tell_row(line: &LineEvidence, read: &ReadLine<'_>, fault: RowFault, hint: &mut HintText) {
+fn tell_row(line: &LineEvidence, read: &ReadLine<'_>, fault: RowFault, hint: &HintText) {
     match fault {
         RowFault::Fields => tell_count(read, hint),
         RowFault::Time => tell_time(read, hint),
@@ -271,7 +265,7 @@ fn tell_row(line: &LineEvidence, read: &ReadLine<'_>, fault: RowFault, hint: &mu
 }
 
 /// Says how many fields a line has, and how many it has to have.
-fn tell_count(read: &ReadLine<'_>, hint: &mut HintText) {
+fn tell_count(read: &ReadLine<'_>, hint: &HintText) {
     let needed = read.places.map_or(3, |places| places.count);
     hint.begin(": ");
     hint.say_count("the number of fields is ", count(read));
@@ -295,7 +289,7 @@ fn is_number(text: &str) -> bool {
 }
 
 /// Says what is wrong with the form of a time.
-fn tell_time(read: &ReadLine<'_>, hint: &mut HintText) {
+fn tell_time(read: &ReadLine<'_>, hint: &HintText) {
     let time = time_in(read);
     hint.begin(": ");
     hint.say_quoted("", time);
@@ -321,7 +315,7 @@ fn tell_time(read: &ReadLine<'_>, hint: &mut HintText) {
 }
 
 /// Says that a time is less than the time before it.
-fn tell_fall(line: &LineEvidence, read: &ReadLine<'_>, hint: &mut HintText) {
+fn tell_fall(line: &LineEvidence, read: &ReadLine<'_>, hint: &HintText) {
     let before = str::from_utf8(&line.before).unwrap_or("");
     let earlier = time_in(&ReadLine {
         text: before,
@@ -345,7 +339,7 @@ fn tell_fall(line: &LineEvidence, read: &ReadLine<'_>, hint: &mut HintText) {
 }
 
 /// Says what is wrong with a word.
-fn tell_word(read: &ReadLine<'_>, hint: &mut HintText) {
+fn tell_word(read: &ReadLine<'_>, hint: &HintText) {
     let place = match read.places.map(|places| places.word) {
         Some(WordPlaces::Whole(place)) => place,
         _ => 2,
@@ -358,7 +352,7 @@ fn tell_word(read: &ReadLine<'_>, hint: &mut HintText) {
 }
 
 /// Says that a log, or the time of `--until`, takes too many frames of a group.
-pub fn tell_too_long(until: Option<u64>, hint: &mut HintText) {
+pub fn tell_too_long(until: Option<u64>, hint: &HintText) {
     match until {
         Some(until) => {
             hint.begin(": from the first word until ");
@@ -374,7 +368,7 @@ pub fn tell_too_long(until: Option<u64>, hint: &mut HintText) {
 }
 
 /// Says that words come more closely than a bus can carry them, and with which unit their times would be longer.
-pub fn tell_close_words(receiver: &str, unit: TimeUnit, hint: &mut HintText) {
+pub fn tell_close_words(receiver: &str, unit: TimeUnit, hint: &HintText) {
     hint.begin(": more than 100 words in a row come to receiver ");
     hint.say(receiver);
     hint.say(" less than 360 us apart, which is too close even for 100 kbit/s");

@@ -7,7 +7,7 @@ use a429_console::arguments::forms::commands;
 use std::alloc::{AllocError, Global};
 
 /// Says which command or which option is nearest to an unknown one.
-pub fn tell_nearest_word(words: &[&str], hint: &mut HintText) {
+pub fn tell_nearest_word(words: &[&str], hint: &HintText) {
     let (Ok(commands), Ok(options)) = (command_names(hint.alloc), option_names(hint.alloc)) else {
         return hint.give_up();
     };
@@ -27,7 +27,7 @@ pub fn tell_nearest_word(words: &[&str], hint: &mut HintText) {
 
 /// Says how to write what other programs take: the name of a file for the answer, a number with `%`, or a negative number
 /// after an option.
-pub fn tell_habits(words: &[&str], hint: &mut HintText) {
+pub fn tell_habits(words: &[&str], hint: &HintText) {
     let mut before = "";
     for word in words {
         if word.ends_with(".svg") || word.ends_with(".html") {
@@ -77,7 +77,7 @@ fn add_name(hyphens: &str, name: &str, names: &mut String) -> Result<(), AllocEr
 }
 
 /// Says which name of this kind is nearest to an argument, if the argument is not such a name.
-fn tell_nearest(kind: &str, names: &str, word: &str, hint: &mut HintText) {
+fn tell_nearest(kind: &str, names: &str, word: &str, hint: &HintText) {
     let shown = short_text(word);
     let shown = shown.as_str();
     match Nearest::among(hint.alloc, shown, names).name() {

@@ -24,14 +24,14 @@ impl Interval {
 }
 
 /// Says words, and a time in slots with thousandths. The time is given as microseconds times bit/s.
-fn say_slots(words: &str, time: u64, hint: &mut HintText) {
+fn say_slots(words: &str, time: u64, hint: &HintText) {
     let (whole, thousandths) = (time / SLOT_TIME, time % SLOT_TIME / (SLOT_TIME / 1000));
     hint.say(words);
     write!(hint, "{whole}.{thousandths:03}");
 }
 
 /// Says how long an interval is in slots, and that it has no period.
-pub fn tell_unfit_briefly(interval: Interval, hint: &mut HintText) {
+pub fn tell_unfit_briefly(interval: Interval, hint: &HintText) {
     hint.say_number(": ", u64::from(interval.min_us));
     hint.say_number(" to ", u64::from(interval.max_us));
     say_slots(" us are ", interval.slot_time(interval.min_us), hint);
@@ -42,7 +42,7 @@ pub fn tell_unfit_briefly(interval: Interval, hint: &mut HintText) {
 
 /// Says which periods are next to an interval and which bound would allow each. If the interval has a period when read as
 /// milliseconds, says that too.
-pub fn tell_unfit(interval: Interval, hint: &mut HintText) {
+pub fn tell_unfit(interval: Interval, hint: &HintText) {
     tell_period_below(interval, hint);
     tell_period_above(interval, hint);
     let (Some(min_us), Some(max_us)) = (
@@ -64,7 +64,7 @@ pub fn tell_unfit(interval: Interval, hint: &mut HintText) {
 }
 
 /// Says which minimum interval would allow the next shorter period, if there is one.
-fn tell_period_below(interval: Interval, hint: &mut HintText) {
+fn tell_period_below(interval: Interval, hint: &HintText) {
     let shortest = interval.slot_time(interval.min_us);
     for slots in PERIODS.iter().rev() {
         let time = slots.saturating_mul(SLOT_TIME);
@@ -76,7 +76,7 @@ fn tell_period_below(interval: Interval, hint: &mut HintText) {
 }
 
 /// Says which maximum interval would allow the next longer period, if there is one.
-fn tell_period_above(interval: Interval, hint: &mut HintText) {
+fn tell_period_above(interval: Interval, hint: &HintText) {
     let longest = interval.slot_time(interval.max_us);
     for slots in &PERIODS {
         let time = slots.saturating_mul(SLOT_TIME);
@@ -88,7 +88,7 @@ fn tell_period_above(interval: Interval, hint: &mut HintText) {
 }
 
 /// Says which bound of an interval would allow a period.
-fn tell_bound(words: &str, us: u64, slots: u64, hint: &mut HintText) {
+fn tell_bound(words: &str, us: u64, slots: u64, hint: &HintText) {
     hint.begin(words);
     hint.say_number("", us);
     hint.say_number(" would allow period ", slots);

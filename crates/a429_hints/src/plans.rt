@@ -8,7 +8,7 @@ use a429_equipment::{Equipment, GroupRow, OutputRow};
 use a429_grid::{SLOT_TIME, grid_period};
 
 /// Says which groups a table has.
-pub fn tell_groups(groups: &[GroupRow], hint: &mut HintText) {
+pub fn tell_groups(groups: &[GroupRow], hint: &HintText) {
     if groups.is_empty() {
         hint.say_line("the table has no groups");
         return;
@@ -21,7 +21,7 @@ pub fn tell_groups(groups: &[GroupRow], hint: &mut HintText) {
 }
 
 /// Says what to do about a group that needs too many buses.
-pub fn tell_fewer_buses(group: &str, needed: usize, hint: &mut HintText) {
+pub fn tell_fewer_buses(group: &str, needed: usize, hint: &HintText) {
     hint.begin(": the outputs of group ");
     hint.say(group);
     hint.say_count(" fill ", needed);
@@ -31,7 +31,7 @@ pub fn tell_fewer_buses(group: &str, needed: usize, hint: &mut HintText) {
 }
 
 /// Says which outputs have no period, and for the first which intervals would work.
-pub fn tell_all_unfit(equipment: &Equipment, hint: &mut HintText) {
+pub fn tell_all_unfit(equipment: &Equipment, hint: &HintText) {
     let mut count: usize = 0;
     for group in 0..equipment.groups().len() {
         count = tell_unfit_of(equipment, group, count, hint);
@@ -40,7 +40,7 @@ pub fn tell_all_unfit(equipment: &Equipment, hint: &mut HintText) {
 }
 
 /// Says which outputs of a group have no period. `before` is the number in earlier groups; the answer adds this group's.
-fn tell_unfit_of(equipment: &Equipment, group: usize, before: usize, hint: &mut HintText) -> usize {
+fn tell_unfit_of(equipment: &Equipment, group: usize, before: usize, hint: &HintText) -> usize {
     let mut count = before;
     if group >= equipment.groups().len() {
         return count;
@@ -91,7 +91,7 @@ fn least_half(equipment: &Equipment, group: usize, before: u64) -> u64 {
 }
 
 /// Says how great the tolerance of recorded times may be.
-pub fn tell_half_period(equipment: &Equipment, hint: &mut HintText) {
+pub fn tell_half_period(equipment: &Equipment, hint: &HintText) {
     let mut least = u64::MAX;
     for group in 0..equipment.groups().len() {
         least = least_half(equipment, group, least);

@@ -35,7 +35,7 @@ impl<'a> TableRow<'a> {
 
 /// Says words, the place of a row as the refusal writes it, and its name: `source 3 "alt"`. The name of an output is that
 /// of its source.
-pub fn say_row(words: &str, row: &TableRow, hint: &mut HintText) {
+pub fn say_row(words: &str, row: &TableRow, hint: &HintText) {
     hint.say_value(words, row.place);
     let key = match row.place {
         TablePlace::Output(_, _) => "source",
@@ -47,7 +47,7 @@ pub fn say_row(words: &str, row: &TableRow, hint: &mut HintText) {
 }
 
 /// Says words, and what is at a key: a single value as a table writes it, or the kind of value.
-pub fn say_found(words: &str, found: Option<&Value>, hint: &mut HintText) {
+pub fn say_found(words: &str, found: Option<&Value>, hint: &HintText) {
     hint.say(words);
     match found {
         Some(Value::String(text)) => hint.say_quoted("", text.as_str()),

@@ -22,7 +22,7 @@ const COMMENT: &str = "this file cannot have comments";
 const VERBS: &str = "arrive cell frame publish";
 
 /// Says what is wrong with a line of a script.
-pub fn tell_script_line(line: &LineEvidence, hint: &mut HintText) {
+pub fn tell_script_line(line: &LineEvidence, hint: &HintText) {
     let Ok(text) = str::from_utf8(&line.bytes) else {
         return hint.say_line(NOT_UTF8);
     };
@@ -39,7 +39,7 @@ pub fn tell_script_line(line: &LineEvidence, hint: &mut HintText) {
 }
 
 /// Says what is wrong with a line of a file of words.
-pub fn tell_words_line(line: &LineEvidence, hint: &mut HintText) {
+pub fn tell_words_line(line: &LineEvidence, hint: &HintText) {
     let Ok(text) = str::from_utf8(&line.bytes) else {
         return hint.say_line(NOT_UTF8);
     };
@@ -63,7 +63,7 @@ pub fn is_script_word(word: &str) -> bool {
 }
 
 /// Says what is wrong with the form of a line, before its words are read, and answers whether something is.
-pub fn tell_form(line: &LineEvidence, text: &str, form: &str, hint: &mut HintText) -> bool {
+pub fn tell_form(line: &LineEvidence, text: &str, form: &str, hint: &HintText) -> bool {
     let Some(fault) = fault_of_form(line, text) else {
         return false;
     };
@@ -108,7 +108,7 @@ fn fault_between_words(line: &LineEvidence, text: &str) -> Option<&'static str> 
     }
 }
 
-fn tell_verb(verb: &str, hint: &mut HintText) {
+fn tell_verb(verb: &str, hint: &HintText) {
     let shown = short_text(verb);
     let shown = shown.as_str();
     hint.begin(": ");
@@ -121,7 +121,7 @@ fn tell_verb(verb: &str, hint: &mut HintText) {
 }
 
 /// Says what is wrong with a receiver and a word.
-pub fn tell_arrival(line: &LineEvidence, text: &str, hint: &mut HintText) {
+pub fn tell_arrival(line: &LineEvidence, text: &str, hint: &HintText) {
     let (receiver, word) = cut(text);
     if has_name(&line.receivers, receiver) {
         tell_word(word, hint);
@@ -131,7 +131,7 @@ pub fn tell_arrival(line: &LineEvidence, text: &str, hint: &mut HintText) {
 }
 
 /// Says what is wrong with a word.
-fn tell_word(word: &str, hint: &mut HintText) {
+fn tell_word(word: &str, hint: &HintText) {
     hint.begin(": ");
     if word.is_empty() {
         hint.end("the word is missing; it must be eight hexadecimal digits");
@@ -149,7 +149,7 @@ fn tell_word(word: &str, hint: &mut HintText) {
 }
 
 /// Says what is wrong with the number of a further table.
-fn tell_publication(line: &LineEvidence, number: &str, hint: &mut HintText) {
+fn tell_publication(line: &LineEvidence, number: &str, hint: &HintText) {
     hint.begin(": ");
     if number.starts_with('+') || number.starts_with('-') {
         hint.say_quoted("", number);

@@ -1,7 +1,7 @@
 //! Rows of comma-separated values, as a person sees them.
 
 use crate::hint::HintText;
-use a429_import::{CsvLine, Heading, IMPORT_COLUMNS, ImportColumn, made_name, may_be_thousands};
+use a429_import::{CsvLine, Heading, ImportColumn, made_name, may_be_thousands};
 use std::alloc::{AllocError, Global};
 
 /// The maximum length of a name.
@@ -21,37 +21,34 @@ pub struct Sheet<'a> {
 
 impl<'a> Sheet<'a> {
     /// The field of a row in a column; an empty one if the heading has no such column.
-    pub fn field(self, row: &'a CsvLine, column: &str) -> &'a [u8] {
-        match column_of(column) {
-            Some(column) => self.heading.field_of(row, column),
-            None => &[],
-        }
+    pub fn field(self, row: &'a CsvLine, column: ImportColumn) -> &'a [u8] {
+        self.heading.field_of(row, column)
     }
 
     /// The name of a column as the heading has it; the column's own name if it has none.
-    pub fn title(self, column: &'a str) -> &'a str {
+    pub fn title(self, column: ImportColumn) -> &'a str {
         match self.text(self.titles, column) {
-            "" => column,
+            "" => column.name(),
             title => title,
         }
     }
 
     /// Whether a column is in milliseconds.
-    pub fn is_in_millis(self, column: &str) -> bool {
+    pub fn is_in_millis(self, column: ImportColumn) -> bool {
         match column {
-            "min_us" => self.heading.is_min_in_millis,
-            "max_us" => self.heading.is_max_in_millis,
+            ImportColumn::MinUs => self.heading.is_min_in_millis,
+            ImportColumn::MaxUs => self.heading.is_max_in_millis,
             _ => false,
         }
     }
 
     /// What must be in a column.
-    pub fn form_of(self, column: &str) -> &'static str {
+    pub fn form_of(self, column: ImportColumn) -> &'static str {
         match column {
-            "min_us" if self.is_in_millis(column) => {
+            ImportColumn::MinUs if self.is_in_millis(column) => {
                 "milliseconds from 0.001 to the maximum, with at most three decimals"
             }
-            "max_us" if self.is_in_millis(column) => {
+            ImportColumn::MaxUs if self.is_in_millis(column) => {
                 "milliseconds from the minimum to 30000, with at most three decimals"
             }
             _ => form_in(column),
@@ -59,7 +56,7 @@ impl<'a> Sheet<'a> {
     }
 
     /// The interval of a row, in microseconds; 0 if it is no number.
-    pub fn interval(self, row: &'a CsvLine, column: &str) -> u64 {
+    pub fn interval(self, row: &'a CsvLine, column: ImportColumn) -> u64 {
         let text = self.text(row, column);
         if self.is_in_millis(column) {
             millis(text).unwrap_or(text.parse::<u64>().unwrap_or(0).saturating_mul(1000))
@@ -69,7 +66,7 @@ impl<'a> Sheet<'a> {
     }
 
     /// The field as a text; the empty text if it is not UTF-8.
-    pub fn text(self, row: &'a CsvLine, column: &str) -> &'a str {
+    pub fn text(self, row: &'a CsvLine, column: ImportColumn) -> &'a str {
         str::from_utf8(self.field(row, column)).unwrap_or("")
     }
 
@@ -91,14 +88,14 @@ impl<'a> Sheet<'a> {
     /// rows; rows without a group are none of a group. `None` if there is no such name, or if an allocation failed.
     pub fn first_row(
         self,
-        column: &str,
+        column: ImportColumn,
         number: usize,
-        hint: &mut HintText,
+        hint: &HintText,
     ) -> Option<&'a CsvLine> {
         let mut names: Vec<&'a [u8]> = Vec::new(hint.alloc);
         for row in self.rows {
             let name = self.field(row, column);
-            if name.is_empty() && column == "group" {
+            if name.is_empty() && column == ImportColumn::Group {
                 continue;
             }
             if !names.contains(&name) {
@@ -118,7 +115,7 @@ impl<'a> Sheet<'a> {
     pub fn output_row(self, group: &[u8], number: usize) -> Option<&'a CsvLine> {
         let mut left = number;
         for row in self.rows {
-            if self.field(row, "group") == group {
+            if self.field(row, ImportColumn::Group) == group {
                 if left == 0 {
                     return Some(row);
                 }
@@ -129,51 +126,47 @@ impl<'a> Sheet<'a> {
     }
 }
 
-/// The column of a name.
-fn column_of(name: &str) -> Option<ImportColumn> {
-    for column in IMPORT_COLUMNS.as_slice() {
-        if column.name() == name {
-            return Some(*column);
-        }
-    }
-    None
-}
-
 /// What a column has, in two words.
-fn thing_in(column: &str) -> &'static str {
+fn thing_in(column: ImportColumn) -> &'static str {
     match column {
-        "rate" => "a bit rate",
-        "label" => "a label",
-        "sdi" => "an SDI",
-        "min_us" | "max_us" => "a time",
-        "hold" => "a hold",
-        "filters" => "a filter",
+        ImportColumn::Rate => "a bit rate",
+        ImportColumn::Label => "a label",
+        ImportColumn::Sdi => "an SDI",
+        ImportColumn::MinUs | ImportColumn::MaxUs => "a time",
+        ImportColumn::Hold => "a hold",
+        ImportColumn::Filters => "a filter",
         _ => "a name",
     }
 }
 
 /// What must be in a column.
-pub fn form_in(column: &str) -> &'static str {
+pub fn form_in(column: ImportColumn) -> &'static str {
     match column {
-        "rate" => "HS (100000), LS (12500), or 12000 to 14500 bit/s",
-        "label" => "three octal digits, 000 to 377",
-        "sdi" => "0 to 3, or `any`",
-        "min_us" => "a whole number of microseconds, from 1 to the maximum",
-        "max_us" => "a whole number of microseconds, from the minimum to 30000000",
-        "hold" => "a whole number from 1 to 1000000, or nothing for no limit",
-        "filters" => "LLL/MMM, label and mask, each three octal digits from 000 to 377",
+        ImportColumn::Rate => "HS (100000), LS (12500), or 12000 to 14500 bit/s",
+        ImportColumn::Label => "three octal digits, 000 to 377",
+        ImportColumn::Sdi => "0 to 3, or `any`",
+        ImportColumn::MinUs => "a whole number of microseconds, from 1 to the maximum",
+        ImportColumn::MaxUs => "a whole number of microseconds, from the minimum to 30000000",
+        ImportColumn::Hold => "a whole number from 1 to 1000000, or nothing for no limit",
+        ImportColumn::Filters => "LLL/MMM, label and mask, each three octal digits from 000 to 377",
         _ => "1 to 16 characters of `a` to `z`, `0` to `9`, `-` and `_`",
     }
 }
 
 /// Whether a column is about an output, and not about its source. Such a column has a whole number.
-pub fn is_of_output(column: &str) -> bool {
-    matches!(column, "rate" | "min_us" | "max_us" | "hold")
+pub fn is_of_output(column: ImportColumn) -> bool {
+    matches!(
+        column,
+        ImportColumn::Rate | ImportColumn::MinUs | ImportColumn::MaxUs | ImportColumn::Hold
+    )
 }
 
 /// Whether a column has names.
-pub fn is_of_names(column: &str) -> bool {
-    matches!(column, "group" | "source" | "receiver")
+pub fn is_of_names(column: ImportColumn) -> bool {
+    matches!(
+        column,
+        ImportColumn::Group | ImportColumn::Source | ImportColumn::Receiver
+    )
 }
 
 /// The bit rate in bit/s, if a text is one of the two usual bit rates in kbit/s.
@@ -186,20 +179,20 @@ fn kilobits(text: &str) -> Option<&'static str> {
 }
 
 /// Begins a line about a row, and says words.
-pub fn begin_row(row: &CsvLine, words: &str, hint: &mut HintText) {
+pub fn begin_row(row: &CsvLine, words: &str, hint: &HintText) {
     hint.turn_to_line(row.number as usize);
     hint.begin(words);
 }
 
 /// Begins a line about a column of a row.
-pub fn begin_column(sheet: Sheet, row: &CsvLine, column: &str, hint: &mut HintText) {
+pub fn begin_column(sheet: Sheet, row: &CsvLine, column: ImportColumn, hint: &HintText) {
     begin_row(row, ", column ", hint);
     hint.say_short("", sheet.title(column));
     hint.say(": ");
 }
 
 /// Says that a field is empty, and what must be in it.
-fn tell_empty(sheet: Sheet, column: &str, hint: &mut HintText) {
+fn tell_empty(sheet: Sheet, column: ImportColumn, hint: &HintText) {
     hint.say_text("the field is empty; it must be ", sheet.form_of(column));
     if is_of_output(column) {
         hint.say("; if no group sends the source, leave the group empty too");
@@ -208,7 +201,7 @@ fn tell_empty(sheet: Sheet, column: &str, hint: &mut HintText) {
 }
 
 /// Says what is in a column, and what must be there.
-pub fn tell_field(sheet: Sheet, row: &CsvLine, column: &str, text: &str, hint: &mut HintText) {
+pub fn tell_field(sheet: Sheet, row: &CsvLine, column: ImportColumn, text: &str, hint: &HintText) {
     let form = sheet.form_of(column);
     begin_column(sheet, row, column, hint);
     if text.is_empty() {
@@ -229,7 +222,10 @@ pub fn tell_field(sheet: Sheet, row: &CsvLine, column: &str, text: &str, hint: &
         return;
     }
     match kilobits(text) {
-        Some(rate) if column == "rate" => hint.end_text("; the unit is bit/s: write ", rate),
+        Some(rate) if column == ImportColumn::Rate => hint.end_text(
+            "; the unit is bit/s: write ",
+            rate,
+        ),
         _ => {
             hint.say_text(" is not ", thing_in(column));
             hint.say_text("; it must be ", form);
@@ -240,7 +236,13 @@ pub fn tell_field(sheet: Sheet, row: &CsvLine, column: &str, text: &str, hint: &
 }
 
 /// Says what is in a column of an output, although the row has no group.
-pub fn tell_no_group(sheet: Sheet, row: &CsvLine, column: &str, text: &str, hint: &mut HintText) {
+pub fn tell_no_group(
+    sheet: Sheet,
+    row: &CsvLine,
+    column: ImportColumn,
+    text: &str,
+    hint: &HintText,
+) {
     begin_column(sheet, row, column, hint);
     hint.say_quoted("", text);
     hint.end(
@@ -249,23 +251,25 @@ pub fn tell_no_group(sheet: Sheet, row: &CsvLine, column: &str, text: &str, hint
 }
 
 /// The name of a column of intervals in milliseconds.
-fn in_millis(column: &str) -> &'static str {
+fn in_millis(column: ImportColumn) -> &'static str {
     match column {
-        "min_us" => "min_ms",
+        ImportColumn::MinUs => "min_ms",
         _ => "max_ms",
     }
 }
 
 /// Says what to write instead of a text, if it is known.
-fn say_remedy(sheet: Sheet, column: &str, text: &str, hint: &mut HintText) {
+fn say_remedy(sheet: Sheet, column: ImportColumn, text: &str, hint: &HintText) {
     match column {
-        "min_us" | "max_us" if !sheet.is_in_millis(column) => {
+        ImportColumn::MinUs | ImportColumn::MaxUs if !sheet.is_in_millis(column) => {
             if let Some(us) = millis(text) {
                 hint.say_number("; if it is in ms, write ", us);
                 hint.say_text(", or name the column ", in_millis(column));
             }
         }
-        "group" | "source" | "receiver" => match proposed_name(sheet, column, text, hint.alloc) {
+        ImportColumn::Group | ImportColumn::Source | ImportColumn::Receiver => match proposed_name(
+            sheet, column, text, hint.alloc,
+        ) {
             Ok(Some(proposed)) => {
                 hint.say_text("; for example ", proposed.name.as_str());
                 if !proposed.is_numbered {
@@ -312,7 +316,7 @@ struct ProposedName {
 /// nothing of the text is left.
 fn proposed_name(
     sheet: Sheet,
-    column: &str,
+    column: ImportColumn,
     text: &str,
     alloc: Global,
 ) -> Result<Option<ProposedName>, AllocError> {
@@ -335,7 +339,7 @@ fn proposed_name(
 /// How many other texts of a column become a name, of those before the first row with this text.
 fn texts_before(
     sheet: Sheet,
-    column: &str,
+    column: ImportColumn,
     text: &str,
     name: &str,
     alloc: Global,

@@ -44,16 +44,16 @@ impl Hints for HintLines {
         answered: &Answered,
         err: &mut V,
     ) -> io::Result<()> {
-        let mut hint = HintText::new(alloc);
-        tell_answered(asked, answered, &mut hint);
+        let hint = HintText::new(alloc);
+        tell_answered(asked, answered, &hint);
         hint.put(err)?;
         err.flush()
     }
 
     fn tell_mistake<V: Write>(&self, alloc: Global, words: &[&str], err: &mut V) -> io::Result<()> {
-        let mut hint = HintText::new(alloc);
-        tell_nearest_word(words, &mut hint);
-        tell_habits(words, &mut hint);
+        let hint = HintText::new(alloc);
+        tell_nearest_word(words, &hint);
+        tell_habits(words, &hint);
         hint.put(err)
     }
 
@@ -64,9 +64,9 @@ impl Hints for HintLines {
         warnings: &[Warning],
         err: &mut V,
     ) -> io::Result<()> {
-        let mut hint = HintText::new(alloc);
+        let hint = HintText::new(alloc);
         for warning in warnings {
-            tell_warning(asked, warning, &mut hint);
+            tell_warning(asked, warning, &hint);
         }
         hint.put(err)?;
         err.flush()
@@ -74,7 +74,7 @@ impl Hints for HintLines {
 }
 
 /// Says what to do about an answer.
-fn tell_answered(asked: &Asked, answered: &Answered, hint: &mut HintText) {
+fn tell_answered(asked: &Asked, answered: &Answered, hint: &HintText) {
     if let Some(refused) = answered.refused() {
         tell_refusal(asked, refused, hint);
     }
@@ -97,7 +97,7 @@ fn tell_answered(asked: &Asked, answered: &Answered, hint: &mut HintText) {
 }
 
 /// Says what to do about what was found.
-fn tell_found(asked: &Asked, found: &Sheet, hint: &mut HintText) {
+fn tell_found(asked: &Asked, found: &Sheet, hint: &HintText) {
     if asked.verb == Verb::Judge {
         hint.turn_to(asked.third);
         tell_clocks(asked.second, found, hint);
@@ -108,7 +108,7 @@ fn tell_found(asked: &Asked, found: &Sheet, hint: &mut HintText) {
 }
 
 /// Says what a warning is about.
-fn tell_warning(asked: &Asked, warning: &Warning, hint: &mut HintText) {
+fn tell_warning(asked: &Asked, warning: &Warning, hint: &HintText) {
     match warning {
         Warning::Further(fault) => tell_further_fault(asked, fault, hint),
         Warning::CloseWords(receiver) => {
@@ -123,7 +123,7 @@ fn tell_warning(asked: &Asked, warning: &Warning, hint: &mut HintText) {
 }
 
 /// Says why a further table is refused: the same hint as for a first table, or in what its station differs.
-fn tell_further_fault(asked: &Asked, fault: &FurtherFault, hint: &mut HintText) {
+fn tell_further_fault(asked: &Asked, fault: &FurtherFault, hint: &HintText) {
     hint.turn_to(nth(&asked.more, fault.number));
     match &fault.cause {
         FurtherCause::Fault(kind) => tell_fault(asked, *kind, &fault.table, hint),
@@ -138,7 +138,7 @@ fn tell_further_fault(asked: &Asked, fault: &FurtherFault, hint: &mut HintText) 
 }
 
 /// Says what is wrong with what a command was asked for.
-fn tell_refusal(asked: &Asked, refused: &Refused, hint: &mut HintText) {
+fn tell_refusal(asked: &Asked, refused: &Refused, hint: &HintText) {
     let refusal = refused.refusal();
     match refused.evidence() {
         Evidence::Nothing => tell_plain(asked, refusal, hint),
@@ -161,7 +161,7 @@ fn tell_refusal(asked: &Asked, refused: &Refused, hint: &mut HintText) {
 }
 
 /// Says what is wrong, if the refusal says all.
-fn tell_plain(asked: &Asked, refusal: &CommandRefusal, hint: &mut HintText) {
+fn tell_plain(asked: &Asked, refusal: &CommandRefusal, hint: &HintText) {
     match refusal {
         CommandRefusal::TooMuch => tell_of_length(asked, hint),
         CommandRefusal::Apart => {
@@ -173,14 +173,14 @@ fn tell_plain(asked: &Asked, refusal: &CommandRefusal, hint: &mut HintText) {
 }
 
 /// Says why a file cannot be read.
-fn tell_of_file(refusal: &CommandRefusal, trouble: FileTrouble, hint: &mut HintText) {
+fn tell_of_file(refusal: &CommandRefusal, trouble: FileTrouble, hint: &HintText) {
     if let CommandRefusal::File(name) = refusal {
         tell_trouble(trouble, name.as_str(), hint);
     }
 }
 
 /// Says what is wrong with an argument.
-fn tell_of_words(asked: &Asked, refusal: &CommandRefusal, hint: &mut HintText) {
+fn tell_of_words(asked: &Asked, refusal: &CommandRefusal, hint: &HintText) {
     match refusal {
         CommandRefusal::WordText => tell_word_text(asked.first, hint),
         CommandRefusal::Parity => tell_even_word(asked.first, hint),
@@ -192,7 +192,7 @@ fn tell_of_words(asked: &Asked, refusal: &CommandRefusal, hint: &mut HintText) {
 }
 
 /// Says what is wrong with a line of a script or of a file of words.
-fn tell_of_line(asked: &Asked, line: &LineEvidence, hint: &mut HintText) {
+fn tell_of_line(asked: &Asked, line: &LineEvidence, hint: &HintText) {
     hint.turn_to(text_name(asked));
     hint.turn_to_line(line.number);
     if asked.verb == Verb::Live {
@@ -203,27 +203,27 @@ fn tell_of_line(asked: &Asked, line: &LineEvidence, hint: &mut HintText) {
 }
 
 /// Says what is wrong with a byte of a line file.
-fn tell_of_byte(asked: &Asked, line: &LineEvidence, byte: u8, hint: &mut HintText) {
+fn tell_of_byte(asked: &Asked, line: &LineEvidence, byte: u8, hint: &HintText) {
     hint.turn_to(text_name(asked));
     hint.turn_to_line(line.number);
     tell_line_byte(line, byte, hint);
 }
 
 /// Says what is wrong with a line of a log.
-fn tell_of_log(asked: &Asked, line: &LineEvidence, log: &LogEvidence, hint: &mut HintText) {
+fn tell_of_log(asked: &Asked, line: &LineEvidence, log: &LogEvidence, hint: &HintText) {
     hint.turn_to(log_name(asked, log.number));
     hint.turn_to_line(line.number);
     tell_log_line(line, log, &asked.channels, hint);
 }
 
 /// Says what is wrong with rows of comma-separated values.
-fn tell_of_rows(asked: &Asked, refusal: &CommandRefusal, rows: &RowsEvidence, hint: &mut HintText) {
+fn tell_of_rows(asked: &Asked, refusal: &CommandRefusal, rows: &RowsEvidence, hint: &HintText) {
     hint.turn_to(text_name(asked));
     tell_rows(refusal, &asked.maps, asked.options.names, rows, hint);
 }
 
 /// Says that a log is too long, or that an image is too high.
-fn tell_of_length(asked: &Asked, hint: &mut HintText) {
+fn tell_of_length(asked: &Asked, hint: &HintText) {
     match asked.verb {
         Verb::Simulate => {
             hint.turn_to(text_name(asked));
@@ -240,12 +240,7 @@ fn tell_of_length(asked: &Asked, hint: &mut HintText) {
 }
 
 /// Says what the plan of a table does not have.
-fn tell_of_plan(
-    asked: &Asked,
-    refusal: &CommandRefusal,
-    equipment: &Equipment,
-    hint: &mut HintText,
-) {
+fn tell_of_plan(asked: &Asked, refusal: &CommandRefusal, equipment: &Equipment, hint: &HintText) {
     match refusal {
         CommandRefusal::Group(_) => {
             hint.turn_to(table_name(asked));
@@ -260,7 +255,7 @@ fn tell_of_plan(
 }
 
 /// Says how many threads a run needs, if they could not be started.
-fn tell_of_run(asked: &Asked, refusal: &CommandRefusal, threads: usize, hint: &mut HintText) {
+fn tell_of_run(asked: &Asked, refusal: &CommandRefusal, threads: usize, hint: &HintText) {
     if let CommandRefusal::Join = refusal {
         hint.turn_to(table_name(asked));
         hint.begin(": threads could not be started");
@@ -270,12 +265,7 @@ fn tell_of_run(asked: &Asked, refusal: &CommandRefusal, threads: usize, hint: &m
 }
 
 /// Says what is wrong with a table or its plan.
-fn tell_of_table(
-    asked: &Asked,
-    refusal: &CommandRefusal,
-    table: &TableEvidence,
-    hint: &mut HintText,
-) {
+fn tell_of_table(asked: &Asked, refusal: &CommandRefusal, table: &TableEvidence, hint: &HintText) {
     match refusal {
         CommandRefusal::Table(kind, _) => tell_fault(asked, *kind, table, hint),
         CommandRefusal::Unfit { .. } => tell_unfit_of_table(table, hint),
@@ -287,7 +277,7 @@ fn tell_of_table(
 }
 
 /// Says what is wrong with a table that has a fault of this kind.
-fn tell_fault(asked: &Asked, kind: FaultKind, table: &TableEvidence, hint: &mut HintText) {
+fn tell_fault(asked: &Asked, kind: FaultKind, table: &TableEvidence, hint: &HintText) {
     if kind == FaultKind::NotToml {
         tell_order(asked, table.looks, hint);
     }
@@ -297,14 +287,14 @@ fn tell_fault(asked: &Asked, kind: FaultKind, table: &TableEvidence, hint: &mut 
 }
 
 /// Says which outputs of a table have no period.
-fn tell_unfit_of_table(table: &TableEvidence, hint: &mut HintText) {
+fn tell_unfit_of_table(table: &TableEvidence, hint: &HintText) {
     if let Some(equipment) = &table.equipment {
         tell_all_unfit(equipment, hint);
     }
 }
 
 /// Says the order of the arguments, if a table looks like another file.
-fn tell_order(asked: &Asked, looks: TableLook, hint: &mut HintText) {
+fn tell_order(asked: &Asked, looks: TableLook, hint: &HintText) {
     let looks = match looks {
         TableLook::PlanText => "the text of a plan",
         TableLook::Script => "a script",
@@ -322,7 +312,7 @@ fn tell_order(asked: &Asked, looks: TableLook, hint: &mut HintText) {
 }
 
 /// Says the arguments of a command in their order.
-fn say_order(verb: Verb, hint: &mut HintText) {
+fn say_order(verb: Verb, hint: &HintText) {
     match command_of(verb) {
         Some(form) => say_names(form, hint),
         None => {}
@@ -330,7 +320,7 @@ fn say_order(verb: Verb, hint: &mut HintText) {
 }
 
 /// Says the name of a command, and its arguments without options.
-fn say_names(form: &CommandForm, hint: &mut HintText) {
+fn say_names(form: &CommandForm, hint: &HintText) {
     hint.say_text(form.name, " ");
     hint.say(form.first.id);
     if let Some(second) = form.second {

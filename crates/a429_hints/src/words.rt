@@ -7,7 +7,7 @@ use a429_filter::FILTERS;
 use a429_word::{Label, Word, raw_word};
 
 /// Says what is wrong with the text of a word.
-pub fn tell_word_text(text: &str, hint: &mut HintText) {
+pub fn tell_word_text(text: &str, hint: &HintText) {
     hint.say_quoted("a429: ", text);
     match digits_after_0x(text) {
         Some(digits) => hint.end_text(
@@ -28,7 +28,7 @@ fn digits_after_0x(text: &str) -> Option<&str> {
 }
 
 /// Says how many ones a word of even parity has, and which word it is with the other parity bit.
-pub fn tell_even_word(text: &str, hint: &mut HintText) {
+pub fn tell_even_word(text: &str, hint: &HintText) {
     let Some(raw) = raw_word(text.as_bytes()) else {
         return;
     };
@@ -50,13 +50,13 @@ pub fn tell_even_word(text: &str, hint: &mut HintText) {
 }
 
 /// Says what a label is.
-pub fn tell_label_text(text: &str, hint: &mut HintText) {
+pub fn tell_label_text(text: &str, hint: &HintText) {
     hint.say_quoted("a429: ", text);
     hint.end(" is not a label: a label is three octal digits, 000 to 377");
 }
 
 /// Says which data a word can have, in the form in which they are given.
-pub fn tell_data_text(fields: &FieldOptions, hint: &mut HintText) {
+pub fn tell_data_text(fields: &FieldOptions, hint: &HintText) {
     let FieldOptions { hex, bnr, bcd, .. } = fields;
     if let Some(text) = *hex {
         hint.say_quoted("a429: --data ", text);
@@ -72,7 +72,7 @@ pub fn tell_data_text(fields: &FieldOptions, hint: &mut HintText) {
 }
 
 /// Says which BNR numbers have at most this number of bits below their sign.
-fn tell_bnr_text(text: &str, bits: u32, hint: &mut HintText) {
+fn tell_bnr_text(text: &str, bits: u32, hint: &HintText) {
     let most: u64 = 1 << bits.min(18);
     hint.say_quoted("a429: --bnr ", text);
     hint.say_number(" is not a whole number from -", most);
@@ -81,7 +81,7 @@ fn tell_bnr_text(text: &str, bits: u32, hint: &mut HintText) {
 }
 
 /// Says what is wrong with a filter. Filters are numbered from 1.
-pub fn tell_filter(number: usize, text: &str, hint: &mut HintText) {
+pub fn tell_filter(number: usize, text: &str, hint: &HintText) {
     hint.say_count("a429: filter ", number);
     if number > FILTERS {
         hint.say_count(": at most ", FILTERS);
@@ -101,7 +101,7 @@ pub fn tell_filter(number: usize, text: &str, hint: &mut HintText) {
 }
 
 /// Says which byte of a line file is not a symbol, and in which column it is.
-pub fn tell_line_byte(line: &LineEvidence, byte: u8, hint: &mut HintText) {
+pub fn tell_line_byte(line: &LineEvidence, byte: u8, hint: &HintText) {
     hint.begin(", column ");
     hint.say_count("", line.bytes.len().saturating_add(1));
     if byte == b'\r' {

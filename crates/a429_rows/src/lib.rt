@@ -1,5 +1,6 @@
-//! Tests across crates of what no command reaches: last slots and counts, writers and readers that fail, and
-//! public functions called by themselves. What commands write is stated by the cases of `a429_cases`.
+//! Tests across crates of what no command reaches: last slots and counts, writers and readers that fail, what
+//! a terminal shows during a run, and public functions called by themselves. What commands write is stated by the cases
+//! of `a429_cases`.
 #![tactic(auto)]
 
 #[cfg(test)]
@@ -14,6 +15,8 @@ mod machine;
 mod packing;
 #[cfg(test)]
 mod plans;
+#[cfg(test)]
+mod progress;
 #[cfg(test)]
 mod recordings;
 #[cfg(test)]

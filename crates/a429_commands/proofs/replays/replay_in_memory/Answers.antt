@@ -10,7 +10,7 @@ use Rattle.a429_commands.proofs.ToTheEnd.{played_to_the_end}
 use Rattle.a429_commands.proofs.replays.replay_in_memory.Goals as goal
 
 pub returns-clause-replied : goal.returns-clause-replied
-returns-clause-replied c =
+returns-clause-replied g c =
     let told = c.command-status.ensures.replied (asked_by_names verb.Replay c.args.table.now c.args.script.now []) refl
     (c.plain_words_ask.ensures (asked_by_names verb.Replay c.args.table.now c.args.script.now []) (replay_has_words c.args.table.now c.args.script.now c.requires.table c.requires.script)) refl (search rules) in
     let none : c.new-out.result.writer.items ≡ [] = ap (λ (v : Vec ℕ Global). v.items) c.new-out.ensures.writer ∙ c.new.ensures.items in
@@ -18,6 +18,6 @@ returns-clause-replied c =
     c.command-status.new.out.writer.items none told
 
 pub returns-clause-done : goal.returns-clause-done
-returns-clause-done c done =
+returns-clause-done g c done =
     played_to_the_end (file_of c.args.files.now.files.items) c.args.table.now c.args.script.now c.command-status.new.out.writer.items c.command-status.result
-    (returns-clause-replied c) done
+    (returns-clause-replied g c) done

@@ -1,6 +1,6 @@
 //! The line that shows the progress of a run.
 
-use a429_cli::{Progress, ProgressLine};
+use a429_live::{Progress, ProgressLine};
 use std::io;
 use std::io::Write;
 use std::sync::atomic::{AtomicU64, Ordering};
