@@ -174,20 +174,41 @@ pub fn build_command<'a>(alloc: Global) -> Result<Command<'a>, AllocError>
     with_commands(alloc, line, commands())
 }
 
-fn usage_error(alloc: Global, kind: ErrorKind, message: &str) -> Result<Error, AllocError>
+/// The command of this form, as its usage names it: with the name of the program. Error: an allocation failed.
+fn whole_command<'a>(alloc: Global, form: &CommandForm) -> Result<Command<'a>, AllocError> {
+    let name = format!(in alloc; "a429 {}", form.name)?;
+    command_of(alloc, form)?.bin_name(name.as_str())
+}
+
+/// An error with the usage of the command of this form, or of the program.
+fn usage_error(
+    alloc: Global,
+    form: Option<&CommandForm>,
+    kind: ErrorKind,
+    message: &str,
+) -> Result<Error, AllocError>
     ensures { IfOk result (λ e. kind_of e ≡ kind) }
 {
-    let mut line = build_command(alloc)?;
+    let mut line = match form {
+        Some(form) => whole_command(alloc, form)?,
+        None => build_command(alloc)?,
+    };
     let error = line.error(kind, message);
     drop(line);
     error
 }
 
-/// The error of arguments that the command line accepts, but no call can use.
-pub fn words_error(alloc: Global, kind: ErrorKind, message: &str) -> Error
+/// The error of arguments that the command line accepts, but no call can use. It has the usage of the command of this form, or
+/// of the program.
+pub fn words_error(
+    alloc: Global,
+    form: Option<&CommandForm>,
+    kind: ErrorKind,
+    message: &str,
+) -> Error
     ensures { HasKind (kind ∷ []) result }
 {
-    match usage_error(alloc, kind, message) {
+    match usage_error(alloc, form, kind, message) {
         Ok(error) => error,
         Err(error) => Error::from(error),
     }

@@ -124,7 +124,7 @@ pub fn parse<'a>(alloc: Global, words: &'a [&'a str]) -> Result<Asked<'a>, Error
 pub fn other_call_error(alloc: Global, message: &str) -> Error
     ensures { HasKind (elsewhere true) result }
 {
-    words_error(alloc, ErrorKind::InvalidSubcommand, message)
+    words_error(alloc, None, ErrorKind::InvalidSubcommand, message)
 }
 
 /// What the arguments ask for, by what was found of them. Error: `--width`, `--time`, `--from`, `--channel` or `--map`
@@ -144,7 +144,7 @@ fn read_matches<'a>(alloc: Global, matches: &ArgMatches<'a>) -> Result<Asked<'a>
     };
     match choices_in(name, found) {
         Ok(choices) => Ok(read_asked(alloc, form, found, choices)?),
-        Err(fault) => Err(words_error(alloc, ErrorKind::InvalidValue, fault)),
+        Err(fault) => Err(words_error(alloc, Some(form), ErrorKind::InvalidValue, fault)),
     }
 }
 
