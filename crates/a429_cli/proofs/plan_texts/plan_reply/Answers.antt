@@ -1,10 +1,9 @@
 use Rattle.a429_console.proofs.ReadingParts.{read_weaker}
-use Rattle.std.proofs.Common.{◌∙◌, ap, subst, sym}
+use Rattle.std.proofs.Common.{◌∙◌, ℕ, ap, subst, sym}
 use Rattle.std.specs.Prelude.{Err}
 use Rattle.std.specs.declared.vec.Vec.{Vec}
 use Rattle.std.specs.declared.alloc.Global.{Global}
 use Rattle.std.proofs.lemmas.Result.{err_from_is_err_and}
-use Rattle.std.proofs.Common.{ℕ}
 use Rattle.a429_console.specs.RefusalText.{OrMemory}
 use Rattle.a429_console.specs.declared.refusals.CommandRefusal.TheVariants as refused
 use Rattle.a429_console.proofs.Refused.{failed}
