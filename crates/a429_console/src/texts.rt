@@ -11,3 +11,23 @@ pub fn cut_at(text: &[u8], byte: u8) -> Option<(&[u8], &[u8])>
     let at = text.iter().position(|b| *b == byte)?;
     Some((&text[..at], &text[at + 1..]))
 }
+
+/// The first line of a text, without its line feed.
+pub fn first_line(text: &[u8]) -> &[u8] {
+    match cut_at(text, b'\n') {
+        Some((line, _)) => line,
+        None => text,
+    }
+}
+
+/// The bytes from a line on; lines are counted from 1. They are empty if the text has no such line.
+pub fn lines_from(text: &[u8], number: usize) -> &[u8] {
+    let mut rest = text;
+    for _ in 1..number {
+        rest = match cut_at(rest, b'\n') {
+            Some((_, next)) => next,
+            None => &[],
+        };
+    }
+    rest
+}

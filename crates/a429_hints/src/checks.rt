@@ -5,7 +5,7 @@ use crate::hint::HintText;
 use crate::reasons::meaning;
 use a429_console::answered::Objection;
 use a429_console::refusals::names::{group_name, source_name};
-use a429_console::texts::cut_at;
+use a429_console::texts::{first_line, lines_from};
 use a429_equipment::{Equipment, OutputRow};
 use a429_grid::grid_period;
 
@@ -80,26 +80,9 @@ fn due_at(equipment: &Equipment, line: usize) -> DueLine {
     DueLine::End
 }
 
-/// The bytes from a line on. They are empty if the text has no such line.
-fn lines_from(text: &[u8], number: usize) -> &[u8] {
-    let mut rest = text;
-    for _ in 1..number {
-        rest = match cut_at(rest, b'\n') {
-            Some((_, next)) => next,
-            None => &[],
-        };
-    }
-    rest
-}
-
 /// The text of a line; the empty text if there is no such line, or if it is not UTF-8.
 fn text_of(text: &[u8], number: usize) -> &str {
-    let rest = lines_from(text, number);
-    let line = match cut_at(rest, b'\n') {
-        Some((line, _)) => line,
-        None => rest,
-    };
-    str::from_utf8(line).unwrap_or("")
+    str::from_utf8(first_line(lines_from(text, number))).unwrap_or("")
 }
 
 /// The value after a key of a line. A line is key, value, key, value, ..

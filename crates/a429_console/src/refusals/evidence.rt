@@ -1,6 +1,7 @@
 //! What was read of a refused text, for a hint.
 
 use crate::files::FileTrouble;
+use crate::texts::{first_line, lines_from};
 use a429_equipment::Equipment;
 use a429_logs::{LineFault, Shape, TimeUnit};
 use a429_slots::{OUTPUTS, Proposal};
@@ -146,20 +147,14 @@ fn last_stated(text: &[u8]) -> &[u8] {
 impl LineEvidence {
     /// The line of this number. Error: an allocation fails.
     pub fn of(alloc: Global, text: &[u8], number: usize) -> Result<LineEvidence, AllocError> {
-        let mut rest = text;
-        for _ in 1..number {
-            rest = match rest.iter().position(|byte| *byte == b'\n') {
-                Some(end) => &rest[end + 1..],
-                None => &[],
-            };
-        }
-        let end = rest.iter().position(|byte| *byte == b'\n');
+        let rest = lines_from(text, number);
+        let line = first_line(rest);
         let above = text.len().saturating_sub(rest.len());
         let before = last_stated(text.get(..above).unwrap_or(&[]));
         Ok(LineEvidence {
             number,
-            bytes: Vec::from_slice(alloc, &rest[..end.unwrap_or(rest.len())])?,
-            is_ended: end.is_some(),
+            bytes: Vec::from_slice(alloc, line)?,
+            is_ended: line.len() < rest.len(),
             before: Vec::from_slice(alloc, before)?,
             receivers: Vec::new(alloc),
             groups: Vec::new(alloc),
@@ -170,8 +165,11 @@ impl LineEvidence {
     /// The line of the byte at this place, up to that byte. `None`: there is none, or an allocation fails.
     fn at(alloc: Global, bytes: &[u8], place: usize) -> Option<LineEvidence> {
         let before = bytes.get(..place)?;
-        let feeds = before.iter().filter(|byte| **byte == b'\n').count();
-        LineEvidence::of(alloc, before, feeds.saturating_add(1)).ok()
+        let mut number: usize = 1;
+        for byte in before {
+            number = number.saturating_add(usize::from(*byte == b'\n'));
+        }
+        LineEvidence::of(alloc, before, number).ok()
     }
 }
 
@@ -218,19 +216,15 @@ pub enum TableLook {
 impl TableLook {
     /// By the first words of the text, or its last line.
     pub fn of(text: &[u8]) -> TableLook {
-        let first_words: [&[u8]; 4] = [b"arrive ", b"cell ", b"frame ", b"publish "];
         if text.starts_with(b"plan ") {
             TableLook::PlanText
-        } else if first_words.iter().any(|word| text.starts_with(word)) {
+        } else if has_event(text) {
             TableLook::Script
         } else if text.starts_with(b"refused ") {
             TableLook::Refusal
         } else if has_columns(text) {
             TableLook::Rows
-        } else if last_stated(text)
-            .first()
-            .is_some_and(|byte| byte.is_ascii_digit())
-        {
+        } else if let [b'0'..=b'9', ..] = last_stated(text) {
             TableLook::Log
         } else {
             TableLook::Other
@@ -238,12 +232,22 @@ impl TableLook {
     }
 }
 
+/// Whether a text begins with an event of a script.
+fn has_event(text: &[u8]) -> bool {
+    text.starts_with(b"arrive ")
+        || text.starts_with(b"cell ")
+        || text.starts_with(b"frame ")
+        || text.starts_with(b"publish ")
+}
+
 /// Whether the first line of a text names columns of rows for `import`, separated by commas.
 fn has_columns(text: &[u8]) -> bool {
-    let end = text.iter().position(|byte| *byte == b'\n');
-    let heading = &text[..end.unwrap_or(text.len())];
-    heading.split(|byte| *byte == b',').any(|name| name == b"source".as_slice()
-        || name == b"min_us".as_slice())
+    for name in first_line(text).split(|byte| *byte == b',') {
+        if name == b"source".as_slice() || name == b"min_us".as_slice() {
+            return true;
+        }
+    }
+    false
 }
 
 /// What was read of a table that has a fault or no plan.
