@@ -129,10 +129,13 @@ fn text_of(field: &[u8]) -> &str {
 
 /// The letters and digits of a text, in lower case: names of one column differ in case, spaces and signs.
 fn letters(alloc: Global, text: &str) -> Result<String, AllocError> {
-    text.chars()
-        .filter(|c| c.is_ascii_alphanumeric())
-        .map(|c| c.to_ascii_lowercase())
-        .collect(alloc)
+    let mut letters = String::new(alloc);
+    for c in text.chars() {
+        if c.is_ascii_alphanumeric() {
+            letters.push(c.to_ascii_lowercase())?;
+        }
+    }
+    Ok(letters)
 }
 
 /// Whether two texts have the same letters and digits.

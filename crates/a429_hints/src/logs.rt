@@ -7,7 +7,7 @@ use crate::rows::short_text;
 use crate::scripts::{NOT_UTF8, is_script_word};
 use a429_console::refusals::evidence::{LineEvidence, LogEvidence, LogRefusal};
 use a429_logs::{
-    Column, Fields, HeadingFault, LineFault, Mark, Places, RowFault, TimeUnit, WordPlaces,
+    Column, Fields, HeadingFault, LineFault, Mark, Places, RowFault, Shape, TimeUnit, WordPlaces,
 };
 use a429_text::renames::renamed;
 
@@ -52,7 +52,7 @@ pub fn tell_log_line<'a>(
             None => Mark::in_line(text.as_bytes()),
         },
         unit: log.unit,
-        places: log.shape.map(|shape| shape.places),
+        places: places_of(log.shape),
         channels,
     };
     if tell_first_field(line, &read, hint) {
@@ -103,13 +103,26 @@ fn count(read: &ReadLine<'_>) -> usize {
     count
 }
 
+/// The places of the fields of a log's rows.
+fn places_of(shape: Option<Shape>) -> Option<Places> {
+    Some(shape?.places)
+}
+
 fn time_in<'a>(read: &ReadLine<'a>) -> &'a str {
-    field(read, read.places.map_or(0, |places| places.time))
+    let place = match read.places {
+        Some(places) => places.time,
+        None => 0,
+    };
+    field(read, place)
 }
 
 /// The name that a line has.
 fn channel_in<'a>(read: &ReadLine<'a>) -> &'a str {
-    field(read, read.places.map_or(1, |places| places.name))
+    let place = match read.places {
+        Some(places) => places.name,
+        None => 1,
+    };
+    field(read, place)
 }
 
 /// The name as which it is taken.
@@ -266,7 +279,10 @@ fn tell_row(line: &LineEvidence, read: &ReadLine<'_>, fault: RowFault, hint: &Hi
 
 /// Says how many fields a line has, and how many it has to have.
 fn tell_count(read: &ReadLine<'_>, hint: &HintText) {
-    let needed = read.places.map_or(3, |places| places.count);
+    let needed = match read.places {
+        Some(places) => places.count,
+        None => 3,
+    };
     hint.begin(": ");
     hint.say_count("the number of fields is ", count(read));
     hint.say_count(", not ", needed);
@@ -326,11 +342,7 @@ fn tell_fall(line: &LineEvidence, read: &ReadLine<'_>, hint: &HintText) {
     });
     hint.begin(": the time ");
     hint.say_short("", time_in(read));
-    if earlier
-        .bytes()
-        .next()
-        .is_some_and(|byte| byte.is_ascii_digit())
-    {
+    if let [b'0'..=b'9', ..] = earlier.as_bytes() {
         hint.say_short(" is less than the time before it, ", earlier);
     } else {
         hint.say(" is less than that of the last word in the logs before");
@@ -340,8 +352,13 @@ fn tell_fall(line: &LineEvidence, read: &ReadLine<'_>, hint: &HintText) {
 
 /// Says what is wrong with a word.
 fn tell_word(read: &ReadLine<'_>, hint: &HintText) {
-    let place = match read.places.map(|places| places.word) {
-        Some(WordPlaces::Whole(place)) => place,
+    let place = match read.places {
+        Some(
+            Places {
+                word: WordPlaces::Whole(place),
+                ..
+            },
+        ) => place,
         _ => 2,
     };
     let word = field(read, place);
