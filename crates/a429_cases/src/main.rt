@@ -1,8 +1,8 @@
 //! Runs commands of the program `a429` over files in memory. Each case is data.
 //!
-//! The arguments are files. A file whose name ends in `.cases` has cases: they are played, each failed case is reported in
-//! one line, and then the number of cases is printed. Any other file is a text that the cases of later files can name. The
-//! status is 1 if a case failed.
+//! The arguments are files. A file whose name ends in `.cases` has cases: they are played, and each failed case is reported in
+//! one line, and so is a file that does not have as many cases as its first line says. Any other file is a text that the cases
+//! of later files can name. The status is 1 if something was reported.
 //!
 //! `data/README.md` describes the form of a file of cases.
 #![tactic(auto)]
@@ -30,6 +30,9 @@ fn main(rt: HostRuntime) -> io::Result<ExitCode> {
     let mut are_met = true;
     for path in env::args(&rt)?.skip(1) {
         are_met = take_file(&rt, &mut texts, &path) && are_met;
+    }
+    if are_met {
+        println!(rt; "all cases are met")?;
     }
     Ok(ExitCode::from(u8::from(!are_met)))
 }

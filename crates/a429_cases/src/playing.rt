@@ -5,7 +5,7 @@ use crate::case::{Case, case_of};
 use crate::outcome::Outcome;
 use crate::parts::keep_file;
 use crate::sections::{Written, read_sections};
-use crate::spelling::spelled;
+use crate::spelling::{number_before, spelled};
 use a429_cli::{MemoryFiles, run_program};
 use a429_hints::HintLines;
 use std::fs;
@@ -32,7 +32,19 @@ pub fn take_file<R: Files + Print + AllocGlobal + Threads + Wait>(
     }
 }
 
-/// Plays the cases of a file, and prints how many there are. Then it forgets the texts that the file shares.
+/// Whether a file of cases has as many as its first line says: `# 16 cases`.
+fn has_count(text: &str, count: usize) -> bool {
+    let Some(line) = text.strip_prefix("# ") else {
+        return false;
+    };
+    match number_before(line, " cases\n") {
+        Some((stated, _)) => stated == count,
+        None => false,
+    }
+}
+
+/// Plays the cases of a file. Then it forgets the texts that the file shares. `false` if a case failed, or if there are not as
+/// many as the file says.
 fn play_file<R: Print + AllocGlobal + Threads + Wait>(
     rt: &R,
     texts: &mut MemoryFiles,
@@ -49,7 +61,11 @@ fn play_file<R: Print + AllocGlobal + Threads + Wait>(
     }
     texts.files.truncate(kept);
     let count = cases.len();
-    println!(rt; "{name}: {count} cases").is_ok() && are_met
+    if !has_count(text, count) {
+        let _ = println!(rt; "{name}: {count} cases, which its first line does not say");
+        are_met = false;
+    }
+    are_met
 }
 
 /// Plays a case, and reports it if it fails.
