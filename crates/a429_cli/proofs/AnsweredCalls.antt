@@ -7,7 +7,7 @@ use Rattle.clap.specs.Words.{HasKind, Kinds}
 use Rattle.clap.specs.declared.error.Error.{Error}
 use Rattle.a429_console.specs.Ends.{EndsBy, IsPassedOn, IsPutTo, IsWhole, Writing}
 use Rattle.a429_console.specs.Outputs.{CountsFault, IsPut, NoneFailed, failed_line, is_closing}
-use Rattle.a429_console.specs.Usage.{elsewhere, kinds_of_words, live_kinds_of_words}
+use Rattle.a429_arguments.specs.Usage.{elsewhere, kinds_of_words, live_kinds_of_words}
 use Rattle.a429_console.specs.declared.output.OutputFault.{OutputFault}
 use Rattle.a429_console.proofs.CallEnds.{answered_ends, done_ends, failed_ends}
 use Rattle.a429_console.proofs.Endings.{failure_shows}

@@ -3,6 +3,7 @@ pub mod Left
 pub mod Ran
 pub mod AnsweredCalls
 pub mod WholeAnswers
+pub mod PlanReplies
 pub mod Imported
 pub mod LiveAnswers
 pub mod DataBits

@@ -1,10 +1,10 @@
 -- What answers a run of a station, by the command.
 use Rattle.std.proofs.Common.{◌≡◌, ℕ, List, true}
 use Rattle.std.specs.Prelude.{Option}
-use Rattle.a429_console.specs.Requests.{AskedBytes}
-use Rattle.a429_console.specs.Usage.{is_run}
-use Rattle.a429_console.specs.declared.arguments.forms.Verb.{Verb}
-use Rattle.a429_console.specs.declared.arguments.forms.Verb.TheVariants as verb
+use Rattle.a429_arguments.specs.Requests.{AskedBytes}
+use Rattle.a429_arguments.specs.Usage.{is_run}
+use Rattle.a429_arguments.specs.declared.forms.Verb.{Verb}
+use Rattle.a429_arguments.specs.declared.forms.Verb.TheVariants as verb
 use Rattle.a429_live.specs.LiveReplies.{IsLiveReply, TakesLive}
 use Rattle.a429_cli.specs.Replies.{IsReplyOf, HasNoWarning}
 

@@ -4,10 +4,10 @@ use Rattle.std.specs.Prelude.{Option, Result, Ok, Err, IfOk, OnOk}
 use Rattle.std.specs.Io.KnownBytes.{Appends}
 use Rattle.a429_console.specs.Outputs.{IsPut}
 use Rattle.a429_console.specs.Readings.{HasRead}
-use Rattle.a429_console.specs.Requests.{AskedBytes}
+use Rattle.a429_arguments.specs.Requests.{AskedBytes}
 use Rattle.a429_console.specs.declared.files.FileFault.{FileFault}
-use Rattle.a429_console.specs.declared.arguments.forms.Verb.{Verb}
-use Rattle.a429_console.specs.declared.arguments.forms.Verb.TheVariants as verb
+use Rattle.a429_arguments.specs.declared.forms.Verb.{Verb}
+use Rattle.a429_arguments.specs.declared.forms.Verb.TheVariants as verb
 use Rattle.a429_console.specs.declared.refusals.CommandRefusal.{CommandRefusal}
 use Rattle.a429_console.proofs.Refused.{told_or_memory}
 use Rattle.a429_cli.specs.Replies.{IsAnswerOf, IsNoAnswer, IsReplyOf, is_whole, trouble_of}

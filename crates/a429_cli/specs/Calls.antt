@@ -3,10 +3,10 @@ use Rattle.std.specs.Prelude.{◌≡◌, [], ℕ, List, Bool, if◌then◌else�
 use Rattle.clap.specs.Words.{Kinds}
 use Rattle.a429_console.specs.Ends.{EndsBy, IsLeft, IsPutTo, IsWhole, Writing}
 use Rattle.a429_console.specs.Outputs.{IsMemoryReply}
-use Rattle.a429_console.specs.RequestRows.{AsksFor}
-use Rattle.a429_console.specs.Requests.{AskedBytes, asked_of}
-use Rattle.a429_console.specs.Usage.{is_run, kinds_of_words, live_kinds_of_words}
-use Rattle.a429_console.specs.declared.arguments.requests.Asked.{Asked}
+use Rattle.a429_arguments.specs.RequestRows.{AsksFor}
+use Rattle.a429_arguments.specs.Requests.{AskedBytes, asked_of}
+use Rattle.a429_arguments.specs.Usage.{is_run, kinds_of_words, live_kinds_of_words}
+use Rattle.a429_arguments.specs.declared.requests.Asked.{Asked}
 
 -- what may be answered to arguments instead of a request, by `command_live` or by `command`
 abbrev pub kinds_here : Bool → List (List ℕ) → Kinds

@@ -7,14 +7,13 @@ use Rattle.a429_slots.specs.Proposed.{Proposed}
 use Rattle.a429_documents.specs.Drawing.{IsDrawingFault, image_height}
 use Rattle.a429_documents.specs.declared.drawing.DrawingFault.{DrawingFault}
 use Rattle.a429_documents.specs.declared.drawing.DrawingFault.TheVariants as drawing
-use Rattle.a429_console.specs.Requests.{OptionBytes}
+use Rattle.a429_arguments.specs.Requests.{OptionBytes}
 use Rattle.a429_console.specs.Tables.{IsGroupRefusal}
 use Rattle.a429_console.specs.RefusalText.{OrMemory}
 use Rattle.a429_console.specs.declared.refusals.CommandRefusal.{CommandRefusal}
 use Rattle.a429_console.specs.declared.refusals.CommandRefusal.TheVariants as refused
 use Rattle.a429_cli.specs.declared.drawings.Picture.{Picture}
 use Rattle.a429_cli.specs.declared.replies.reply.Reply.{Reply}
-use Rattle.a429_cli.specs.Proposals.{IsNoPlan, IsProposedIn}
 use Rattle.a429_cli.specs.WholeReplies.{Replies}
 
 -- the number of the first group of this name
@@ -47,19 +46,6 @@ abbrev pub IsUndrawn : Proposed → Option (List ℕ) → Picture → CommandRef
 IsUndrawn q group picture refusal =
     IsNoGroup q.station.groups group refusal
     ⊎ ((number : Option ℕ) × (group_asked q.station.groups group ≡ Some number) × IsTooHigh q number picture refusal)
-
--- the table in a file has a plan that can be drawn so
-abbrev pub HasImageOf : (List ℕ → Option (List ℕ)) → List ℕ → Option (List ℕ) → Picture → Type 0
-HasImageOf file name group picture = (q : Proposed) × IsProposedIn file name q × HasImage q group picture
-
--- why there is none: the file, or its table, or the plan of that, or its groups, or the image
-abbrev pub IsNoImage : (List ℕ → Option (List ℕ)) → List ℕ → Option (List ℕ) → Picture → CommandRefusal → Type 0
-IsNoImage file name group picture refusal =
-    IsNoPlan file name refusal ⊎ ((q : Proposed) × IsProposedIn file name q × IsUndrawn q group picture refusal)
-
--- a picture of it is printed, with status 0; nothing is said of its bytes
-abbrev pub IsImageOf : (List ℕ → Option (List ℕ)) → List ℕ → Option (List ℕ) → Picture → ℕ → List ℕ → Type 0
-IsImageOf file name group picture status bytes = HasImageOf file name group picture × (status ≡ 0)
 
 -- the group that is drawn, or that no group has the name that was asked for
 abbrev pub GivesGroup : List GroupRow → Option (List ℕ) → Result (Option ℕ) CommandRefusal → Type 0

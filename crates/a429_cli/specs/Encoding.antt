@@ -6,7 +6,7 @@ use Rattle.a429_word.specs.Bits.{label_of, sdi_of, ssm_of, data_of, number_from,
 use Rattle.a429_word.specs.Texts.{label_value}
 use Rattle.a429_word.specs.Hexadecimal.{hex, hex_onto, raw_word}
 use Rattle.a429_word.specs.Decimal.{decimal_number}
-use Rattle.a429_console.specs.Requests.{FieldBytes}
+use Rattle.a429_arguments.specs.Requests.{FieldBytes}
 use Rattle.a429_console.specs.declared.refusals.CommandRefusal.{CommandRefusal}
 use Rattle.a429_console.specs.declared.refusals.CommandRefusal.TheVariants as refused
 

@@ -1,6 +1,6 @@
 -- The command `judge`: its answer and its status.
 use Rattle.std.specs.Prelude.{◌≡◌, ◌∷◌, ℕ, List, Bool, Option, if◌then◌else◌}
-use Rattle.a429_console.specs.Requests.{AskedBytes}
+use Rattle.a429_arguments.specs.Requests.{AskedBytes}
 use Rattle.a429_console.specs.declared.refusals.CommandRefusal.{CommandRefusal}
 use Rattle.a429_recordings.specs.JudgeReplies.{BoxFiles, IsJudgedBy, IsUnjudgedBy, judge_form}
 

@@ -4,12 +4,13 @@ pub mod Encoding
 pub mod LineReports
 pub mod LineReplies
 pub mod Proposals
-pub mod PlanReplies
+pub mod Checks
 pub mod Drawings
 pub mod SlotReplies
 pub mod SurveyReplies
 pub mod JudgeAnswers
 pub mod Loads
+pub mod Plans
 pub mod Findings
 pub mod Importing
 pub mod Calls

@@ -4,8 +4,7 @@ use Rattle.a429_text.specs.Sheets.{sheet_text}
 use Rattle.a429_text.specs.declared.sheets.SheetForm.{SheetForm}
 use Rattle.a429_slots.specs.Proposed.{Proposed}
 use Rattle.a429_documents.specs.Load.{any_above, load_columns, load_rows, shown_for}
-use Rattle.a429_console.specs.CommandLine.{most_percent}
-use Rattle.a429_cli.specs.Proposals.{IsProposedIn}
+use Rattle.a429_arguments.specs.CommandLine.{most_percent}
 
 -- the limit in per cent: the rules of the command line let only 1 to 100 through
 abbrev pub limit_of : Option ℕ → Option ℕ
@@ -20,7 +19,3 @@ above_status false = 0
 abbrev pub IsLoad : Proposed → Option ℕ → SheetForm → ℕ → List ℕ → Type 0
 IsLoad q limit form status bytes =
     (bytes ≡ sheet_text form (load_columns (shown_for q.plan)) (load_rows limit q.station q.plan)) × (status ≡ above_status (any_above limit q.plan))
-
--- the same of the plan of the table in a file
-abbrev pub IsLoadOf : (List ℕ → Option (List ℕ)) → Option ℕ → SheetForm → List ℕ → ℕ → List ℕ → Type 0
-IsLoadOf file limit form name status bytes = (q : Proposed) × IsProposedIn file name q × IsLoad q (limit_of limit) form status bytes

@@ -2,10 +2,10 @@
 use Rattle.std.specs.Prelude.{◌≡◌, ◌≤◌, [], ◌∷◌, ◌⊎◌, ℕ, List, Bool, false, Option, IsTrue, codes}
 use Rattle.std.specs.Str.{bytes_eq}
 use Rattle.a429_console.specs.Ends.{EndsBy, IsLeft, IsMemoryRefused, IsMistakeTold, IsPutTo, IsWhole, Writing}
-use Rattle.a429_console.specs.GivenWords.{AreAllWords, HasNoText}
-use Rattle.a429_console.specs.RequestRows.{AsksFor}
-use Rattle.a429_console.specs.Requests.{AskedBytes}
-use Rattle.a429_console.specs.Usage.{is_run}
+use Rattle.a429_arguments.specs.GivenWords.{AreAllWords, HasNoText}
+use Rattle.a429_arguments.specs.RequestRows.{AsksFor}
+use Rattle.a429_arguments.specs.Requests.{AskedBytes}
+use Rattle.a429_arguments.specs.Usage.{is_run}
 use Rattle.a429_cli.specs.Calls.{kinds_here}
 use Rattle.a429_cli.specs.Replies.{IsReplyOrMemory, IsSilent, trouble_of}
 

@@ -2,19 +2,16 @@
 use Rattle.std.specs.Prelude.{◌∷◌, ⊤, ℕ, List, Bool, true, false, Option, Result}
 use Rattle.a429_console.specs.Outputs.{FailedCalls, OrNoMemory}
 use Rattle.a429_console.specs.Replying.{RepliesByReader, RepliesToWords}
-use Rattle.a429_console.specs.Requests.{AskedBytes}
-use Rattle.a429_console.specs.declared.arguments.forms.Verb.{Verb}
-use Rattle.a429_console.specs.declared.arguments.forms.Verb.TheVariants as verb
+use Rattle.a429_arguments.specs.Requests.{AskedBytes}
+use Rattle.a429_arguments.specs.declared.forms.Verb.{Verb}
+use Rattle.a429_arguments.specs.declared.forms.Verb.TheVariants as verb
 use Rattle.a429_console.specs.declared.files.FileFault.{FileFault}
 use Rattle.a429_console.specs.declared.refusals.CommandRefusal.{CommandRefusal}
 use Rattle.a429_cli.specs.WordLines.{IsNoWord, IsWordOf}
 use Rattle.a429_cli.specs.LineReplies.{IsLinesReply}
-use Rattle.a429_cli.specs.PlanReplies.{IsCheckOf, IsNoCheck, IsPlanTextOf}
-use Rattle.a429_cli.specs.Drawings.{IsImageOf, IsNoImage, picture_of}
+use Rattle.a429_cli.specs.Checks.{IsCheckOf, IsNoCheck}
 use Rattle.a429_cli.specs.Encoding.{IsEncoded, IsNotEncoded}
-use Rattle.a429_cli.specs.Loads.{IsLoadOf}
-use Rattle.a429_cli.specs.Proposals.{IsNoPlan}
-use Rattle.a429_cli.specs.SlotReplies.{IsNoSlots, IsSlotsOf, slots_form}
+use Rattle.a429_cli.specs.Plans.{IsNoPlanReply, IsPlanReply}
 use Rattle.a429_cli.specs.Findings.{IsDiffOf, IsLinted, IsNoDiff, IsNoLint}
 use Rattle.a429_cli.specs.Importing.{ImportsNoShortGroup, IsImported, IsNoImport}
 use Rattle.a429_live.specs.LiveReplies.{IsLiveReply, TakesLive}
@@ -23,7 +20,6 @@ use Rattle.a429_recordings.specs.SimulationReplies.{IsSimulation, SimulatesSpace
 use Rattle.a429_cli.specs.JudgeAnswers.{IsJudgement, IsUnjudged}
 use Rattle.a429_cli.specs.SurveyReplies.{IsSurveyed, IsUnsurveyed}
 use Rattle.a429_cli.specs.WholeReplies.{IsReplyBy}
-use Rattle.a429_cli.specs.declared.plan_texts.PlanText.TheVariants as told
 
 -- the command prints nothing before it has its whole answer
 abbrev pub is_whole : Verb → Bool
@@ -46,18 +42,12 @@ abbrev pub IsAnswerOf : Verb → (List ℕ → Option (List ℕ)) → AskedBytes
 IsAnswerOf verb.Word file r = IsWordOf r.first
 IsAnswerOf verb.Encode file r = IsEncoded r.first r.options.fields
 IsAnswerOf verb.Import file r = IsImported file r.maps r.options.names r.first
-IsAnswerOf verb.Plan file r = IsPlanTextOf file told.Plan r.first
 IsAnswerOf verb.Check file r = IsCheckOf file r.first r.second
-IsAnswerOf verb.Icd file r = IsPlanTextOf file (told.Document r.options.form r.options.text) r.first
-IsAnswerOf verb.Margin file r = IsPlanTextOf file (told.Margin r.options.form) r.first
-IsAnswerOf verb.Load file r = IsLoadOf file r.options.limit r.options.form r.first
-IsAnswerOf verb.Slots file r = IsSlotsOf file (slots_form r.options) r.first r.options.group
 IsAnswerOf verb.Lint file r = IsLinted file r.options.form r.first
 IsAnswerOf verb.Diff file r = IsDiffOf file r.options.all r.options.form r.first r.second
-IsAnswerOf verb.Draw file r = IsImageOf file r.first r.options.group (picture_of r.options)
 IsAnswerOf verb.Survey file r = IsSurveyed file r
 IsAnswerOf verb.Judge file r = IsJudgement file r
-IsAnswerOf _ file r = λ status bytes. ⊥
+IsAnswerOf v file r = IsPlanReply v file r
 
 -- why there is none
 abbrev pub IsNoAnswer : Verb → (List ℕ → Option (List ℕ)) → AskedBytes → CommandRefusal → Type 0
@@ -65,13 +55,11 @@ IsNoAnswer verb.Word file r = IsNoWord r.first
 IsNoAnswer verb.Encode file r = IsNotEncoded r.first r.options.fields
 IsNoAnswer verb.Import file r = IsNoImport file r.maps r.options.names r.first
 IsNoAnswer verb.Check file r = IsNoCheck file r.first r.second
-IsNoAnswer verb.Slots file r = IsNoSlots file r.first r.options.group
 IsNoAnswer verb.Lint file r = IsNoLint file r.first
 IsNoAnswer verb.Diff file r = IsNoDiff file r.first r.second
-IsNoAnswer verb.Draw file r = IsNoImage file r.first r.options.group (picture_of r.options)
 IsNoAnswer verb.Survey file r = IsUnsurveyed file r
 IsNoAnswer verb.Judge file r = IsUnjudged file r
-IsNoAnswer _ file r = IsNoPlan file r.first
+IsNoAnswer v file r = IsNoPlanReply v file r
 
 -- the status and the bytes that answer a command, by these files and by what it is given
 abbrev pub IsReplyOf : Verb → (List ℕ → Option (List ℕ)) → AskedBytes → ℕ → List ℕ → Type 0

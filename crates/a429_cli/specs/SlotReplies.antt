@@ -1,13 +1,12 @@
 -- The command `slots`: what it writes, its status, and when it is refused (profile: output).
-use Rattle.std.specs.Prelude.{◌≡◌, ◌⊎◌, ℕ, List, Option, Result, Some, if◌then◌else◌}
+use Rattle.std.specs.Prelude.{◌≡◌, ℕ, List, Option, Result, Some, if◌then◌else◌}
 use Rattle.a429_text.specs.Sheets.{sheet_text}
 use Rattle.a429_slots.specs.Proposed.{Proposed}
 use Rattle.a429_documents.specs.SlotHeader.{header_text}
 use Rattle.a429_documents.specs.SlotRows.{slot_columns, slot_rows}
-use Rattle.a429_console.specs.Requests.{OptionBytes}
+use Rattle.a429_arguments.specs.Requests.{OptionBytes}
 use Rattle.a429_console.specs.declared.refusals.CommandRefusal.{CommandRefusal}
 use Rattle.a429_cli.specs.Drawings.{IsNoGroup, group_asked}
-use Rattle.a429_cli.specs.Proposals.{IsNoPlan, IsProposedIn}
 use Rattle.a429_cli.specs.WholeReplies.{Replies}
 use Rattle.a429_cli.specs.declared.replies.reply.Reply.{Reply}
 use Rattle.a429_cli.specs.declared.slots.SlotsForm.{SlotsForm}
@@ -30,12 +29,3 @@ HasSlots form q group status bytes =
 -- these, or that no group has the name
 abbrev pub GivesSlots : SlotsForm → Proposed → Option (List ℕ) → Result Reply CommandRefusal → Type 0
 GivesSlots form q group = Replies (HasSlots form q group) (IsNoGroup q.station.groups group)
-
--- the same of the plan of the table in a file
-abbrev pub IsSlotsOf : (List ℕ → Option (List ℕ)) → SlotsForm → List ℕ → Option (List ℕ) → ℕ → List ℕ → Type 0
-IsSlotsOf file form name group status bytes = (q : Proposed) × IsProposedIn file name q × HasSlots form q group status bytes
-
--- why there is nothing: the file, or its table, or the plan of that, or its groups
-abbrev pub IsNoSlots : (List ℕ → Option (List ℕ)) → List ℕ → Option (List ℕ) → CommandRefusal → Type 0
-IsNoSlots file name group refusal =
-    IsNoPlan file name refusal ⊎ ((q : Proposed) × IsProposedIn file name q × IsNoGroup q.station.groups group refusal)

@@ -4,19 +4,19 @@ ghost use Rattle.std.specs.Io.KnownBytes.{Appends};
 ghost use Rattle.clap.specs.declared.error.kind.ErrorKind.TheVariants.{OutOfMemory};
 ghost use Rattle.clap.specs.Words.{HasKind, Kinds, kind_of};
 ghost use Rattle.a429_console.specs.Ends.{EndsBy, writing};
-ghost use Rattle.a429_console.specs.Files.{texts_of};
+ghost use Rattle.a429_arguments.specs.Texts.{texts_of};
 ghost use Rattle.a429_console.specs.Outputs.{NoneFailed, failed_line, is_closing};
-ghost use Rattle.a429_console.specs.Usage.{elsewhere};
+ghost use Rattle.a429_arguments.specs.Usage.{elsewhere};
 ghost use Rattle.a429_cli.specs.Calls.{IsAskedHere, IsExplained, IsSpent};
 
 use crate::runs::is_run;
+use a429_arguments::requests::{Asked, other_call_error, parse};
 use a429_console::answered::Answered;
-use a429_console::arguments::replies::explain;
-use a429_console::arguments::requests::{Asked, other_call_error, parse};
 use a429_console::hints::warnings::Warning;
 use a429_console::hints::{Hints, tell_hints};
 use a429_console::output::endings::tell_fault;
 use a429_console::output::{Output, OutputFault};
+use a429_console::replies::explain;
 use clap::Error;
 use std::alloc::Global;
 

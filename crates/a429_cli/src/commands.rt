@@ -1,34 +1,32 @@
 //! Commands, from arguments and files to bytes.
 ghost use Rattle.std.specs.Prelude.{[], ◌∷◌, ◌≡◌, ◌≤◌, ◌+◌, ◌⊎◌, false, true, IfOk, IsTrue, OnErr, OnOk};
 ghost use Rattle.a429_console.specs.Ends.{EndsBy, writing};
-ghost use Rattle.a429_console.specs.Files.{texts_of};
+ghost use Rattle.a429_arguments.specs.Texts.{texts_of};
 ghost use Rattle.a429_console.specs.Outputs.{CountsFault, IsPut};
 ghost use Rattle.a429_console.specs.Readings.{HasRead, HasReadFrom};
-ghost use Rattle.a429_console.specs.RequestRows.{AsksFor};
-ghost use Rattle.a429_console.specs.Requests.{AskedBytes, asked_of};
+ghost use Rattle.a429_arguments.specs.RequestRows.{AsksFor};
+ghost use Rattle.a429_arguments.specs.Requests.{AskedBytes, asked_of};
 ghost use Rattle.a429_recordings.specs.LogItems.{channels_named, logs_named};
 ghost use Rattle.a429_cli.specs.Replies.{IsAnswerOf, IsNoAnswer, IsReplyOrMemory, RepliesToCommand, RepliesToCommandByReader, IsSilent, is_whole, trouble_of};
 ghost use Rattle.a429_cli.specs.WholeReplies.{Replies};
-ghost use Rattle.a429_console.specs.Usage.{is_run, kinds_of_words};
+ghost use Rattle.a429_arguments.specs.Usage.{is_run, kinds_of_words};
 
 use crate::calls::{asked_here, ended};
-use crate::drawings::{Picture, drawing_reply};
+use crate::checks::check_reply;
 use crate::encode::encode_reply;
 use crate::findings::{diff_reply, lint_reply};
 use crate::import::import_reply;
 use crate::judging::judge_reply;
 use crate::lines::tell_lines;
-use crate::loads::load_reply;
-use crate::plan_texts::{PlanText, check_reply, plan_reply};
+use crate::plans::plan_reply;
 use crate::replies::put_reply;
 use crate::replies::reply::Reply;
 use crate::runs::{is_whole, trouble_of};
-use crate::slots::{SlotsForm, slots_reply};
 use crate::surveys::survey_reply;
 use crate::word::word_reply;
+use a429_arguments::forms::Verb;
+use a429_arguments::requests::Asked;
 use a429_console::answered::Answered;
-use a429_console::arguments::forms::Verb;
-use a429_console::arguments::requests::Asked;
 use a429_console::files::FileReader;
 use a429_console::hints::Hints;
 use a429_console::hints::warnings::Warning;
@@ -103,27 +101,12 @@ fn reply_to<F: FileReader>(
         Verb::Word => word_reply(alloc, first),
         Verb::Encode => encode_reply(alloc, first, &options.fields),
         Verb::Import => import_reply(alloc, files, first, maps, options.names, warnings),
-        Verb::Plan => plan_reply(alloc, files, first, PlanText::Plan),
         Verb::Check => check_reply(alloc, files, first, second),
-        Verb::Icd => {
-            let kind = PlanText::Document(form, options.text);
-            plan_reply(alloc, files, first, kind)
-        }
-        Verb::Margin => plan_reply(alloc, files, first, PlanText::Margin(form)),
-        Verb::Load => load_reply(alloc, files, first, options.limit, form),
-        Verb::Slots => {
-            let form = SlotsForm::of(options);
-            slots_reply(alloc, files, first, options.group, form)
-        }
         Verb::Lint => lint_reply(alloc, files, first, form),
         Verb::Diff => diff_reply(alloc, files, first, second, options.all, form),
-        Verb::Draw => {
-            let picture = Picture::of(options);
-            drawing_reply(alloc, files, first, options.group, picture)
-        }
         Verb::Survey => survey_reply(alloc, files, asked),
         Verb::Judge => judge_reply(alloc, files, asked),
-        Verb::Lines | Verb::Replay | Verb::Simulate | Verb::Live => unreachable!(),
+        _ => plan_reply(alloc, files, asked),
     }
 }
 

@@ -1,17 +1,12 @@
-//! The command that draws the plan of a table.
+//! What `draw` writes about a plan.
 ghost use Rattle.std.specs.Prelude.{◌≡◌, ◌<◌, IfErr, IfOk, IfSome, Some, length};
 ghost use Rattle.std.specs.Option.{option_copied};
-ghost use Rattle.a429_console.specs.Readings.{HasRead};
-ghost use Rattle.a429_cli.specs.Drawings.{GivesGroup, GivesNamedImage, GivesNumbered, IsImageOf, IsNoImage, group_numbered, refusal_of};
-ghost use Rattle.a429_cli.specs.WholeReplies.{Replies};
+ghost use Rattle.a429_cli.specs.Drawings.{GivesGroup, GivesNamedImage, GivesNumbered, group_numbered, refusal_of};
 ghost use Rattle.a429_console.specs.declared.refusals.CommandRefusal.TheVariants.{Memory};
 ghost use Rattle.a429_slots.specs.Tables.{groups_of};
 
-use crate::proposals::propose_file;
 use crate::replies::reply::Reply;
-use a429_console::arguments::requests::Options;
-use a429_console::files::FileReader;
-use a429_console::planning::with_plan;
+use a429_arguments::requests::Options;
 use a429_console::refusals::tables::no_group;
 use a429_console::refusals::{CommandRefusal, Refused};
 use a429_documents::{Drawing, DrawingFault, DrawingForm, draw_text, page_text};
@@ -28,7 +23,7 @@ pub struct Picture {
 
 impl Picture {
     ghost use Rattle.std.specs.Prelude.{◌≡◌};
-    ghost use Rattle.a429_console.specs.Requests.{given_of};
+    ghost use Rattle.a429_arguments.specs.Requests.{given_of};
     ghost use Rattle.a429_cli.specs.Drawings.{picture_of};
 
     /// The picture that these options ask for.
@@ -115,9 +110,9 @@ fn image_numbered(
     }
 }
 
-/// The picture of a proposal's plan, of the group of this name or of all. A name that no group has is refused first, then an
-/// image that is too high.
-fn image_of(
+/// The picture of a proposal's plan, of the group of this name or of all, with status 0. A name that no group has is refused
+/// first, then an image that is too high.
+pub fn image_of(
     alloc: Global,
     proposal: &Proposal<OUTPUTS>,
     group: Option<&str>,
@@ -128,21 +123,4 @@ fn image_of(
     let _plan = proposal.plan();
     let number = group_asked(alloc, proposal.equipment().groups(), group)?;
     image_numbered(alloc, proposal, number, picture)
-}
-
-/// The picture of the plan of the table in a file, of the group of this name or of all, with status 0. The file is refused
-/// first, then the table, then its plan, then the name, then an image that is too high.
-pub fn drawing_reply<F: FileReader>(
-    alloc: Global,
-    files: &mut F,
-    name: &str,
-    group: Option<&str>,
-    picture: Picture,
-) -> Result<Reply, Refused>
-    ensures { HasRead F.answers (λ file. Replies (IsImageOf file name.now (option_copied group.entry) picture)
-        (IsNoImage file name.now (option_copied group.entry) picture) result) files.old files.new }
-{
-    let proposal = propose_file(alloc, files, name)?;
-    let image = image_of(alloc, &proposal, group, picture);
-    with_plan(image, proposal)
 }

@@ -1,13 +1,13 @@
 //! The command `encode`.
 ghost use Rattle.std.specs.Prelude.{◌≡◌, ◌<◌, ◌≤◌, ◌-◌, ◌%◌, ◌^◌, MatchOption};
-ghost use Rattle.a429_console.specs.Requests.{fields_of};
+ghost use Rattle.a429_arguments.specs.Requests.{fields_of};
 ghost use Rattle.a429_cli.specs.Encoding.{GivesData, HasBcd, HasBnr, HasData, HasFields, HasHex, IsEncoded, IsNoBcd, IsNoBnr, IsNoHex, IsNotEncoded, NoWordHasData, NoWordHasFields, given_sdi, given_ssm, hex_number, in_place};
 ghost use Rattle.a429_cli.specs.WholeReplies.{Replies};
 
 use crate::replies::reply::Reply;
-use a429_console::arguments::requests::FieldOptions;
-use a429_console::output::from_end::push_hex;
+use a429_arguments::requests::FieldOptions;
 use a429_console::refusals::{CommandRefusal, Refused};
+use a429_text::from_end::push_hex;
 use a429_word::{Label, Sdi, Ssm, Word, decimal_number, raw_word};
 use std::alloc::Global;
 

@@ -1,13 +1,13 @@
 //! The command `judge`: the status says whether something was found.
 ghost use Rattle.std.specs.Prelude.{◌≡◌};
 ghost use Rattle.a429_console.specs.Readings.{HasRead};
-ghost use Rattle.a429_console.specs.Requests.{asked_of};
+ghost use Rattle.a429_arguments.specs.Requests.{asked_of};
 ghost use Rattle.a429_recordings.specs.JudgeReplies.{names_of};
 ghost use Rattle.a429_cli.specs.JudgeAnswers.{IsJudgement, IsUnjudged, box_names, judge_status};
 ghost use Rattle.a429_cli.specs.WholeReplies.{Replies};
 
 use crate::replies::reply::Reply;
-use a429_console::arguments::requests::Asked;
+use a429_arguments::requests::Asked;
 use a429_console::files::FileReader;
 use a429_console::refusals::Refused;
 use a429_recordings::judge::{JudgeForm, JudgeNames, judge_logs};

@@ -18,6 +18,7 @@
 #![tactic(auto)]
 
 mod calls;
+mod checks;
 mod commands;
 mod drawings;
 mod encode;
@@ -28,7 +29,7 @@ pub mod laws;
 mod lines;
 mod live;
 mod loads;
-mod plan_texts;
+mod plans;
 mod program;
 mod proposals;
 mod replies;
@@ -37,9 +38,9 @@ mod slots;
 mod surveys;
 mod word;
 
+pub use a429_arguments::given::{Arguments, given_words};
+pub use a429_arguments::requests::Asked;
 pub use a429_console::answered::Answered;
-pub use a429_console::arguments::given::{Arguments, given_words};
-pub use a429_console::arguments::requests::Asked;
 pub use a429_console::files::disk::DiskFiles;
 pub use a429_console::files::memory::MemoryFiles;
 pub use a429_console::files::{FileFault, FileReader, FileTrouble, LARGEST_FILE};

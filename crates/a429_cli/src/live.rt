@@ -1,12 +1,12 @@
 //! The command `live`, from arguments and files to bytes.
 ghost use Rattle.std.specs.Prelude.{◌≡◌, ◌≤◌, true};
 ghost use Rattle.a429_console.specs.Ends.{EndsBy, writing};
-ghost use Rattle.a429_console.specs.Files.{texts_of};
+ghost use Rattle.a429_arguments.specs.Texts.{texts_of};
 ghost use Rattle.a429_console.specs.Readings.{HasReadFrom};
-ghost use Rattle.a429_console.specs.RequestRows.{AsksFor};
-ghost use Rattle.a429_console.specs.Requests.{AskedBytes};
+ghost use Rattle.a429_arguments.specs.RequestRows.{AsksFor};
+ghost use Rattle.a429_arguments.specs.Requests.{AskedBytes};
 ghost use Rattle.a429_cli.specs.Replies.{RepliesToLive, RepliesToLiveByReader, IsSilent};
-ghost use Rattle.a429_console.specs.Usage.{is_run, live_kinds_of_words};
+ghost use Rattle.a429_arguments.specs.Usage.{is_run, live_kinds_of_words};
 
 use crate::calls::{asked_here, ended};
 use a429_console::files::FileReader;

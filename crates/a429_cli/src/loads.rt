@@ -1,15 +1,9 @@
-//! The command `load`: the status says whether a bus is above the limit.
+//! What `load` writes about a plan: the status says whether a bus is above the limit.
 ghost use Rattle.std.specs.Prelude.{◌≡◌, ◌≤◌, IfOk, IfSome};
-ghost use Rattle.a429_console.specs.Readings.{HasRead};
-ghost use Rattle.a429_cli.specs.Loads.{IsLoad, IsLoadOf, above_status, limit_of};
-ghost use Rattle.a429_cli.specs.Proposals.{IsNoPlan};
-ghost use Rattle.a429_cli.specs.WholeReplies.{Replies};
+ghost use Rattle.a429_cli.specs.Loads.{IsLoad, above_status, limit_of};
 
-use crate::proposals::propose_file;
 use crate::replies::reply::Reply;
 use a429_console::answered::Found;
-use a429_console::files::FileReader;
-use a429_console::refusals::Refused;
 use a429_documents::load_sheet;
 use a429_slots::{OUTPUTS, Proposal};
 use a429_text::SheetForm;
@@ -33,8 +27,9 @@ fn above_status(above: bool) -> u8
     if above { 1 } else { 0 }
 }
 
-/// The load of each bus of a proposal's plan, in a form. Error: an allocation failed.
-fn load_of(
+/// The load of each bus of a proposal's plan, in a form. The status is 1 if a bus is above the limit in per cent, otherwise 0.
+/// Error: an allocation failed.
+pub fn load_of(
     alloc: Global,
     proposal: &Proposal<OUTPUTS>,
     limit: Option<u32>,
@@ -49,19 +44,4 @@ fn load_of(
         status: above_status(load.above),
         found: Found::Nothing,
     })
-}
-
-/// The load of each bus of the plan of the table in a file, in a form. The status is 1 if a bus is above the limit in per
-/// cent, otherwise 0. The file is refused first, then the table, then its plan.
-pub fn load_reply<F: FileReader>(
-    alloc: Global,
-    files: &mut F,
-    name: &str,
-    limit: Option<u32>,
-    form: SheetForm,
-) -> Result<Reply, Refused>
-    ensures { HasRead F.answers (λ file. Replies (IsLoadOf file limit form name.now) (IsNoPlan file name.now) result) files.old files.new }
-{
-    let proposal = propose_file(alloc, files, name)?;
-    Ok(load_of(alloc, &proposal, limit, form)?)
 }

@@ -1,18 +1,18 @@
 //! The whole program: from its arguments to a status.
 ghost use Rattle.std.specs.Prelude.{◌≡◌, false, map, string_bytes, true, IfOk};
 ghost use Rattle.a429_console.specs.Ends.{IsMemoryRefused, writing};
-ghost use Rattle.a429_console.specs.Files.{texts_of};
+ghost use Rattle.a429_arguments.specs.Texts.{texts_of};
 ghost use Rattle.a429_console.specs.Readings.{HasReadFrom};
 ghost use Rattle.a429_cli.specs.ProgramRuns.{HasRunProgram, IsCallDone, IsDoneOrRefused, is_live};
 
 use crate::commands::command;
 use crate::live::command_live;
-use a429_console::arguments::given::{Arguments, WordsFault, given_words};
-use a429_console::arguments::replies::warn;
+use a429_arguments::given::{Arguments, WordsFault, given_words};
 use a429_console::files::FileReader;
 use a429_console::hints::Hints;
 use a429_console::output::Output;
 use a429_console::output::endings::{refuse_memory, tell_fault};
+use a429_console::replies::warn;
 use a429_live::Progress;
 use std::alloc::{AllocError, Global};
 use std::sync::Wait;

@@ -1,4 +1,4 @@
-//! The proposal of the table in a file, which most commands begin with.
+//! The proposal of the table in a file, with which the commands on one plan begin.
 ghost use Rattle.a429_console.specs.Readings.{HasRead};
 ghost use Rattle.a429_cli.specs.Proposals.{IsProposingIn};
 

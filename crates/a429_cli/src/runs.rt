@@ -1,9 +1,9 @@
 //! Commands by how they answer.
 ghost use Rattle.std.specs.Prelude.{◌≡◌, ◌≤◌};
-ghost use Rattle.a429_console.specs.Usage.{is_run};
+ghost use Rattle.a429_arguments.specs.Usage.{is_run};
 ghost use Rattle.a429_cli.specs.Replies.{is_whole, trouble_of};
 
-use a429_console::arguments::forms::Verb;
+use a429_arguments::forms::Verb;
 
 /// Whether a command runs a station: `command_live` does it, and `command` all others.
 pub fn is_run(verb: Verb) -> bool

@@ -1,17 +1,12 @@
-//! The command `slots`.
+//! What `slots` writes about a plan.
 ghost use Rattle.std.specs.Prelude.{◌≡◌, ◌<◌, IfOk, IfSome, length};
 ghost use Rattle.std.specs.Option.{option_copied};
-ghost use Rattle.a429_console.specs.Readings.{HasRead};
 ghost use Rattle.a429_slots.specs.Tables.{groups_of};
-ghost use Rattle.a429_cli.specs.SlotReplies.{GivesSlots, IsNoSlots, IsSlotsOf, slots_text};
-ghost use Rattle.a429_cli.specs.WholeReplies.{Replies};
+ghost use Rattle.a429_cli.specs.SlotReplies.{GivesSlots, slots_text};
 
 use crate::drawings::group_asked;
-use crate::proposals::propose_file;
 use crate::replies::reply::Reply;
-use a429_console::arguments::requests::Options;
-use a429_console::files::FileReader;
-use a429_console::planning::with_plan;
+use a429_arguments::requests::Options;
 use a429_console::refusals::Refused;
 use a429_documents::{slot_header, slot_sheet};
 use a429_slots::{OUTPUTS, Proposal};
@@ -31,7 +26,7 @@ pub struct SlotsForm {
 
 impl SlotsForm {
     ghost use Rattle.std.specs.Prelude.{◌≡◌};
-    ghost use Rattle.a429_console.specs.Requests.{given_of};
+    ghost use Rattle.a429_arguments.specs.Requests.{given_of};
     ghost use Rattle.a429_cli.specs.SlotReplies.{slots_form};
 
     /// What is asked for.
@@ -63,8 +58,8 @@ fn slots_text(
     }
 }
 
-/// The same of the group of this name. A name that no group has is refused.
-fn slots_of(
+/// The same of the group of this name, with status 0. A name that no group has is refused.
+pub fn slots_of(
     alloc: Global,
     proposal: &Proposal<OUTPUTS>,
     group: Option<&str>,
@@ -76,21 +71,4 @@ fn slots_of(
     let number = group_asked(alloc, proposal.equipment().groups(), group)?;
     let text = slots_text(alloc, proposal, number, form)?;
     Ok(Reply::done(text))
-}
-
-/// The slot tables of the plan of the table in a file, of the group of this name or of all, with status 0. The file is
-/// refused first, then the table, then its plan, then the name.
-pub fn slots_reply<F: FileReader>(
-    alloc: Global,
-    files: &mut F,
-    name: &str,
-    group: Option<&str>,
-    form: SlotsForm,
-) -> Result<Reply, Refused>
-    ensures { HasRead F.answers (λ file. Replies (IsSlotsOf file form name.now (option_copied group.entry))
-        (IsNoSlots file name.now (option_copied group.entry)) result) files.old files.new }
-{
-    let proposal = propose_file(alloc, files, name)?;
-    let reply = slots_of(alloc, &proposal, group, form);
-    with_plan(reply, proposal)
 }

@@ -1,13 +1,13 @@
 //! The command `survey`.
 ghost use Rattle.std.specs.Prelude.{◌≡◌, ◌∷◌};
 ghost use Rattle.a429_console.specs.Readings.{HasRead};
-ghost use Rattle.a429_console.specs.Requests.{asked_of};
+ghost use Rattle.a429_arguments.specs.Requests.{asked_of};
 ghost use Rattle.a429_recordings.specs.LogItems.{channels_named, logs_named};
 ghost use Rattle.a429_cli.specs.SurveyReplies.{IsSurveyed, IsUnsurveyed};
 ghost use Rattle.a429_cli.specs.WholeReplies.{Replies};
 
 use crate::replies::reply::Reply;
-use a429_console::arguments::requests::Asked;
+use a429_arguments::requests::Asked;
 use a429_console::files::FileReader;
 use a429_console::refusals::Refused;
 use a429_recordings::survey::{LogNames, SurveyForm, survey_logs};

@@ -8,11 +8,11 @@ use Rattle.std.specs.Prelude.{IsTrue, Option, codes}
 use Rattle.std.specs.Str.{IsUtf8}
 use Rattle.a429_console.specs.Ends.{IsPutTo, IsWhole, Writing}
 use Rattle.a429_console.specs.Outputs.{IsPut}
-use Rattle.a429_console.specs.RequestRows.{AsksFor}
-use Rattle.a429_console.specs.Requests.{AskedBytes, HasWords, IsName, asked_by_names}
-use Rattle.a429_console.specs.Usage.{is_run}
-use Rattle.a429_console.specs.declared.arguments.forms.Verb.TheVariants as verb
-use Rattle.a429_console.proofs.NoOptions.{can_give_nothing, nothing_given}
+use Rattle.a429_arguments.specs.RequestRows.{AsksFor}
+use Rattle.a429_arguments.specs.Requests.{AskedBytes, HasWords, IsName, asked_by_names}
+use Rattle.a429_arguments.specs.Usage.{is_run}
+use Rattle.a429_arguments.specs.declared.forms.Verb.TheVariants as verb
+use Rattle.a429_arguments.proofs.NoOptions.{can_give_nothing, nothing_given}
 use Rattle.a429_cli.specs.ProgramRuns.{IsDoneOrRefused, Reader, is_live}
 use Rattle.a429_cli.specs.Replies.{IsReplyOrMemory}
 use Rattle.a429_commands.specs.WordsInMemory.{AreTexts, ProgramGetsItsWords}

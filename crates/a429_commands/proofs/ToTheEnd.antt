@@ -1,8 +1,8 @@
 -- A replay of status 0 came to its end.
 use Rattle.std.proofs.Common.{inl, inr, ◌≡◌, ℕ, List, [], arith}
 use Rattle.std.specs.Prelude.{Option}
-use Rattle.a429_console.specs.Requests.{asked_by_names}
-use Rattle.a429_console.specs.declared.arguments.forms.Verb.TheVariants as verb
+use Rattle.a429_arguments.specs.Requests.{asked_by_names}
+use Rattle.a429_arguments.specs.declared.forms.Verb.TheVariants as verb
 use Rattle.a429_cli.specs.Replies.{IsReplyOrMemory}
 use Rattle.a429_commands.specs.Replayed.{IsPlayedToTheEnd}
 

@@ -1,8 +1,8 @@
 -- A replay that came to its end.
 use Rattle.std.specs.Prelude.{ℕ, List, [], Option}
 use Rattle.a429_slots.specs.Proposed.{Proposed}
-use Rattle.a429_console.specs.Requests.{asked_by_names}
-use Rattle.a429_console.specs.declared.arguments.forms.Verb.TheVariants as verb
+use Rattle.a429_arguments.specs.Requests.{asked_by_names}
+use Rattle.a429_arguments.specs.declared.forms.Verb.TheVariants as verb
 use Rattle.a429_cli.specs.Replies.{IsReplyOrMemory}
 use Rattle.a429_replay.specs.Replaying.{IsInput, IsPlayed, IsStart, ReplayInput}
 use Rattle.a429_replay.specs.declared.script.ScriptEvent.{ScriptEvent}

@@ -1,12 +1,12 @@
 //! A replay over files in memory: by the command, and by the whole program.
 ghost use Rattle.std.specs.Prelude.{◌≡◌, IfSome};
-ghost use Rattle.a429_console.specs.Requests.{IsName};
+ghost use Rattle.a429_arguments.specs.Requests.{IsName};
 ghost use Rattle.a429_console.specs.MemoryFile.{file_of};
 ghost use Rattle.a429_commands.specs.Replayed.{IsPlayedToTheEnd, IsReplayReply};
 
 use crate::words::run_on_words;
+use a429_arguments::laws::plain_words_ask;
 use a429_cli::{CountedWriter, Hints, MemoryFiles, NoProgress, command};
-use a429_console::laws::plain_words_ask;
 use std::alloc::Global;
 use std::sync::Wait;
 use std::thread::Threads;

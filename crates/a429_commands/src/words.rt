@@ -1,7 +1,7 @@
 //! Arguments in memory, and the program on them.
 ghost use Rattle.std.specs.Io.{WritesAtMost};
 ghost use Rattle.a429_console.specs.Ends.{writing};
-ghost use Rattle.a429_console.specs.Files.{texts_of};
+ghost use Rattle.a429_arguments.specs.Texts.{texts_of};
 ghost use Rattle.a429_console.specs.Readings.{HasReadFrom};
 ghost use Rattle.a429_commands.specs.WordsInMemory.{ProgramGetsItsWords};
 
@@ -17,7 +17,7 @@ pub struct MemoryWords<'a, 'w> {
 }
 
 impl Arguments for MemoryWords<'_, '_> {
-    ghost use Rattle.a429_console.specs.Files.{texts_of};
+    ghost use Rattle.a429_arguments.specs.Texts.{texts_of};
     ghost use Rattle.a429_commands.specs.WordsInMemory.{HasNoWordAt, IsWordAt};
 
     ghost gives = { λ m. IsWordAt (texts_of m.words.now) };

@@ -9,7 +9,8 @@ use Rattle.clap.specs.declared.error.kind.ErrorKind.{ErrorKind}
 use Rattle.clap.specs.declared.error.kind.ErrorKind.TheVariants.{OutOfMemory}
 use Rattle.a429_console.specs.Ends.{EndsBy, EndsOrFails, FailsOnce, IsFailed, IsLeft, IsPassedOn, IsPutTo, Writing}
 use Rattle.a429_console.specs.Outputs.{CountsFault, FailedCalls, IsMemoryReply, NoneFailed, failed_line, is_closing}
-use Rattle.a429_console.specs.Usage.{AreHelp, AreMistakes, IsReplyOfKind}
+use Rattle.a429_arguments.specs.Usage.{AreHelp, AreMistakes}
+use Rattle.a429_console.specs.UsageReplies.{IsReplyOfKind}
 use Rattle.a429_console.specs.declared.output.OutputFault.{OutputFault}
 use Rattle.a429_console.proofs.Endings.{counted_once, failure_shows, none_counted_once, none_has_failed}
 use Rattle.a429_console.proofs.KindReplies.{help_replied, mistake_is_told, mistake_replied, no_request_or}

@@ -1,9 +1,9 @@
 -- What the first line of a text states, and the lines after it.
 use Rattle.std.proofs.Common.{◌≡◌, ◌∙◌, ◌+◌, ◌<◌, ℕ, List, [], ◌∷◌, ◌++◌, length, refl, sym, ap, arith, append_assoc, length-append}
 use Rattle.std.specs.Prelude.{Option, Some, None, Result, Ok, Err, option_map, option_and_then}
-use Rattle.a429_console.specs.CutText.{cut}
+use Rattle.a429_text.specs.CutText.{cut}
 use Rattle.a429_console.specs.Lines.{entries_after, entries_before, entries_from, entry_then, first_entry}
-use Rattle.a429_console.proofs.CutLines.{lines_by, lines-cut}
+use Rattle.a429_text.proofs.CutLines.{lines_by, lines-cut}
 
 -- what the first entry of a text says of all
 abbrev pub after_first : {A : Type 0} → (List ℕ → Option A) → ℕ → Option (A × List ℕ) → Result (List A) ℕ

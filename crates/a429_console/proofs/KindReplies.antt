@@ -7,7 +7,8 @@ use Rattle.clap.specs.declared.error.Error.{Error}
 use Rattle.clap.specs.declared.error.kind.ErrorKind.{ErrorKind}
 use Rattle.clap.specs.declared.error.kind.ErrorKind.TheVariants.{DisplayHelp, DisplayVersion, OutOfMemory}
 use Rattle.a429_console.specs.Outputs.{FailedCalls, OrNoMemory}
-use Rattle.a429_console.specs.Usage.{IsHelpReply, IsReplyOfKind, IsUsageReply, is_help}
+use Rattle.a429_arguments.specs.Usage.{is_help}
+use Rattle.a429_console.specs.UsageReplies.{IsHelpReply, IsReplyOfKind, IsUsageReply}
 
 among_all : (k : ErrorKind) (ks : Kinds) → IsAmong k ks → list_all is_help ks ≡ true → is_help k ≡ true
 among_all k [] among all = absurd among

@@ -4,7 +4,8 @@ use Rattle.std.specs.Io.KnownBytes.{Appends}
 use Rattle.clap.specs.Words.{Kinds}
 use Rattle.a429_console.specs.Outputs.{CountsFault, FailedCalls, HasFailed, HasFailedBy, IsMemoryReply, IsPut, NoneFailed, OrNoMemory, failed_line}
 use Rattle.a429_console.specs.declared.output.OutputFault.{OutputFault}
-use Rattle.a429_console.specs.Usage.{AreHelp, AreMistakes, IsHelpReply, IsUsageReply}
+use Rattle.a429_arguments.specs.Usage.{AreHelp, AreMistakes}
+use Rattle.a429_console.specs.UsageReplies.{IsHelpReply, IsUsageReply}
 
 -- an output before a call and after it, and what its type says of it: its bytes, its calls that failed, and whether it passed on all that it took
 pub record Writing (X : Type 0) : Type 0 where

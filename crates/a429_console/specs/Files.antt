@@ -1,12 +1,7 @@
--- Names of files and their bytes, as lists of numbers.
+-- The bytes of files, as lists of numbers.
 use Rattle.std.specs.Prelude.{ℕ, List, map}
-use Rattle.std.specs.Borrow.{Bor}
 use Rattle.std.specs.declared.vec.Vec.{Vec}
 use Rattle.std.specs.declared.alloc.Global.{Global}
-
--- the bytes of texts by reference
-abbrev pub texts_of : List (Bor (List ℕ)) → List (List ℕ)
-texts_of words = map (λ w. w.now) words
 
 -- the bytes of several files
 abbrev pub bytes_of : List (Vec ℕ Global) → List (List ℕ)

@@ -1,13 +1,7 @@
-pub mod CommandLine
-pub mod Usage
 pub mod MemoryFile
 pub mod Files
-pub mod Nibbles
 pub mod Outputs
-pub mod Requests
-pub mod RequestRows
-pub mod CutText
-pub mod GivenWords
+pub mod UsageReplies
 pub mod Ends
 pub mod Readings
 pub mod Replying

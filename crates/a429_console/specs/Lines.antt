@@ -4,7 +4,7 @@ use Rattle.std.specs.declared.vec.Vec.{Vec}
 use Rattle.std.specs.declared.alloc.Global.{Global}
 use Rattle.a429_console.specs.declared.files.lines.LinesFault.{LinesFault}
 use Rattle.a429_console.specs.declared.files.lines.LinesFault.TheVariants as fault
-use Rattle.a429_console.specs.CutText.{cut, lines_of}
+use Rattle.a429_text.specs.CutText.{cut, lines_of}
 
 -- what the first line of a text states, and the text after the line
 abbrev pub first_entry : {A : Type 0} → (List ℕ → Option A) → List ℕ → Option (A × List ℕ)

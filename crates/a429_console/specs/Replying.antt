@@ -2,9 +2,9 @@
 use Rattle.std.specs.Prelude.{◌≡◌, ℕ, List, Bool, Option, Result, IfOk, IsTrue}
 use Rattle.a429_console.specs.Outputs.{FailedCalls, IsPut, NoneFailed}
 use Rattle.a429_console.specs.Readings.{HasRead, HasReadFrom}
-use Rattle.a429_console.specs.RequestRows.{AsksFor}
-use Rattle.a429_console.specs.Requests.{AskedBytes}
-use Rattle.a429_console.specs.Usage.{is_run}
+use Rattle.a429_arguments.specs.RequestRows.{AsksFor}
+use Rattle.a429_arguments.specs.Requests.{AskedBytes}
+use Rattle.a429_arguments.specs.Usage.{is_run}
 use Rattle.a429_console.specs.declared.files.FileFault.{FileFault}
 use Rattle.a429_console.specs.declared.output.OutputFault.{OutputFault}
 

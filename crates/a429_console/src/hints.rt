@@ -4,10 +4,10 @@ ghost use Rattle.std.specs.Prelude.{◌≡◌, ◌≤◌, ◌+◌, []};
 pub mod warnings;
 
 use crate::answered::Answered;
-use crate::arguments::requests::Asked;
 use crate::hints::warnings::Warning;
 use crate::output::Output;
 use crate::output::endings::put_whole;
+use a429_arguments::requests::Asked;
 use std::alloc::Global;
 use std::io;
 use std::io::Write;

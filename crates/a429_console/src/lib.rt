@@ -1,7 +1,7 @@
-//! What commands of the program `a429` share: arguments, files, the output, and refusals.
+//! What commands of the program `a429` share: files, the output, and refusals.
 //!
-//! `arguments` has what the arguments ask for (`Asked`), or the answer instead of a request. `files` gives the bytes of
-//! files, from the disk or from memory (`FileReader`). `output` takes bytes and counts what failed. `planning` reads
+//! `replies` answers arguments that ask for no command. `files` gives the bytes of files, from the disk or from memory
+//! (`FileReader`). `output` takes bytes and counts what failed. `planning` reads
 //! and plans tables. `refusals` has the line of each refusal, and a refusal with what was read before (`Refused`). `answered`
 //! has what a command answered. `hints` writes lines on standard error. It is for commands: a program that embeds the
 //! libraries does not need it.
@@ -13,11 +13,9 @@
 #![tactic(auto)]
 
 pub mod answered;
-pub mod arguments;
 pub mod files;
 pub mod hints;
-pub mod laws;
 pub mod output;
 pub mod planning;
 pub mod refusals;
-pub mod texts;
+pub mod replies;

@@ -4,7 +4,6 @@ ghost use Rattle.std.specs.Io.KnownBytes.{Appends, Keeps};
 ghost use Rattle.a429_console.specs.Outputs.{CountsFault, FailedCalls, FailureIsCounted, calls_of};
 
 pub mod endings;
-pub mod from_end;
 
 use std::io;
 use std::io::{ErrorKind, Write};

@@ -13,13 +13,9 @@
 //! Errors: each call fails if an allocation fails. `Drawing::of` also fails if the image is too high.
 //!
 //! ```text
-//! match kind {
-//!     ..
-//!     PlanText::Document(form, keeps_zeros) => {
-//!         icd_sheet(alloc, proposal, keeps_zeros).render(alloc, form)
-//!     }
-//!     PlanText::Margin(form) => margin_sheet(alloc, proposal)?.render(alloc, form),
-//! }
+//! let text = icd_sheet(alloc, proposal, keeps_zeros).render(alloc, form)?;
+//! ..
+//! let text = margin_sheet(alloc, proposal)?.render(alloc, form)?;
 //! ```
 #![tactic(auto)]
 

@@ -5,9 +5,9 @@ use crate::hint::HintText;
 use crate::reasons::meaning;
 use a429_console::answered::Objection;
 use a429_console::refusals::names::{group_name, source_name};
-use a429_console::texts::{first_line, lines_from};
 use a429_equipment::{Equipment, OutputRow};
 use a429_grid::grid_period;
+use a429_text::cut::{first_line, lines_from};
 
 /// A group of the equipment by its number, and the number of its line in a plan text.
 #[derive(Clone, Copy)]

@@ -3,7 +3,7 @@
 use crate::hint::HintText;
 use crate::nearest::Nearest;
 use crate::rows::short_text;
-use a429_console::arguments::forms::commands;
+use a429_arguments::forms::commands;
 use std::alloc::{AllocError, Global};
 
 /// Says which command or which option is nearest to an unknown one.

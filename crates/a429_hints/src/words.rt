@@ -1,7 +1,7 @@
 //! Hints about words, line files and filters.
 
 use crate::hint::HintText;
-use a429_console::arguments::requests::FieldOptions;
+use a429_arguments::requests::FieldOptions;
 use a429_console::refusals::evidence::LineEvidence;
 use a429_filter::FILTERS;
 use a429_word::{Label, Word, raw_word};

@@ -21,7 +21,7 @@ use Rattle.a429_console.specs.FileReadings.{AreRead, IsFirstUnread}
 use Rattle.a429_console.specs.Replying.{HasReplied}
 use Rattle.a429_console.specs.declared.files.FileFault.{FileFault}
 use Rattle.a429_console.specs.declared.output.OutputFault.{OutputFault}
-use Rattle.a429_console.specs.Requests.{AskedBytes}
+use Rattle.a429_arguments.specs.Requests.{AskedBytes}
 use Rattle.a429_console.specs.Names.{naming_of}
 use Rattle.a429_console.specs.RefusalText.{OrMemory, refusal_line}
 use Rattle.a429_console.specs.Tables.{IsProposedBy, IsTableRefusal, TakesAll}

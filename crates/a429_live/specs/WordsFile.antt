@@ -5,7 +5,7 @@ use Rattle.std.specs.declared.alloc.Global.{Global}
 use Rattle.a429_word.specs.Hexadecimal.{raw_word}
 use Rattle.a429_console.specs.Names.{Naming, number_named}
 use Rattle.a429_console.specs.RefusalText.{OrMemory}
-use Rattle.a429_console.specs.CutText.{cut}
+use Rattle.a429_text.specs.CutText.{cut}
 use Rattle.a429_console.specs.Lines.{entries_of}
 use Rattle.a429_live.specs.declared.words.Arrival.{Arrival}
 use Rattle.a429_console.specs.declared.refusals.CommandRefusal.{CommandRefusal}

@@ -7,9 +7,9 @@ ghost use Rattle.a429_live.specs.WordsFile.{IsWordsReading, line_arrival, raw_fo
 use a429_console::files::lines::{LineForm, LinesFault, read_lines};
 use a429_console::refusals::evidence::Evidence;
 use a429_console::refusals::{CommandRefusal, Refused};
-use a429_console::texts::cut_at;
 use a429_filter::MemoryLine;
 use a429_replay::Names;
+use a429_text::cut::cut_at;
 use a429_word::raw_word;
 use std::alloc::{AllocError, Global};
 

@@ -6,10 +6,11 @@ use Rattle.a429_logs.specs.LogRows.{Stated}
 use Rattle.a429_logs.specs.declared.reading.Reading.{Reading}
 use Rattle.a429_slots.specs.Proposed.{Proposed}
 use Rattle.a429_console.specs.FileReadings.{AreReadLogs, IsFileRefusal, IsFirstUnreadLog, readable}
-use Rattle.a429_console.specs.Files.{bytes_of, texts_of}
+use Rattle.a429_console.specs.Files.{bytes_of}
+use Rattle.a429_arguments.specs.Texts.{texts_of}
 use Rattle.a429_console.specs.Names.{naming_of}
 use Rattle.a429_console.specs.RefusalText.{OrMemory}
-use Rattle.a429_console.specs.Requests.{OptionBytes}
+use Rattle.a429_arguments.specs.Requests.{OptionBytes}
 use Rattle.a429_console.specs.Tables.{IsProposedBy, IsTableRefusal}
 use Rattle.a429_console.specs.declared.refusals.CommandRefusal.{CommandRefusal}
 use Rattle.a429_console.specs.declared.refusals.CommandRefusal.TheVariants as refused

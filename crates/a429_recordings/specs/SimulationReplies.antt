@@ -1,17 +1,18 @@
 -- The command `simulate`: what it writes, and its status.
 use Rattle.std.specs.Prelude.{◌≡◌, ◌∷◌, [], ◌++◌, ◌⊎◌, ℕ, List, Bool, true, false, Option, None, Some, Ok, Result, MatchResult, IfOk, codes, take}
 use Rattle.a429_text.specs.declared.sheets.SheetForm.{SheetForm}
-use Rattle.a429_console.specs.declared.arguments.times.LogOrigin.{LogOrigin}
-use Rattle.a429_console.specs.declared.arguments.times.LogOrigin.TheVariants as origin
+use Rattle.a429_arguments.specs.declared.times.LogOrigin.{LogOrigin}
+use Rattle.a429_arguments.specs.declared.times.LogOrigin.TheVariants as origin
 use Rattle.a429_logs.specs.declared.clocks.Clock.{Clock}
 use Rattle.a429_logs.specs.declared.reading.Reading.{Reading}
 use Rattle.a429_slots.specs.Proposed.{Proposed}
 use Rattle.a429_console.specs.FileReadings.{AreReadLogs, IsFileRefusal, IsFirstUnreadLog, readable}
-use Rattle.a429_console.specs.Files.{bytes_of, texts_of}
+use Rattle.a429_console.specs.Files.{bytes_of}
+use Rattle.a429_arguments.specs.Texts.{texts_of}
 use Rattle.a429_console.specs.Names.{naming_of}
 use Rattle.a429_console.specs.Outputs.{AppendsPending, IsPut, OrNoMemory, memory_refused}
 use Rattle.a429_console.specs.RefusalText.{OrMemory, refusal_line}
-use Rattle.a429_console.specs.Requests.{OptionBytes, is_csv}
+use Rattle.a429_arguments.specs.Requests.{OptionBytes, is_csv}
 use Rattle.a429_console.specs.Tables.{IsProposedBy, IsTableRefusal}
 use Rattle.a429_console.specs.declared.refusals.CommandRefusal.{CommandRefusal}
 use Rattle.a429_console.specs.declared.refusals.CommandRefusal.TheVariants as refused

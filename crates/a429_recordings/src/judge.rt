@@ -1,6 +1,7 @@
 //! The command `judge`.
 ghost use Rattle.std.specs.Prelude.{◌≡◌, IfOk};
-ghost use Rattle.a429_console.specs.Files.{bytes_of, texts_of};
+ghost use Rattle.a429_console.specs.Files.{bytes_of};
+ghost use Rattle.a429_arguments.specs.Texts.{texts_of};
 ghost use Rattle.a429_console.specs.Names.{naming_of};
 ghost use Rattle.a429_console.specs.Readings.{HasRead};
 ghost use Rattle.a429_recordings.specs.BoxLogs.{AreOrdered, IsLogsReading, IsNoting, box_word_by, restarted};
@@ -20,7 +21,7 @@ pub use crate::judge::sheets::Judged;
 use crate::judge::sheets::judge_sheet;
 use crate::judge::words::{BoxLog, BoxWord, BoxWords, read_words};
 use crate::logs::reading_for;
-use a429_console::arguments::requests::Options;
+use a429_arguments::requests::Options;
 use a429_console::files::FileReader;
 use a429_console::files::reading::{read_file, read_logs};
 use a429_console::planning::{propose, with_plan};
@@ -48,7 +49,7 @@ pub struct JudgeForm {
 
 impl JudgeForm {
     ghost use Rattle.std.specs.Prelude.{◌≡◌};
-    ghost use Rattle.a429_console.specs.Requests.{given_of};
+    ghost use Rattle.a429_arguments.specs.Requests.{given_of};
     ghost use Rattle.a429_recordings.specs.JudgeReplies.{judge_form};
 
     /// The form that these options ask for.

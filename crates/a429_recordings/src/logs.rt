@@ -1,13 +1,13 @@
 //! Logs: their names, those of their words, and faulty lines.
 ghost use Rattle.std.specs.Prelude.{◌≡◌};
 ghost use Rattle.a429_logs.specs.LogRows.{stated_by};
-ghost use Rattle.a429_console.specs.Files.{texts_of};
-ghost use Rattle.a429_console.specs.Requests.{given_of};
+ghost use Rattle.a429_arguments.specs.Texts.{texts_of};
+ghost use Rattle.a429_arguments.specs.Requests.{given_of};
 ghost use Rattle.a429_recordings.specs.LogItems.{IsFaultAt, with_name};
 ghost use Rattle.a429_recordings.specs.SimulationReplies.{clock_from, reading_for};
 
-use a429_console::arguments::requests::Options;
-use a429_console::arguments::times::LogOrigin;
+use a429_arguments::requests::Options;
+use a429_arguments::times::LogOrigin;
 use a429_console::refusals::evidence::{LogEvidence, LogRefusal};
 use a429_logs::{Clock, LogReader, LogWord, Reading, StatedWord};
 use a429_text::renames::renamed;

@@ -4,7 +4,7 @@ ghost use Rattle.a429_console.specs.Readings.{HasRead};
 ghost use Rattle.a429_console.specs.Outputs.{CountsFault};
 ghost use Rattle.a429_console.specs.RefusalText.{OrMemory};
 ghost use Rattle.a429_console.specs.Replying.{HasReplied};
-ghost use Rattle.a429_console.specs.Requests.{is_csv};
+ghost use Rattle.a429_arguments.specs.Requests.{is_csv};
 ghost use Rattle.a429_console.specs.Tables.{IsTableRefusal};
 ghost use Rattle.a429_recordings.specs.CellLines.{IsBeginOfSlot};
 ghost use Rattle.a429_recordings.specs.CloseWords.{AreSpaced};
@@ -30,8 +30,8 @@ use crate::simulate::lines::{PendingLines, Setting};
 use crate::simulate::log::read_words;
 use crate::simulate::playing::Player;
 use crate::simulate::summary_rows::summary_sheet;
+use a429_arguments::requests::Options;
 use a429_console::answered::{Answered, plain_answer};
-use a429_console::arguments::requests::Options;
 use a429_console::files::FileReader;
 use a429_console::files::reading::{read_file, read_logs};
 use a429_console::hints::warnings::Warning;
@@ -57,7 +57,7 @@ pub struct SimulationForm {
 
 impl SimulationForm {
     ghost use Rattle.std.specs.Prelude.{◌≡◌};
-    ghost use Rattle.a429_console.specs.Requests.{given_of};
+    ghost use Rattle.a429_arguments.specs.Requests.{given_of};
     ghost use Rattle.a429_recordings.specs.SimulationReplies.{simulation_form};
 
     /// The form that these options ask for.

@@ -1,7 +1,8 @@
 //! The command `survey`.
 ghost use Rattle.std.specs.Prelude.{◌≡◌, Ok, IfOk, MatchResult, option_map};
 ghost use Rattle.a429_logs.specs.LogRows.{stated_by};
-ghost use Rattle.a429_console.specs.Files.{bytes_of, texts_of};
+ghost use Rattle.a429_console.specs.Files.{bytes_of};
+ghost use Rattle.a429_arguments.specs.Texts.{texts_of};
 ghost use Rattle.a429_console.specs.Readings.{HasRead};
 ghost use Rattle.a429_console.specs.RefusalText.{OrMemory};
 ghost use Rattle.a429_recordings.specs.LogItems.{AddsLog, IsItemFault, items_of, refusal_for};
@@ -9,7 +10,7 @@ ghost use Rattle.a429_recordings.specs.Surveys.{IsNoted, IsSurveyAnswer, noted_b
 
 pub use crate::logs::LogNames;
 use crate::logs::{ReadFault, faulty, reading_for, with_name};
-use a429_console::arguments::requests::Options;
+use a429_arguments::requests::Options;
 use a429_console::files::FileReader;
 use a429_console::files::reading::read_logs;
 use a429_console::refusals::evidence::{Evidence, LineEvidence, LogEvidence, LogRefusal};
@@ -39,7 +40,7 @@ pub struct SurveyForm {
 
 impl SurveyForm {
     ghost use Rattle.std.specs.Prelude.{◌≡◌};
-    ghost use Rattle.a429_console.specs.Requests.{given_of};
+    ghost use Rattle.a429_arguments.specs.Requests.{given_of};
     ghost use Rattle.a429_recordings.specs.Surveys.{survey_form};
 
     /// The form that these options ask for.

@@ -3,8 +3,8 @@ use Rattle.std.proofs.Common.{rules, ◌≡◌, ◌+◌, ◌*◌, ℕ, Bool, tru
 use Rattle.std.specs.Prelude.{◌==◌, Option, Some, None, option_and_then}
 use Rattle.std.proofs.lemmas.List.{drop_more, take_all}
 use Rattle.a429_word.specs.Hexadecimal.{hex_digit, hex_onto, raw_word}
-use Rattle.a429_console.specs.CutText.{cut}
-use Rattle.a429_console.proofs.CutLines.{cut-cons}
+use Rattle.a429_text.specs.CutText.{cut}
+use Rattle.a429_text.proofs.CutLines.{cut-cons}
 
 -- a text without b that begins with x
 none_by : (b x : ℕ) (xs : List ℕ) (t : Bool) (o : Option (List ℕ × List ℕ)) → (x == b) ≡ t → cut b xs ≡ o → cut b (x ∷ xs) ≡ None → (t ≡ false) × (o ≡ None)

@@ -1,7 +1,7 @@
 -- The event of a text's first line, by its verb and the name after it.
 use Rattle.std.proofs.Common.{◌≡◌, ◌∙◌, ℕ, List, ◌∷◌, ◌++◌, ◌<◌, length, length-append, arith, refl, sym, ap, append_assoc}
 use Rattle.std.specs.Prelude.{None, option_map, codes}
-use Rattle.a429_console.specs.CutText.{cut}
+use Rattle.a429_text.specs.CutText.{cut}
 use Rattle.a429_console.specs.Lines.{first_entry}
 use Rattle.a429_console.specs.Names.{Naming}
 use Rattle.a429_replay.specs.Kept.{IsWordLine, StartsWithEvent}

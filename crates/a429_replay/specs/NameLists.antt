@@ -1,6 +1,6 @@
 -- Names with which a text begins.
 use Rattle.std.specs.Prelude.{◌≡◌, ◌<◌, ◌++◌, ◌∷◌, ℕ, List, Some, None}
-use Rattle.a429_console.specs.CutText.{cut}
+use Rattle.a429_text.specs.CutText.{cut}
 use Rattle.a429_console.specs.Names.{name_at, number_named}
 
 -- a text with neither a space nor a line feed

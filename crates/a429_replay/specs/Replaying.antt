@@ -6,7 +6,7 @@ use Rattle.a429_slots.specs.Proposed.{Proposed}
 use Rattle.a429_console.specs.Outputs.{memory_refused}
 use Rattle.a429_console.specs.Names.{naming_of}
 use Rattle.a429_console.specs.FileReadings.{AreRead, IsFirstUnread}
-use Rattle.a429_console.specs.Files.{texts_of}
+use Rattle.a429_arguments.specs.Texts.{texts_of}
 use Rattle.a429_console.specs.Replying.{HasReplied}
 use Rattle.a429_console.specs.declared.files.FileFault.{FileFault}
 use Rattle.a429_console.specs.declared.output.OutputFault.{OutputFault}

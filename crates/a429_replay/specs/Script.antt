@@ -2,7 +2,7 @@
 use Rattle.std.specs.Prelude.{◌≡◌, ◌&&◌, ℕ, List, Option, Some, None, Result, Err, codes, if◌then◌else◌, nat_lt, nat_le, option_map, option_and_then}
 use Rattle.std.specs.Str.{bytes_eq}
 use Rattle.a429_word.specs.Hexadecimal.{raw_word}
-use Rattle.a429_console.specs.CutText.{cut}
+use Rattle.a429_text.specs.CutText.{cut}
 use Rattle.a429_console.specs.Lines.{entries_of}
 use Rattle.a429_word.specs.Decimal.{decimal_number}
 use Rattle.a429_console.specs.Names.{Naming, number_named}

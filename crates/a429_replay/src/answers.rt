@@ -7,8 +7,8 @@ ghost use Rattle.a429_replay.specs.AnswerLines.{answer_line, cell_text};
 
 use crate::names::Names;
 use crate::slots::SlotTexts;
-use a429_console::output::from_end::{ROOM, push_number, put_decimal, put_hex, put_text};
 use a429_core::{Answer, Refusal};
+use a429_text::from_end::{ROOM, push_number, put_decimal, put_hex, put_text};
 use a429_word::Word;
 use std::alloc::AllocError;
 

@@ -1,6 +1,6 @@
 //! The command `replay`.
 ghost use Rattle.std.specs.Prelude.{◌≡◌, ◌≤◌, IfOk, IsTrue, MatchResult, OnOk, length};
-ghost use Rattle.a429_console.specs.Files.{texts_of};
+ghost use Rattle.a429_arguments.specs.Texts.{texts_of};
 ghost use Rattle.a429_console.specs.Readings.{HasRead};
 ghost use Rattle.a429_console.specs.Outputs.{CountsFault};
 ghost use Rattle.a429_console.specs.RefusalText.{OrMemory};

@@ -9,7 +9,7 @@ use crate::reading::read_events;
 use a429_console::files::lines::{LineForm, LinesFault};
 use a429_console::refusals::evidence::Evidence;
 use a429_console::refusals::{CommandRefusal, Refused};
-use a429_console::texts::cut_at;
+use a429_text::cut::cut_at;
 use a429_word::{decimal_number, raw_word};
 use std::alloc::Global;
 

@@ -2,7 +2,7 @@
 ghost use Rattle.std.specs.Prelude.{◌≡◌, ◌+◌, ◌≤◌, ◌++◌, ◌∷◌, [], drop, length};
 ghost use Rattle.std.specs.Fmt.{decimal};
 
-use a429_console::output::from_end::{put_decimal, put_text};
+use a429_text::from_end::{put_decimal, put_text};
 use std::alloc::Global;
 use std::marker::Model;
 

@@ -1,2 +1,5 @@
 pub mod AlignedRows
 pub mod RowFields
+pub mod CutLines
+pub mod HexDigits
+pub mod HexText

@@ -1,7 +1,9 @@
 pub mod Aligned
 pub mod CsvLines
+pub mod CutText
 pub mod Fields
 pub mod Gathering
+pub mod Nibbles
 pub mod Renames
 pub mod Said
 pub mod Sheets

@@ -3,7 +3,8 @@
 //! A `Text` is written at its end, and a `Gathered` list gets items at its end. No call that adds has an error: if an
 //! allocation fails for a part, the call that takes the whole returns the error. A `Sheet` has rows of `Cell`s;
 //! `Sheet::render` gives it in columns for people, as comma-separated values, or as JSON. `renames` has texts FROM=TO, by
-//! which a name in another file is taken as one of your own.
+//! which a name in another file is taken as one of your own. `cut` cuts texts at a byte and into lines, and `from_end` writes
+//! short lines without an allocation.
 //!
 //! ```text
 //! rows.add(&[
@@ -31,7 +32,9 @@
 mod aligned;
 mod cells;
 mod csv_text;
+pub mod cut;
 mod fields;
+pub mod from_end;
 mod gathered;
 mod json;
 mod lost;

@@ -5,11 +5,11 @@ ghost use Rattle.a429_word.specs.Written.{Gains};
 ghost use Rattle.a429_cli.specs.LineReports.{PrintsReport, found_line, printed, received, rest_line};
 ghost use Rattle.a429_console.specs.Outputs.{CountsFault};
 
-use a429_console::output::from_end::{push_hex, push_number};
 use a429_console::output::{Output, OutputFault};
 use a429_filter::FilterSet;
 use a429_line::Found;
 use a429_replay::put_if_full;
+use a429_text::from_end::{push_hex, push_number};
 use a429_word::Word;
 use std::alloc::AllocError;
 

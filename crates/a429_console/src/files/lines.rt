@@ -2,7 +2,7 @@
 ghost use Rattle.std.specs.Prelude.{◌≡◌, ◌<◌, ℕ, List, Option, Ok, Err, IfSome, length, option_map};
 ghost use Rattle.a429_console.specs.Lines.{ReadsLines, first_entry};
 
-use crate::texts::cut_at;
+use a429_text::cut::cut_at;
 use std::alloc::{AllocFailed, Global};
 use thiserror::Error;
 

@@ -1,6 +1,6 @@
 //! Files as the commands read them.
 ghost use Rattle.std.specs.Prelude.{◌≡◌, ◌∷◌, List, ℕ, Option, IfOk, string_bytes};
-ghost use Rattle.a429_console.specs.Files.{texts_of};
+ghost use Rattle.a429_arguments.specs.Texts.{texts_of};
 ghost use Rattle.a429_console.specs.Readings.{HasRead, IsAnswerOf, answer_of};
 ghost use Rattle.a429_console.specs.FileReadings.{AreLogReadings, AreReadings, AreReadingsIn, IsReading, IsReadingIn, printable_char, printable_name};
 

@@ -1,11 +1,11 @@
 //! What was read of a refused text, for a hint.
 
 use crate::files::FileTrouble;
-use crate::texts::{first_line, lines_from};
 use a429_equipment::Equipment;
 use a429_logs::{LineFault, Shape, TimeUnit};
 use a429_slots::{OUTPUTS, Proposal};
 use a429_table::RefusedTable;
+use a429_text::cut::{first_line, lines_from};
 use std::alloc::{AllocError, Global};
 
 /// What a hint about a refusal needs beyond it. No contract rests on it.

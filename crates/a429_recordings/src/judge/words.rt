@@ -1,7 +1,8 @@
 //! Words of the logs of a box.
 ghost use Rattle.std.specs.Prelude.{◌≡◌, ◌==◌, ◌<◌, length, option_map, position, IfOk, IfSome};
 ghost use Rattle.a429_logs.specs.LogRows.{stated_by};
-ghost use Rattle.a429_console.specs.Files.{bytes_of, texts_of};
+ghost use Rattle.a429_console.specs.Files.{bytes_of};
+ghost use Rattle.a429_arguments.specs.Texts.{texts_of};
 ghost use Rattle.a429_recordings.specs.BoxLogs.{AreOrdered, IsLogsReading, at_number, box_word, box_word_by, bus_named, bus_place, place_named, sent_place};
 ghost use Rattle.a429_console.specs.Names.{number_named};
 ghost use Rattle.a429_recordings.specs.LogItems.{AddsLog, refusal_for};

@@ -11,10 +11,10 @@ ghost use Rattle.a429_recordings.specs.declared.simulate.machine.Happening.TheVa
 use crate::simulate::log::LogWord;
 use crate::simulate::machine::{Happening, SentWord};
 use crate::simulate::tracks::{micros_of, rate_of};
-use a429_console::output::from_end::{put_decimal, put_hex, put_text};
 use a429_core::Refusal;
 use a429_replay::Names;
 use a429_slots::{OUTPUTS, Proposal};
+use a429_text::from_end::{put_decimal, put_hex, put_text};
 use std::alloc::{AllocError, Global};
 
 /// How many bytes the room has in which a line is written. The longest line has fewer.

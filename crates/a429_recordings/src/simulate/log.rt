@@ -1,7 +1,8 @@
 //! Logs of words at receivers of a station.
 ghost use Rattle.std.specs.Prelude.{◌≡◌, IfOk};
 ghost use Rattle.a429_logs.specs.LogRows.{stated_by};
-ghost use Rattle.a429_console.specs.Files.{bytes_of, texts_of};
+ghost use Rattle.a429_console.specs.Files.{bytes_of};
+ghost use Rattle.a429_arguments.specs.Texts.{texts_of};
 ghost use Rattle.a429_recordings.specs.LogItems.{AddsLog, refusal_for};
 ghost use Rattle.a429_recordings.specs.SimulationLog.{AreInTime, IsLogReading, log_word_by, word_for};
 

@@ -4,7 +4,7 @@ ghost use Rattle.a429_console.specs.Names.{name_at, number_named};
 ghost use Rattle.a429_replay.specs.NameLists.{AreFirst, BeginsWithName, IsFirstPlain, IsPlain};
 
 use crate::names::guesses::Guesses;
-use a429_console::texts::cut_at;
+use a429_text::cut::cut_at;
 use std::marker::Model;
 
 /// At most sixteen names in table order. Those that are looked for by a guess are the first of their spelling, and have

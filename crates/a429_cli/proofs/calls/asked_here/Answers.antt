@@ -1,9 +1,9 @@
 use Rattle.std.proofs.Common.{◌≡◌, ◌∙◌, ap, not, sym, subst}
 use Rattle.clap.specs.Words.{Kinds}
 use Rattle.a429_console.specs.Ends.{EndsBy, writing}
-use Rattle.a429_console.specs.Files.{texts_of}
-use Rattle.a429_console.specs.Requests.{AskedBytes}
-use Rattle.a429_console.specs.Usage.{is_run}
+use Rattle.a429_arguments.specs.Texts.{texts_of}
+use Rattle.a429_arguments.specs.Requests.{AskedBytes}
+use Rattle.a429_arguments.specs.Usage.{is_run}
 use Rattle.a429_cli.specs.Calls.{kinds_here}
 use Rattle.a429_cli.proofs.AnsweredCalls.{kind_here, never_other, other_here, other_of}
 use Rattle.a429_cli.proofs.calls.asked_here.Goals as goal

@@ -1,5 +1,5 @@
 use Rattle.std.specs.Prelude.{true}
-use Rattle.a429_console.specs.Usage.{elsewhere}
+use Rattle.a429_arguments.specs.Usage.{elsewhere}
 use Rattle.a429_cli.proofs.calls.refuse_elsewhere.Goals as goal
 
 pub returns : goal.returns

@@ -1,8 +1,8 @@
 use Rattle.a429_console.proofs.ReadingParts.{read_weaker}
 use Rattle.std.proofs.Common.{◌∷◌, List, ℕ, inl, refl, subst, sym}
 use Rattle.std.proofs.lemmas.Result.{IfOk-weaker}
-use Rattle.a429_console.specs.Files.{texts_of}
-use Rattle.a429_console.specs.Requests.{given_of}
+use Rattle.a429_arguments.specs.Texts.{texts_of}
+use Rattle.a429_arguments.specs.Requests.{given_of}
 use Rattle.a429_recordings.specs.LogItems.{channels_named, logs_named}
 use Rattle.a429_recordings.specs.declared.simulate.SimulationForm.{SimulationForm}
 use Rattle.a429_recordings.specs.SimulationReplies.{IsSimulation, SimulatesSpacedWords, simulation_form}

@@ -1,7 +1,7 @@
 use Rattle.std.proofs.Common.{ℕ, inl, subst}
 use Rattle.std.proofs.lemmas.Result.{IfOk-weaker}
 use Rattle.a429_console.proofs.ReadingParts.{read_weaker}
-use Rattle.a429_console.specs.Requests.{asked_of}
+use Rattle.a429_arguments.specs.Requests.{asked_of}
 use Rattle.a429_cli.specs.Replies.{IsAnswerOf, IsNoAnswer, trouble_of}
 use Rattle.a429_cli.specs.WholeReplies.{IsReplyPut}
 use Rattle.a429_cli.proofs.WholeAnswers.{reply_by, whole_reply}

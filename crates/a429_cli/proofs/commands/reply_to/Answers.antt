@@ -1,9 +1,10 @@
 use Rattle.std.proofs.Common.{ℕ, List, Bor, refl, subst, sym}
 use Rattle.a429_console.proofs.ReadingParts.{read_none, read_weaker}
-use Rattle.a429_console.specs.Files.{texts_of}
-use Rattle.a429_console.specs.Requests.{asked_of}
-use Rattle.a429_console.specs.declared.arguments.forms.Verb.TheVariants as verb
+use Rattle.a429_arguments.specs.Texts.{texts_of}
+use Rattle.a429_arguments.specs.Requests.{asked_of}
+use Rattle.a429_arguments.specs.declared.forms.Verb.TheVariants as verb
 use Rattle.a429_cli.specs.Importing.{ImportsNoShortGroup, IsImportReply}
+use Rattle.a429_cli.proofs.PlanReplies.{on_plan}
 use Rattle.a429_cli.proofs.WholeAnswers.{given_by}
 use Rattle.a429_cli.proofs.commands.reply_to.Goals as goal
 
@@ -23,29 +24,9 @@ returns-in-Import-clause-replied g c =
     (λ file is.
     subst (λ (maps : List (Bor (List ℕ))). IsImportReply file (texts_of maps) asked.options.names asked.first.now c.import_reply.result) c.deref.ensures.value is))
 
-pub returns-in-Plan-clause-replied : goal.returns-in-Plan-clause-replied
-returns-in-Plan-clause-replied g c =
-    given_by g.F.FileReader.answers c.args.files.now c.plan_reply.new.files (asked_of c.args.asked.now) c.plan_reply.result c.args.asked.now.verb verb.Plan c.in-Plan.is c.plan_reply.ensures
-
 pub returns-in-Check-clause-replied : goal.returns-in-Check-clause-replied
 returns-in-Check-clause-replied g c =
     given_by g.F.FileReader.answers c.args.files.now c.check_reply.new.files (asked_of c.args.asked.now) c.check_reply.result c.args.asked.now.verb verb.Check c.in-Check.is c.check_reply.ensures
-
-pub returns-in-Icd-clause-replied : goal.returns-in-Icd-clause-replied
-returns-in-Icd-clause-replied g c =
-    given_by g.F.FileReader.answers c.args.files.now c.plan_reply-in-Icd.new.files (asked_of c.args.asked.now) c.plan_reply-in-Icd.result c.args.asked.now.verb verb.Icd c.in-Icd.is c.plan_reply-in-Icd.ensures
-
-pub returns-in-Margin-clause-replied : goal.returns-in-Margin-clause-replied
-returns-in-Margin-clause-replied g c =
-    given_by g.F.FileReader.answers c.args.files.now c.plan_reply-in-Margin.new.files (asked_of c.args.asked.now) c.plan_reply-in-Margin.result c.args.asked.now.verb verb.Margin c.in-Margin.is c.plan_reply-in-Margin.ensures
-
-pub returns-in-Load-clause-replied : goal.returns-in-Load-clause-replied
-returns-in-Load-clause-replied g c =
-    given_by g.F.FileReader.answers c.args.files.now c.load_reply.new.files (asked_of c.args.asked.now) c.load_reply.result c.args.asked.now.verb verb.Load c.in-Load.is c.load_reply.ensures
-
-pub returns-in-Slots-clause-replied : goal.returns-in-Slots-clause-replied
-returns-in-Slots-clause-replied g c =
-    given_by g.F.FileReader.answers c.args.files.now c.slots_reply.new.files (asked_of c.args.asked.now) c.slots_reply.result c.args.asked.now.verb verb.Slots c.in-Slots.is (rw c.of-form.ensures at c.slots_reply.ensures)
 
 pub returns-in-Lint-clause-replied : goal.returns-in-Lint-clause-replied
 returns-in-Lint-clause-replied g c =
@@ -54,10 +35,6 @@ returns-in-Lint-clause-replied g c =
 pub returns-in-Diff-clause-replied : goal.returns-in-Diff-clause-replied
 returns-in-Diff-clause-replied g c =
     given_by g.F.FileReader.answers c.args.files.now c.diff_reply.new.files (asked_of c.args.asked.now) c.diff_reply.result c.args.asked.now.verb verb.Diff c.in-Diff.is c.diff_reply.ensures
-
-pub returns-in-Draw-clause-replied : goal.returns-in-Draw-clause-replied
-returns-in-Draw-clause-replied g c =
-    given_by g.F.FileReader.answers c.args.files.now c.drawing_reply.new.files (asked_of c.args.asked.now) c.drawing_reply.result c.args.asked.now.verb verb.Draw c.in-Draw.is (rw c.of-picture.ensures at c.drawing_reply.ensures)
 
 pub returns-in-Survey-clause-replied : goal.returns-in-Survey-clause-replied
 returns-in-Survey-clause-replied g c =
@@ -81,23 +58,8 @@ returns-in-Import-clause-silent g c =
     (λ file silent none.
     silent (subst (λ (maps : List (Bor (List ℕ))). ImportsNoShortGroup file (texts_of maps) asked.options.names asked.first.now) (sym c.deref.ensures.value) none)))
 
-pub returns-in-Plan-clause-silent : goal.returns-in-Plan-clause-silent
-returns-in-Plan-clause-silent g c = read_weaker c.plan_reply.ensures (λ file is silent. refl)
-
 pub returns-in-Check-clause-silent : goal.returns-in-Check-clause-silent
 returns-in-Check-clause-silent g c = read_weaker c.check_reply.ensures (λ file is silent. refl)
-
-pub returns-in-Icd-clause-silent : goal.returns-in-Icd-clause-silent
-returns-in-Icd-clause-silent g c = read_weaker c.plan_reply-in-Icd.ensures (λ file is silent. refl)
-
-pub returns-in-Margin-clause-silent : goal.returns-in-Margin-clause-silent
-returns-in-Margin-clause-silent g c = read_weaker c.plan_reply-in-Margin.ensures (λ file is silent. refl)
-
-pub returns-in-Load-clause-silent : goal.returns-in-Load-clause-silent
-returns-in-Load-clause-silent g c = read_weaker c.load_reply.ensures (λ file is silent. refl)
-
-pub returns-in-Slots-clause-silent : goal.returns-in-Slots-clause-silent
-returns-in-Slots-clause-silent g c = read_weaker c.slots_reply.ensures (λ file is silent. refl)
 
 pub returns-in-Lint-clause-silent : goal.returns-in-Lint-clause-silent
 returns-in-Lint-clause-silent g c = read_weaker c.lint_reply.ensures (λ file is silent. refl)
@@ -105,11 +67,18 @@ returns-in-Lint-clause-silent g c = read_weaker c.lint_reply.ensures (λ file is
 pub returns-in-Diff-clause-silent : goal.returns-in-Diff-clause-silent
 returns-in-Diff-clause-silent g c = read_weaker c.diff_reply.ensures (λ file is silent. refl)
 
-pub returns-in-Draw-clause-silent : goal.returns-in-Draw-clause-silent
-returns-in-Draw-clause-silent g c = read_weaker c.drawing_reply.ensures (λ file is silent. refl)
-
 pub returns-in-Survey-clause-silent : goal.returns-in-Survey-clause-silent
 returns-in-Survey-clause-silent g c = read_weaker c.survey_reply.ensures (λ file is silent. refl)
 
 pub returns-in-Judge-clause-silent : goal.returns-in-Judge-clause-silent
 returns-in-Judge-clause-silent g c = read_weaker c.judge_reply.ensures (λ file is silent. refl)
+
+pub returns-in_default-clause-replied : goal.returns-in_default-clause-replied
+returns-in_default-clause-replied g c =
+    let n = c.in_default in
+    let asked = c.args.asked.now in
+    read_weaker c.plan_reply.ensures
+    (λ file is. on_plan file (asked_of asked) c.plan_reply.result asked.verb n.not-Word n.not-Encode n.not-Import n.not-Check n.not-Lint n.not-Diff n.not-Survey n.not-Judge is)
+
+pub returns-in_default-clause-silent : goal.returns-in_default-clause-silent
+returns-in_default-clause-silent g c = read_weaker c.plan_reply.ensures (λ file is silent. refl)

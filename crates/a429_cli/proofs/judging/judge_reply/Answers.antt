@@ -1,6 +1,6 @@
 use Rattle.std.proofs.Common.{List, ℕ, subst}
 use Rattle.a429_console.proofs.ReadingParts.{read_weaker}
-use Rattle.a429_console.specs.Requests.{asked_of}
+use Rattle.a429_arguments.specs.Requests.{asked_of}
 use Rattle.a429_recordings.specs.JudgeReplies.{BoxFiles, IsJudgedBy, IsUnjudgedBy, judge_form, names_of}
 use Rattle.a429_recordings.specs.declared.judge.JudgeForm.{JudgeForm}
 use Rattle.a429_console.specs.RefusalText.{OrMemory}

@@ -1,5 +1,5 @@
 use Rattle.std.proofs.Common.{◌≡◌, ◌∙◌, ap, inl, map, string_bytes, sym, true}
-use Rattle.a429_console.specs.Files.{texts_of}
+use Rattle.a429_arguments.specs.Texts.{texts_of}
 use Rattle.a429_cli.specs.ProgramRuns.{is_live}
 use Rattle.a429_cli.proofs.program.run_words.Goals as goal
 

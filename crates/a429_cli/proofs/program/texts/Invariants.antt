@@ -1,5 +1,5 @@
 use Rattle.std.proofs.Common.{◌≡◌, ◌++◌, drop, map, string_bytes}
-use Rattle.a429_console.specs.Files.{texts_of}
+use Rattle.a429_arguments.specs.Texts.{texts_of}
 use Rattle.a429_cli.proofs.program.texts.Given as goal
 
 abbrev pub invariant-loop-word : goal.invariant-loop-word

@@ -2,8 +2,8 @@ use Rattle.std.proofs.Common.{rules, ◌≡◌, ◌∙◌, ◌<◌, ◌-◌, ◌
 use Rattle.std.specs.declared.vec.Vec.{Vec}
 use Rattle.std.specs.declared.alloc.Global.{Global}
 use Rattle.a429_console.specs.MemoryFile.{file_of}
-use Rattle.a429_console.specs.Requests.{asked_by_names}
-use Rattle.a429_console.specs.declared.arguments.forms.Verb.TheVariants as verb
+use Rattle.a429_arguments.specs.Requests.{asked_by_names}
+use Rattle.a429_arguments.specs.declared.forms.Verb.TheVariants as verb
 use Rattle.a429_cli.specs.Replies.{IsReplyOrMemory}
 use Rattle.a429_commands.proofs.RequestAnswers.{all_is_put, replay_has_words, replay_is_answered}
 use Rattle.a429_commands.proofs.ToTheEnd.{played_to_the_end}

@@ -1,5 +1,5 @@
 use Rattle.a429_console.specs.Ends.{writing}
-use Rattle.a429_console.specs.Files.{texts_of}
+use Rattle.a429_arguments.specs.Texts.{texts_of}
 use Rattle.a429_console.specs.Readings.{HasReadFrom}
 use Rattle.a429_commands.proofs.AllWords.{gets_its_words}
 use Rattle.a429_commands.proofs.words.run_on_words.Goals as goal

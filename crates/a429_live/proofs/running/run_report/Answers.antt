@@ -10,7 +10,7 @@ use Rattle.a429_console.specs.Files.{bytes_of}
 use Rattle.a429_console.specs.FileReadings.{IsFirstUnread}
 use Rattle.a429_live.specs.LiveReplies.{IsLiveRefusal, IsNoLiveStart, IsReportOf, IsRunRefusal, IsRunReport, IsRunResult, files_of}
 use Rattle.a429_live.specs.declared.words.Arrival.{Arrival}
-use Rattle.a429_console.specs.Requests.{asked_of}
+use Rattle.a429_arguments.specs.Requests.{asked_of}
 use Rattle.a429_console.specs.RefusalText.{OrMemory}
 use Rattle.a429_console.proofs.ReadingParts.{read_weaker}
 use Rattle.a429_console.proofs.Refused.{failed, matched_both, or_memory_weaker}

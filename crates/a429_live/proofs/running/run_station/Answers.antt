@@ -1,6 +1,6 @@
 use Rattle.std.proofs.Common.{inl, inr, refl}
 use Rattle.a429_live.specs.LiveReplies.{IsLiveRefusal, IsLiveReply}
-use Rattle.a429_console.specs.Requests.{asked_of}
+use Rattle.a429_arguments.specs.Requests.{asked_of}
 use Rattle.a429_console.proofs.Endings.{done_is_few, refused_is_few, text_put}
 use Rattle.a429_console.proofs.ReadingParts.{read_weaker}
 use Rattle.a429_console.proofs.RefusalEndings.{refusal_put}

@@ -1,5 +1,5 @@
 use Rattle.std.proofs.Common.{◌≡◌, length}
-use Rattle.a429_console.specs.Files.{texts_of}
+use Rattle.a429_arguments.specs.Texts.{texts_of}
 use Rattle.a429_console.specs.Lines.{entries_before}
 use Rattle.a429_logs.specs.Logs.{log_entries, reading_after}
 use Rattle.a429_logs.specs.LogsLeft.{entries_left, reading_left}

@@ -1,5 +1,6 @@
 use Rattle.std.proofs.Common.{drop}
-use Rattle.a429_console.specs.Files.{bytes_of, texts_of}
+use Rattle.a429_console.specs.Files.{bytes_of}
+use Rattle.a429_arguments.specs.Texts.{texts_of}
 use Rattle.a429_recordings.specs.Surveys.{noted_by}
 use Rattle.a429_recordings.proofs.LogLines.{AreBefore}
 use Rattle.a429_recordings.proofs.survey.survey_of.Given as goal

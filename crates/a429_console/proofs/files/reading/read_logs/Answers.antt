@@ -1,6 +1,6 @@
 use Rattle.std.proofs.Common.{◌∙◌, List, ℕ, ap, refl, subst}
 use Rattle.a429_console.specs.FileReadings.{AreLogReadings}
-use Rattle.a429_console.specs.Files.{texts_of}
+use Rattle.a429_arguments.specs.Texts.{texts_of}
 use Rattle.a429_console.proofs.ReadingParts.{read_none, read_weaker}
 use Rattle.a429_console.proofs.files.reading.read_logs.Goals as goal
 

@@ -1,6 +1,6 @@
 use Rattle.std.proofs.Common.{◌≡◌, ◌∙◌, ◌∷◌, ◌++◌, [], List, ℕ, rules, subst, sym, ap}
 use Rattle.std.specs.Prelude.{None, Some, Ok, Err, Result}
-use Rattle.a429_console.specs.Files.{texts_of}
+use Rattle.a429_arguments.specs.Texts.{texts_of}
 use Rattle.a429_console.specs.Lines.{entries_before}
 use Rattle.a429_logs.specs.LogRows.{stated_by}
 use Rattle.a429_logs.specs.Logs.{WordAt}

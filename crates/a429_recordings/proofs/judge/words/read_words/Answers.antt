@@ -4,7 +4,8 @@ use Rattle.std.proofs.Math.ListN.{drop_of_length-le}
 use Rattle.a429_logs.specs.Logs.{reading_after, series_entries}
 use Rattle.a429_logs.specs.declared.reading.Reading.{Reading}
 use Rattle.a429_logs.proofs.NeverFall.{series_fall}
-use Rattle.a429_console.specs.Files.{bytes_of, texts_of}
+use Rattle.a429_console.specs.Files.{bytes_of}
+use Rattle.a429_arguments.specs.Texts.{texts_of}
 use Rattle.a429_console.specs.RefusalText.{OrMemory}
 use Rattle.a429_recordings.specs.BoxLogs.{box_word_by, reading_behind}
 use Rattle.a429_recordings.specs.LogItems.{IsItemFault, items_of}

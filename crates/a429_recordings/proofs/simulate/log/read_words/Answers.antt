@@ -3,7 +3,8 @@ use Rattle.std.specs.Prelude.{Ok}
 use Rattle.std.proofs.Math.ListN.{drop_of_length-le}
 use Rattle.a429_logs.specs.Logs.{series_entries}
 use Rattle.a429_logs.proofs.NeverFall.{series_fall}
-use Rattle.a429_console.specs.Files.{bytes_of, texts_of}
+use Rattle.a429_console.specs.Files.{bytes_of}
+use Rattle.a429_arguments.specs.Texts.{texts_of}
 use Rattle.a429_console.specs.RefusalText.{OrMemory}
 use Rattle.a429_recordings.specs.LogItems.{items_of}
 use Rattle.a429_recordings.specs.SimulationLog.{IsLogFault, log_word_by, log_words}

@@ -1,0 +1,215 @@
+-- Of each command: what the rules of the command line have for its row. All of it is computed.
+use Rattle.std.proofs.Common.{◌≡◌, ◌∙◌, ap, refl, sym, true, false, ℕ, List, [], ◌∷◌, ◌++◌, ◌+◌, map, inl, inr}
+use Rattle.std.specs.Prelude.{Option, Some, None, Bool, ◌&&◌, ◌||◌, min, not, ⊤}
+use Rattle.std.specs.List.{AllByRecursion, list_all}
+use Rattle.std.specs.Str.{bytes_eq}
+use Rattle.std.proofs.lemmas.Bool.{and_parts}
+use Rattle.clap.specs.Lexer.{usize_max}
+use Rattle.clap.specs.Words.{Rule, Shape, Text}
+use Rattle.clap.specs.Simple.{filled, with_index}
+use Rattle.clap.specs.Takes.{default_passes}
+use Rattle.clap.specs.Walk.{arg_by_id, arg_by_index}
+use Rattle.clap.proofs.OnLiterals.{clap_on_literals}
+use Rattle.a429_arguments.specs.CommandLine.{All, AsText, Bcd, Bits, Bnr, Channels, Code, Csv, Data, Events, From, Group, Html, Inputs, Json, Limit, MakesNames, Maps, OptionName, Rate, Rows, Sdi, Slack, Slots, Ssm, Summary, Time, Tolerance, Until, Width, command_line, many_rule, number_rule, options_of, required_rule, row_app, row_of}
+use Rattle.a429_arguments.specs.declared.forms.Verb.{Verb}
+use Rattle.a429_arguments.specs.declared.forms.Verb.TheVariants as verb
+use Rattle.a429_arguments.proofs.CommandWords.{IsNamed, leaf}
+use Rattle.a429_arguments.proofs.FoundRows.{HasPlainDefault, use_id}
+use Rattle.a429_arguments.proofs.OptionWords.{AreFound, id_of}
+use Rattle.a429_arguments.proofs.SettledWords.{IsMany, IsSingle}
+use Rattle.a429_arguments.proofs.UsedRows.{all_new, has_id, not_so, same_text}
+
+-- the command, as it is built
+abbrev pub shape : Verb → Shape
+shape v = leaf (row_app (row_of v))
+
+-- ---- the arguments with one word each, with their words
+
+abbrev pub name_at : ℕ → Text → Rule
+name_at i id = with_index i (filled (required_rule id))
+
+abbrev pub number_at : ℕ → Text × ℕ → Rule
+number_at i number = with_index i (filled (number_rule number))
+
+abbrev pub many_at : ℕ → Text → Rule
+many_at i id = with_index i (filled (many_rule id))
+
+abbrev pub use_if : {A : Type 0} → (A → Rule) → Option A → Text → List (Rule × Text)
+use_if rule None word = []
+use_if rule (Some x) word = (rule x, word) ∷ []
+
+abbrev pub next_if : {A : Type 0} → ℕ → Option A → ℕ
+next_if i None = i
+next_if i (Some x) = min (i + 1) usize_max
+
+-- the place after the second name, and that after the third
+abbrev pub third_place : Verb → ℕ
+third_place v = next_if 2 (row_of v).second
+
+abbrev pub number_place : Verb → ℕ
+number_place v = next_if (third_place v) (row_of v).third
+
+abbrev pub uses : Verb → Text → Text → Text → Text → List (Rule × Text)
+uses v first second third number =
+    (name_at 1 (row_of v).first, first)
+    ∷ (use_if (name_at 2) (row_of v).second second ++ (use_if (name_at (third_place v)) (row_of v).third third ++ use_if (number_at (number_place v)) (row_of v).number number))
+
+pub name_is_single : (i : ℕ) (id : Text) → IsSingle (name_at i id)
+name_is_single i id = record { range = refl; action = refl; reading = refl; trailing = refl }
+
+pub number_is_single : (i : ℕ) (number : Text × ℕ) → IsSingle (number_at i number)
+number_is_single i number = record { range = refl; action = refl; reading = refl; trailing = refl }
+
+pub many_is_many : (i : ℕ) (id : Text) → IsMany (many_at i id)
+many_is_many i id = record { range = refl; action = refl; reading = refl; trailing = refl; passes = λ word. refl }
+
+-- the position of the walk after them
+abbrev pub position_after : ℕ → List (Rule × Text) → ℕ
+position_after i [] = i
+position_after i (u ∷ us) = position_after (min (i + 1) usize_max) us
+
+-- their ids, and that of the names that are given as often as one likes
+abbrev pub ids_after : List Text → List (Rule × Text) → List Text
+ids_after ids [] = ids
+ids_after ids (u ∷ us) = ids_after (u.0.id ∷ ids) us
+
+abbrev pub ids_if : Option Text → List Text
+ids_if None = []
+ids_if (Some id) = id ∷ []
+
+-- ---- what the rules have
+
+-- each of the arguments is at its place
+abbrev pub AreAt : List Rule → ℕ → List (Rule × Text) → Type 0
+AreAt c i [] = ⊤
+AreAt c i (u ∷ us) = (arg_by_index c i ≡ Some u.0) × (arg_by_id c u.0.id ≡ Some u.0) × AreAt c (min (i + 1) usize_max) us
+
+abbrev pub IsAtIf : List Rule → ℕ → Option Text → Type 0
+IsAtIf c i None = ⊤
+IsAtIf c i (Some id) = (arg_by_index c i ≡ Some (many_at i id)) × (arg_by_id c id ≡ Some (many_at i id))
+
+-- nothing but the rules themselves says whether the words that they take are enough
+pub record IsPlainLeaf (s : Shape) : Type 0 where
+  pub help : s.arg_required_else_help ≡ false
+  pub subcommand : s.subcommand_required ≡ false
+  pub negates : s.subcommand_negates_reqs ≡ false
+  pub free : list_all (λ a. a.is_free) s.rules ≡ true
+  pub defaults : list_all default_passes s.rules ≡ true
+
+abbrev is_plain_leaf : Shape → Bool
+is_plain_leaf s =
+    not s.arg_required_else_help && (not s.subcommand_required && (not s.subcommand_negates_reqs && (list_all (λ a. a.is_free) s.rules && list_all default_passes s.rules)))
+
+plain_parts : (s : Shape) → is_plain_leaf s ≡ true → IsPlainLeaf s
+plain_parts s all =
+    let first = and_parts (not s.arg_required_else_help) (not s.subcommand_required && (not s.subcommand_negates_reqs && (list_all (λ a. a.is_free) s.rules && list_all default_passes s.rules))) all in
+    let second = and_parts (not s.subcommand_required) (not s.subcommand_negates_reqs && (list_all (λ a. a.is_free) s.rules && list_all default_passes s.rules)) first.1 in
+    let third = and_parts (not s.subcommand_negates_reqs) (list_all (λ a. a.is_free) s.rules && list_all default_passes s.rules) second.1 in
+    let fourth = and_parts (list_all (λ a. a.is_free) s.rules) (list_all default_passes s.rules) third.1 in
+    record {
+      help = not_so s.arg_required_else_help first.0;
+      subcommand = not_so s.subcommand_required second.0;
+      negates = not_so s.subcommand_negates_reqs third.0;
+      free = fourth.0;
+      defaults = fourth.1;
+    }
+
+abbrev pub all_options : List OptionName
+all_options = Csv ∷ Json ∷ All ∷ Group ∷ Slots ∷ Width ∷ Html ∷ Time ∷ From ∷ Until ∷ Summary ∷ Code ∷ Limit ∷ Rate ∷ Rows ∷ Slack ∷ Inputs ∷ Channels ∷ Maps ∷ AsText ∷ MakesNames ∷ Tolerance ∷ Events ∷ Sdi ∷ Ssm ∷ Data ∷ Bnr ∷ Bits ∷ Bcd ∷ []
+
+-- no two arguments have one id
+abbrev pub ids_are_new : Verb → List (Rule × Text) → Bool
+ids_are_new v us = all_new [] (map use_id us ++ (ids_if (row_of v).more ++ map id_of (options_of v)))
+
+-- no option of any command has the id of another argument
+abbrev pub options_are_apart : Verb → List (Rule × Text) → Bool
+options_are_apart v us = list_all (λ name. not (has_id (ids_if (row_of v).more ++ ids_after [] us) (id_of name))) all_options
+
+-- what must be given is among the arguments with one word each
+abbrev pub required_are_there : Verb → List (Rule × Text) → Bool
+required_are_there v us = list_all (λ a. not a.required || has_id (map use_id us) a.id) (shape v).rules
+
+abbrev is_checked : Verb → List (Rule × Text) → Bool
+is_checked v us = ids_are_new v us && (options_are_apart v us && (required_are_there v us && is_plain_leaf (shape v)))
+
+pub record Facts (v : Verb) (us : List (Rule × Text)) : Type 0 where
+  pub named : IsNamed (row_of v).name (shape v)
+  pub at : AreAt (shape v).rules 1 us
+  pub more : IsAtIf (shape v).rules (position_after 1 us) (row_of v).more
+  pub options : AreFound (shape v).rules (options_of v)
+  pub plain : AllByRecursion HasPlainDefault (shape v).rules
+  pub checked : is_checked v us ≡ true
+
+module _ {v : Verb} {us : List (Rule × Text)} (f : Facts v us) where
+  pub new : ids_are_new v us ≡ true
+  new = (and_parts (ids_are_new v us) (options_are_apart v us && (required_are_there v us && is_plain_leaf (shape v))) f.checked).0
+
+  after_new : (options_are_apart v us && (required_are_there v us && is_plain_leaf (shape v))) ≡ true
+  after_new = (and_parts (ids_are_new v us) (options_are_apart v us && (required_are_there v us && is_plain_leaf (shape v))) f.checked).1
+
+  pub others : options_are_apart v us ≡ true
+  others = (and_parts (options_are_apart v us) (required_are_there v us && is_plain_leaf (shape v)) after_new).0
+
+  after_others : (required_are_there v us && is_plain_leaf (shape v)) ≡ true
+  after_others = (and_parts (options_are_apart v us) (required_are_there v us && is_plain_leaf (shape v)) after_new).1
+
+  pub required : required_are_there v us ≡ true
+  required = (and_parts (required_are_there v us) (is_plain_leaf (shape v)) after_others).0
+
+  pub plain_leaf : IsPlainLeaf (shape v)
+  plain_leaf = plain_parts (shape v) (and_parts (required_are_there v us) (is_plain_leaf (shape v)) after_others).1
+
+-- the facts, by what computes
+known : {v : Verb} {us : List (Rule × Text)} → IsNamed (row_of v).name (shape v) → AreAt (shape v).rules 1 us → IsAtIf (shape v).rules (position_after 1 us) (row_of v).more
+    → AreFound (shape v).rules (options_of v) → AllByRecursion HasPlainDefault (shape v).rules → is_checked v us ≡ true → Facts v us
+known named at more options plain checked = record { named = named; at = at; more = more; options = options; plain = plain; checked = checked }
+
+-- ---- the commands, one by one
+
+-- no two commands have one name
+by_name : (v w : Verb) → bytes_eq (row_of v).name (row_of w).name ≡ true → v ≡ w
+by_name verb.Word verb.Word is = refl
+by_name verb.Encode verb.Encode is = refl
+by_name verb.Lines verb.Lines is = refl
+by_name verb.Import verb.Import is = refl
+by_name verb.Plan verb.Plan is = refl
+by_name verb.Check verb.Check is = refl
+by_name verb.Icd verb.Icd is = refl
+by_name verb.Margin verb.Margin is = refl
+by_name verb.Load verb.Load is = refl
+by_name verb.Slots verb.Slots is = refl
+by_name verb.Lint verb.Lint is = refl
+by_name verb.Diff verb.Diff is = refl
+by_name verb.Draw verb.Draw is = refl
+by_name verb.Replay verb.Replay is = refl
+by_name verb.Simulate verb.Simulate is = refl
+by_name verb.Survey verb.Survey is = refl
+by_name verb.Judge verb.Judge is = refl
+by_name verb.Live verb.Live is = refl
+by_name _ _ is = absurd (cc is)
+
+pub same_verb : (v w : Verb) → (row_of v).name ≡ (row_of w).name → v ≡ w
+same_verb v w named = by_name v w (ap (bytes_eq (row_of v).name) (sym named) ∙ same_text (row_of v).name)
+
+module _ (first second third number : Text) where
+  -- of each: its arguments with one word each, the repeated names, its options, and the default value of each of its rules
+  pub facts : (v : Verb) → Facts v (uses v first second third number)
+  unfolding command_line clap_on_literals
+  facts verb.Word = known (record { met = refl; leads = refl; label = refl; no_help = refl }) (refl, refl, tt) tt tt (inl refl, (inl refl, tt)) refl
+  facts verb.Encode = known (record { met = refl; leads = refl; label = refl; no_help = refl }) (refl, refl, tt) tt (refl, refl, (refl, refl, (refl, refl, (refl, refl, (refl, refl, (refl, refl, tt)))))) (inl refl, (inl refl, (inl refl, (inl refl, (inl refl, (inl refl, (inl refl, (inl refl, tt)))))))) refl
+  facts verb.Lines = known (record { met = refl; leads = refl; label = refl; no_help = refl }) (refl, refl, tt) (refl, refl) tt (inl refl, (inl refl, (inl refl, tt))) refl
+  facts verb.Import = known (record { met = refl; leads = refl; label = refl; no_help = refl }) (refl, refl, tt) tt (refl, refl, (refl, refl, tt)) (inl refl, (inl refl, (inr (MakesNames, refl, refl, refl, refl), (inl refl, tt)))) refl
+  facts verb.Plan = known (record { met = refl; leads = refl; label = refl; no_help = refl }) (refl, refl, tt) tt tt (inl refl, (inl refl, tt)) refl
+  facts verb.Check = known (record { met = refl; leads = refl; label = refl; no_help = refl }) (refl, refl, (refl, refl, tt)) tt tt (inl refl, (inl refl, (inl refl, tt))) refl
+  facts verb.Icd = known (record { met = refl; leads = refl; label = refl; no_help = refl }) (refl, refl, tt) tt (refl, refl, (refl, refl, (refl, refl, tt))) (inl refl, (inr (Csv, refl, refl, refl, refl), (inr (AsText, refl, refl, refl, refl), (inr (Json, refl, refl, refl, refl), (inl refl, tt))))) refl
+  facts verb.Margin = known (record { met = refl; leads = refl; label = refl; no_help = refl }) (refl, refl, tt) tt (refl, refl, (refl, refl, tt)) (inl refl, (inr (Csv, refl, refl, refl, refl), (inr (Json, refl, refl, refl, refl), (inl refl, tt)))) refl
+  facts verb.Load = known (record { met = refl; leads = refl; label = refl; no_help = refl }) (refl, refl, tt) tt (refl, refl, (refl, refl, (refl, refl, tt))) (inl refl, (inl refl, (inr (Csv, refl, refl, refl, refl), (inr (Json, refl, refl, refl, refl), (inl refl, tt))))) refl
+  facts verb.Slots = known (record { met = refl; leads = refl; label = refl; no_help = refl }) (refl, refl, tt) tt (refl, refl, (refl, refl, (refl, refl, (refl, refl, (refl, refl, tt))))) (inl refl, (inl refl, (inr (All, refl, refl, refl, refl), (inr (Code, refl, refl, refl, refl), (inr (Csv, refl, refl, refl, refl), (inr (Json, refl, refl, refl, refl), (inl refl, tt))))))) refl
+  facts verb.Lint = known (record { met = refl; leads = refl; label = refl; no_help = refl }) (refl, refl, tt) tt (refl, refl, (refl, refl, tt)) (inl refl, (inr (Csv, refl, refl, refl, refl), (inr (Json, refl, refl, refl, refl), (inl refl, tt)))) refl
+  facts verb.Diff = known (record { met = refl; leads = refl; label = refl; no_help = refl }) (refl, refl, (refl, refl, tt)) tt (refl, refl, (refl, refl, (refl, refl, tt))) (inl refl, (inl refl, (inr (All, refl, refl, refl, refl), (inr (Csv, refl, refl, refl, refl), (inr (Json, refl, refl, refl, refl), (inl refl, tt)))))) refl
+  facts verb.Draw = known (record { met = refl; leads = refl; label = refl; no_help = refl }) (refl, refl, tt) tt (refl, refl, (refl, refl, (refl, refl, (refl, refl, tt)))) (inl refl, (inl refl, (inl refl, (inl refl, (inr (Html, refl, refl, refl, refl), (inl refl, tt)))))) refl
+  facts verb.Replay = known (record { met = refl; leads = refl; label = refl; no_help = refl }) (refl, refl, (refl, refl, tt)) (refl, refl) tt (inl refl, (inl refl, (inl refl, (inl refl, tt)))) refl
+  facts verb.Simulate = known (record { met = refl; leads = refl; label = refl; no_help = refl }) (refl, refl, (refl, refl, tt)) (refl, refl) (refl, refl, (refl, refl, (refl, refl, (refl, refl, (refl, refl, (refl, refl, (refl, refl, tt))))))) (inl refl, (inl refl, (inl refl, (inl refl, (inl refl, (inl refl, (inl refl, (inr (Summary, refl, refl, refl, refl), (inr (Csv, refl, refl, refl, refl), (inr (Json, refl, refl, refl, refl), (inl refl, tt))))))))))) refl
+  facts verb.Survey = known (record { met = refl; leads = refl; label = refl; no_help = refl }) (refl, refl, tt) (refl, refl) (refl, refl, (refl, refl, (refl, refl, (refl, refl, (refl, refl, (refl, refl, (refl, refl, (refl, refl, tt)))))))) (inl refl, (inl refl, (inl refl, (inl refl, (inl refl, (inl refl, (inr (Rows, refl, refl, refl, refl), (inl refl, (inr (Csv, refl, refl, refl, refl), (inr (Json, refl, refl, refl, refl), (inl refl, tt))))))))))) refl
+  facts verb.Judge = known (record { met = refl; leads = refl; label = refl; no_help = refl }) (refl, refl, (refl, refl, (refl, refl, tt))) (refl, refl) (refl, refl, (refl, refl, (refl, refl, (refl, refl, (refl, refl, (refl, refl, (refl, refl, (refl, refl, tt)))))))) (inl refl, (inl refl, (inl refl, (inl refl, (inl refl, (inl refl, (inr (Events, refl, refl, refl, refl), (inl refl, (inl refl, (inl refl, (inr (Csv, refl, refl, refl, refl), (inr (Json, refl, refl, refl, refl), (inl refl, tt))))))))))))) refl
+  facts verb.Live = known (record { met = refl; leads = refl; label = refl; no_help = refl }) (refl, refl, (refl, refl, (refl, refl, tt))) (refl, refl) tt (inl refl, (inl refl, (inl refl, (inl refl, (inl refl, tt))))) refl

@@ -1,0 +1,104 @@
+-- What was found of the words that name a command.
+use Rattle.std.proofs.Common.{◌≡◌, ◌∙◌, ◌∷◌, ◌<◌, ◌^◌, [], ap, fold, refl, true, false, codes, ℕ, Bool, List, arith}
+use Rattle.std.specs.Prelude.{Option, Some, None, Result, not, if◌then◌else◌, option_map, unwrap_or}
+use Rattle.std.proofs.lemmas.Bool.{and_parts}
+use Rattle.std.proofs.lemmas.Option.{same_Some}
+use Rattle.std.proofs.lemmas.Slice.Eq.{bytes_eq-Decides}
+use Rattle.std.specs.Str.{bytes_eq}
+use Rattle.std.specs.Str.Parse.{ParsesBool, ParsesUnsigned, digits_value, without_leading_plus}
+use Rattle.clap.specs.ValueTests.{is_unsigned_in}
+use Rattle.clap.specs.Words.{App, ReadsOne, Rule, Text, app_of, new_app, with_rule}
+use Rattle.clap.specs.declared.builder.value_parser.ValueParser.TheVariants as reads
+use Rattle.clap.specs.declared.builder.command.Command.{Command}
+use Rattle.clap.specs.declared.builder.command.Command.TheViews.{out-Command}
+use Rattle.clap.proofs.ValueTestLemmas.{accepts-Accepts}
+use Rattle.a429_arguments.specs.CommandLine.{CommandRow, many_rule, number_rule, required_rule, row_app, with_any}
+use Rattle.a429_arguments.specs.RequestRows.{is_set, number_of}
+use Rattle.a429_arguments.specs.Requests.{AskedBytes, FieldBytes, OptionBytes}
+use Rattle.a429_arguments.specs.declared.forms.Verb.{Verb}
+use Rattle.a429_arguments.specs.declared.times.LogOrigin.{LogOrigin}
+use Rattle.a429_logs.specs.declared.times.TimeUnit.{TimeUnit}
+use Rattle.a429_text.specs.declared.sheets.SheetForm.{SheetForm}
+use Rattle.std.specs.Borrow.{Bor}
+
+was_not : (b : Bool) → not b ≡ true → b ≡ false
+was_not true e = cc
+was_not false e = refl
+
+-- a plain command has no global argument
+pub plain_is_local : (c : Command) → (app_of c).top.is_plain ≡ true → (out-Command c).has_globals ≡ false
+plain_is_local c plain = was_not _ (and_parts _ _ (and_parts _ _ (and_parts _ _ plain).1).1).0
+
+rules_keep_plain : (rules : List Rule) (a : App) → (fold with_rule a rules).top.is_plain ≡ a.top.is_plain
+rules_keep_plain [] a = refl
+rules_keep_plain (rule ∷ rules) a = rules_keep_plain rules (with_rule a rule)
+
+any_keeps_plain : {A : Type 0} (rule : A → Rule) (a : App) (given : Option A) → (with_any rule a given).top.is_plain ≡ a.top.is_plain
+any_keeps_plain rule a None = refl
+any_keeps_plain rule a (Some x) = refl
+
+-- a command of any row is plain
+pub row_is_plain : (row : CommandRow) → (row_app row).top.is_plain ≡ true
+row_is_plain row =
+    let one = with_rule (new_app row.name) (required_rule row.first) in
+    let two = with_any required_rule one row.second in
+    let three = with_any required_rule two row.third in
+    let four = with_any number_rule three row.number in
+    rules_keep_plain row.options (with_any many_rule four row.more)
+    ∙ (any_keeps_plain many_rule four row.more ∙ (any_keeps_plain number_rule three row.number ∙ (any_keeps_plain required_rule two row.third ∙ any_keeps_plain required_rule one row.second)))
+
+-- a text that is read as true or false sets an option if and only if it is that of true
+set_by : (E : Type 0) (t : Text) (read : Option Bool) → ReadsOne {E = E} ParsesBool t read → unwrap_or read false ≡ bytes_eq t (codes "true")
+set_by E t (Some true) gives = rw gives refl
+set_by E t (Some false) gives = rw gives refl
+set_by E t None (e, (other, _)) = go (bytes_eq t (codes "true")) refl
+  where
+    go : (b : Bool) → bytes_eq t (codes "true") ≡ b → false ≡ b
+    go true same = absurd (other ((bytes_eq-Decides t (codes "true")).0 same))
+    go false same = refl
+
+-- what is read of the text of an option without a value says whether it is set
+pub set_is : (E : Type 0) (text : Option Text) (read : Option Bool) → (text ≡ None → read ≡ None) → ((t : Text) → text ≡ Some t → ReadsOne {E = E} ParsesBool t read) → unwrap_or read false ≡ is_set text
+set_is E None read none value = ap (λ (r : Option Bool). unwrap_or r false) (none refl)
+set_is E (Some t) read none value = set_by E t read (value t refl)
+
+-- a text is read as a number of this width in bits
+module _ {E : Type 0} (bits : ℕ) (gives : Text → Result ℕ E → Type 0) (parses : (t : Text) (r : Result ℕ E) → gives t r → ParsesUnsigned bits 10 t r) (least most : ℕ) (small : most < 2 ^ bits) where
+  one_read : (t : Text) (b : Bool) (read number : Option ℕ) → is_unsigned_in least most t ≡ b → ReadsOne gives t read
+      → (if b then Some (Some (digits_value 10 (without_leading_plus t))) else None) ≡ Some number → read ≡ number
+  one_read t false read number is said asked = absurd (cc asked)
+  one_read t true (Some n) number is said asked = ap Some (parses t _ said).1 ∙ same_Some (Some (digits_value 10 (without_leading_plus t))) number asked
+  one_read t true None number is said asked =
+      let (numeral, counted, above, below) = accepts-Accepts true (reads.Unsigned least most) t is in
+      let fits : digits_value 10 (without_leading_plus t) < 2 ^ bits = omega (arith, below, small) in
+      absurd (parses t _ said.1 (numeral, fits))
+
+  -- what `get_one` says of the text of a number
+  pub number_read : (text : Option Text) (read number : Option ℕ) → (text ≡ None → read ≡ None) → ((t : Text) → text ≡ Some t → ReadsOne gives t read)
+      → number_of least most text ≡ Some number → read ≡ number
+  unfolding number_of
+  number_read None read number none value asked = none refl ∙ same_Some None number asked
+  number_read (Some t) read number none value asked = one_read t (is_unsigned_in least most t) read number refl (value t refl) asked
+
+-- a text that is there is read as it
+pub name_is : (found : Option (Bor Text)) (default : Bor Text) (text : Text) → option_map (λ t. t.now) found ≡ Some text → (unwrap_or found default).now ≡ text
+name_is None default text is = absurd (cc is)
+name_is (Some t) default text is = same_Some t.now text is
+
+-- what is given of the options is read as it
+pub options_are : (o : OptionBytes) (f : SheetForm) (all html summary code rows events text names : Bool) (group : Option Text) (slots width : Option ℕ) (time : TimeUnit) (from : LogOrigin) (until limit rate slack tolerance : Option ℕ) (fields : FieldBytes) → f ≡ o.form → all ≡ o.all
+    → group ≡ o.group → slots ≡ o.slots → width ≡ o.width → html ≡ o.html → time ≡ o.time → from ≡ o.from → until ≡ o.until → summary ≡ o.summary → code ≡ o.code → limit ≡ o.limit → rate ≡ o.rate → rows ≡ o.rows
+    → slack ≡ o.slack → tolerance ≡ o.tolerance → events ≡ o.events → text ≡ o.text → names ≡ o.names → fields ≡ o.fields
+    → record { form = f; all = all; group = group; slots = slots; width = width; html = html; time = time; from = from; until = until; summary = summary; code = code; limit = limit; rate = rate; rows = rows; slack = slack; tolerance = tolerance; events = events; text = text; names = names; fields = fields } ≡ o
+options_are o f all html summary code rows events text names group slots width time from until limit rate slack tolerance fields a b c d e g t u h i j k m n p q r s v l =
+    rw (a, b, c, d, e, g, t, u, h, i, j, k, m, n, p, q, r, s, v, l) refl
+
+-- and of the fields of a word
+pub fields_are : (f : FieldBytes) (sdi ssm bits : Option ℕ) (hex bnr bcd : Option Text) → sdi ≡ f.sdi → ssm ≡ f.ssm → hex ≡ f.hex → bnr ≡ f.bnr → bits ≡ f.bits → bcd ≡ f.bcd
+    → record { sdi = sdi; ssm = ssm; hex = hex; bnr = bnr; bits = bits; bcd = bcd } ≡ f
+fields_are f sdi ssm bits hex bnr bcd a b c d e g = rw (a, b, c, d, e, g) refl
+
+-- and so is all that is asked for
+pub asked_is : (r : AskedBytes) (v : Verb) (first second third : Text) (number : ℕ) (more inputs channels maps : List Text) (options : OptionBytes) → v ≡ r.verb → first ≡ r.first → second ≡ r.second → third ≡ r.third → number ≡ r.number → more ≡ r.more → inputs ≡ r.inputs
+    → channels ≡ r.channels → maps ≡ r.maps → options ≡ r.options → record { verb = v; first = first; second = second; third = third; number = number; more = more; inputs = inputs; channels = channels; maps = maps; options = options } ≡ r
+asked_is r v first second third number more inputs channels maps options a b c d e f g h i j = rw (a, b, c, d, e, f, g, h, i, j) refl

@@ -1,0 +1,276 @@
+-- The command line of the program: a row for each command, and what the rules of the command line make of the rows.
+use Rattle.std.specs.Prelude.{◌≡◌, ◌∷◌, [], ℕ, List, Option, true, false, Some, None, codes, fold, map, option_map}
+use Rattle.clap.specs.Words.{App, Rule, Shape, Text, new_app, new_rule, rule_of, with_rule, with_subcommand}
+use Rattle.clap.specs.declared.builder.arg.Arg.{Arg}
+use Rattle.clap.specs.declared.builder.action.ArgAction.TheVariants.{Append, SetTrue}
+use Rattle.clap.specs.declared.builder.value_parser.ValueParser.TheVariants as reads
+use Rattle.a429_equipment.specs.Limits.{most_frames}
+use Rattle.a429_arguments.specs.declared.forms.CommandForm.{CommandForm}
+use Rattle.a429_arguments.specs.declared.forms.NameForm.{NameForm}
+use Rattle.a429_arguments.specs.declared.forms.NumberForm.{NumberForm}
+use Rattle.a429_arguments.specs.declared.forms.OptionForm.{OptionForm}
+use Rattle.a429_arguments.specs.declared.forms.OptionKind.{OptionKind}
+use Rattle.a429_arguments.specs.declared.forms.OptionKind.TheVariants as given
+use Rattle.a429_arguments.specs.declared.forms.Verb.{Verb}
+use Rattle.a429_arguments.specs.declared.forms.Verb.TheVariants as verb
+
+-- ---- the rule of each kind of argument
+
+abbrev pub required_rule : Text → Rule
+required_rule id = record (new_rule id) { required = true }
+
+-- a whole number up to the most
+abbrev pub number_rule : Text × ℕ → Rule
+number_rule number = record (required_rule number.0) { parser = Some (reads.Unsigned 0 number.1) }
+
+-- as many values as are given
+abbrev pub many_rule : Text → Rule
+many_rule id = record (new_rule id) { action = Some Append }
+
+-- an option of this name, which has no value
+abbrev pub flag_rule : Text → Rule
+flag_rule name = record (new_rule name) { long = Some name; action = Some SetTrue }
+
+-- an option of this name, which has one value
+abbrev pub value_rule : Text → Rule
+value_rule name = record (new_rule name) { long = Some name; value_names = 1 }
+
+-- as many values as it is given
+abbrev pub values_rule : Text → Rule
+values_rule name = record (value_rule name) { action = Some Append }
+
+-- and whose value is a whole number from the least to the most
+abbrev pub number_value_rule : Text → ℕ → ℕ → Rule
+number_value_rule name least most = record (value_rule name) { parser = Some (reads.Unsigned least most) }
+
+-- ---- the options of all commands
+
+-- how many slots of a bus can be drawn
+abbrev pub most_slots : ℕ
+most_slots = 8192
+
+-- a limit of the load of a bus, in per cent
+abbrev pub most_percent : ℕ
+most_percent = 100
+
+-- the bit rates of a line that can be asked for, in bit/s (ARINC 429 Part 1: low speed and high speed)
+abbrev pub least_rate : ℕ
+least_rate = 12000
+
+abbrev pub most_rate : ℕ
+most_rate = 100000
+
+-- by how much an interval can be widened, in per cent
+abbrev pub most_slack : ℕ
+most_slack = 99
+
+-- how far recorded times may be wrong at most, in microseconds: the longest interval of an output
+abbrev pub most_tolerance : ℕ
+most_tolerance = 30000000
+
+-- the greatest SDI, and the greatest SSM (ARINC 429 Part 1: two bits each)
+abbrev pub most_pair : ℕ
+most_pair = 3
+
+-- the most bits of a BNR number below its sign (ARINC 429 Part 1)
+abbrev pub most_bits : ℕ
+most_bits = 18
+
+-- the last microsecond until which cells can be asked for: fourteen digits
+abbrev pub last_time : ℕ
+last_time = 99999999999999
+
+pub data OptionName : Type 0 where
+  Csv : OptionName
+  Json : OptionName
+  All : OptionName
+  Group : OptionName
+  Slots : OptionName
+  Width : OptionName
+  Html : OptionName
+  Time : OptionName
+  From : OptionName
+  Until : OptionName
+  Summary : OptionName
+  Code : OptionName
+  Limit : OptionName
+  Rate : OptionName
+  Rows : OptionName
+  Slack : OptionName
+  Inputs : OptionName
+  Channels : OptionName
+  Maps : OptionName
+  AsText : OptionName
+  MakesNames : OptionName
+  Tolerance : OptionName
+  Events : OptionName
+  Sdi : OptionName
+  Ssm : OptionName
+  Data : OptionName
+  Bnr : OptionName
+  Bits : OptionName
+  Bcd : OptionName
+
+abbrev pub option_rule : OptionName → Rule
+option_rule Csv = flag_rule (codes "csv")
+option_rule Json = flag_rule (codes "json")
+option_rule All = flag_rule (codes "all")
+option_rule Group = value_rule (codes "group")
+option_rule Slots = number_value_rule (codes "slots") 1 most_slots
+option_rule Width = value_rule (codes "width")
+option_rule Html = flag_rule (codes "html")
+option_rule Time = value_rule (codes "time")
+option_rule From = value_rule (codes "from")
+option_rule Until = number_value_rule (codes "until") 0 last_time
+option_rule Summary = flag_rule (codes "summary")
+option_rule Code = flag_rule (codes "c")
+option_rule Limit = number_value_rule (codes "limit") 1 most_percent
+option_rule Rate = number_value_rule (codes "rate") least_rate most_rate
+option_rule Rows = flag_rule (codes "rows")
+option_rule Slack = number_value_rule (codes "slack") 0 most_slack
+option_rule Inputs = values_rule (codes "in")
+option_rule Channels = values_rule (codes "channel")
+option_rule Maps = values_rule (codes "map")
+option_rule AsText = flag_rule (codes "text")
+option_rule MakesNames = flag_rule (codes "names")
+option_rule Tolerance = number_value_rule (codes "tolerance") 0 most_tolerance
+option_rule Events = flag_rule (codes "events")
+option_rule Sdi = number_value_rule (codes "sdi") 0 most_pair
+option_rule Ssm = number_value_rule (codes "ssm") 0 most_pair
+option_rule Data = value_rule (codes "data")
+option_rule Bnr = value_rule (codes "bnr")
+option_rule Bits = number_value_rule (codes "bits") 1 most_bits
+option_rule Bcd = value_rule (codes "bcd")
+
+-- ---- the commands
+
+-- the options of a command, in the order in which help lists them
+abbrev pub options_of : Verb → List OptionName
+options_of verb.Encode = Sdi ∷ Ssm ∷ Data ∷ Bnr ∷ Bits ∷ Bcd ∷ []
+options_of verb.Import = Maps ∷ MakesNames ∷ []
+options_of verb.Icd = Csv ∷ AsText ∷ Json ∷ []
+options_of verb.Margin = Csv ∷ Json ∷ []
+options_of verb.Load = Limit ∷ Csv ∷ Json ∷ []
+options_of verb.Slots = Group ∷ All ∷ Code ∷ Csv ∷ Json ∷ []
+options_of verb.Lint = Csv ∷ Json ∷ []
+options_of verb.Diff = All ∷ Csv ∷ Json ∷ []
+options_of verb.Draw = Group ∷ Slots ∷ Width ∷ Html ∷ []
+options_of verb.Simulate = Time ∷ From ∷ Channels ∷ Until ∷ Summary ∷ Csv ∷ Json ∷ []
+options_of verb.Survey = Time ∷ From ∷ Channels ∷ Rate ∷ Rows ∷ Slack ∷ Csv ∷ Json ∷ []
+options_of verb.Judge = Inputs ∷ Tolerance ∷ Events ∷ Time ∷ From ∷ Channels ∷ Csv ∷ Json ∷ []
+options_of _ = []
+
+-- what a command is given: one to three names, perhaps a number up to the most, perhaps as many names as one likes, and options
+pub record CommandRow : Type 0 where
+  pub name : Text
+  pub first : Text
+  pub second : Option Text
+  pub third : Option Text
+  pub number : Option (Text × ℕ)
+  pub more : Option Text
+  pub options : List Rule
+
+-- a command of this name that is given one name and its options
+abbrev pub with_one : Verb → Text → Text → CommandRow
+with_one v name first = record { name = name; first = first; second = None; third = None; number = None; more = None; options = map option_rule (options_of v) }
+
+-- a command that is given a table
+abbrev pub with_table : Verb → Text → CommandRow
+with_table v name = with_one v name (codes "TABLE")
+
+abbrev pub row_of : Verb → CommandRow
+row_of verb.Word = with_one verb.Word (codes "word") (codes "HEX")
+row_of verb.Encode = with_one verb.Encode (codes "encode") (codes "LABEL")
+row_of verb.Lines = record (with_one verb.Lines (codes "lines") (codes "FILE")) { more = Some (codes "FILTER") }
+row_of verb.Import = with_one verb.Import (codes "import") (codes "FILE")
+row_of verb.Plan = with_table verb.Plan (codes "plan")
+row_of verb.Check = record (with_table verb.Check (codes "check")) { second = Some (codes "PLAN") }
+row_of verb.Icd = with_table verb.Icd (codes "icd")
+row_of verb.Margin = with_table verb.Margin (codes "margin")
+row_of verb.Load = with_table verb.Load (codes "load")
+row_of verb.Slots = with_table verb.Slots (codes "slots")
+row_of verb.Lint = with_table verb.Lint (codes "lint")
+row_of verb.Diff = record (with_table verb.Diff (codes "diff")) { second = Some (codes "OTHER") }
+row_of verb.Draw = with_table verb.Draw (codes "draw")
+row_of verb.Replay = record (with_table verb.Replay (codes "replay")) { second = Some (codes "SCRIPT"); more = Some (codes "FURTHER") }
+row_of verb.Simulate = record (with_table verb.Simulate (codes "simulate")) { second = Some (codes "LOG"); more = Some (codes "LOGS") }
+row_of verb.Survey = record (with_one verb.Survey (codes "survey") (codes "LOG")) { more = Some (codes "LOGS") }
+row_of verb.Judge =
+    record (with_table verb.Judge (codes "judge")) { second = Some (codes "IN"); third = Some (codes "OUT"); more = Some (codes "OUTS") }
+row_of verb.Live =
+    record (with_table verb.Live (codes "live")) { second = Some (codes "WORDS"); number = Some (codes "FRAMES", most_frames); more = Some (codes "FURTHER") }
+
+-- all of them, in the order in which help lists them
+abbrev pub verbs : List Verb
+verbs =
+    verb.Word ∷ verb.Encode ∷ verb.Lines ∷ verb.Import ∷ verb.Plan ∷ verb.Check ∷ verb.Icd ∷ verb.Margin ∷ verb.Load ∷ verb.Slots ∷ verb.Lint ∷ verb.Diff ∷ verb.Draw
+    ∷ verb.Replay ∷ verb.Simulate ∷ verb.Survey ∷ verb.Judge ∷ verb.Live ∷ []
+
+-- ---- the command line
+
+-- with an argument of this rule more, if there is one
+abbrev pub with_any : {A : Type 0} → (A → Rule) → App → Option A → App
+with_any rule app None = app
+with_any rule app (Some x) = with_rule app (rule x)
+
+-- the names that are given once each
+abbrev pub with_texts : App → CommandRow → App
+with_texts app row = with_any required_rule (with_any required_rule (with_rule app (required_rule row.first)) row.second) row.third
+
+-- what is given apart from options
+abbrev pub with_names : App → CommandRow → App
+with_names app row = with_any many_rule (with_any number_rule (with_texts app row) row.number) row.more
+
+abbrev pub row_app : CommandRow → App
+row_app row = fold with_rule (with_names (new_app row.name) row) row.options
+
+abbrev pub top_shape : Shape
+top_shape = record ((new_app (codes "a429")).top) { has_version = true; no_binary_name = true; subcommand_required = true }
+
+-- the command line without its commands
+abbrev pub bare_line : App
+bare_line = record { top = top_shape; subs = [] }
+
+-- with these commands more
+abbrev pub with_commands : App → List CommandRow → App
+with_commands line rows = fold (λ (a : App) (row : CommandRow). with_subcommand a (row_app row).top) line rows
+
+unfoldable pub command_line : App
+command_line = with_commands bare_line (map row_of verbs)
+
+-- ---- by the values of the program
+
+-- an argument of this rule, for one command alone
+abbrev pub HasRule : Arg → Rule → Type 0
+HasRule a rule = (rule_of a ≡ rule) × (a.global ≡ false)
+
+abbrev pub kind_rule : Text → OptionKind → Rule
+kind_rule id given.Flag = flag_rule id
+kind_rule id (given.Text value) = value_rule id
+kind_rule id (given.Texts value) = values_rule id
+kind_rule id (given.Number value least most) = number_value_rule id least most
+
+abbrev pub form_rule : OptionForm → Rule
+form_rule form = kind_rule form.id.now form.kind
+
+-- the name of an argument, if there is one, and that of a number with the most that it may be
+abbrev pub name_id : Option NameForm → Option Text
+name_id form = option_map (λ n. n.id.now) form
+
+abbrev pub number_id : Option NumberForm → Option (Text × ℕ)
+number_id form = option_map (λ n. (n.id.now, n.most)) form
+
+abbrev pub form_row : CommandForm → CommandRow
+form_row form = record {
+  name = form.name.now;
+  first = form.first.id.now;
+  second = name_id form.second;
+  third = name_id form.third;
+  number = number_id form.number;
+  more = name_id form.more;
+  options = map form_rule form.options.now;
+}
+
+-- the form is that of its command
+abbrev pub IsRow : CommandForm → Type 0
+IsRow form = form_row form ≡ row_of form.verb

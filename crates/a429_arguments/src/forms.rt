@@ -1,0 +1,271 @@
+//! The commands and their options: what each is given, its help, and an example. All else that depends on the commands
+//! of the program comes from these rows.
+ghost use Rattle.std.specs.Prelude.{◌≡◌, IfSome, map};
+ghost use Rattle.std.specs.List.{AllByRecursion};
+ghost use Rattle.a429_arguments.specs.CommandLine.{IsRow, form_row, row_of, verbs};
+
+use crate::help;
+use crate::options::{
+    ALL, ALL_CELLS, BCD, BITS, BNR, CHANNEL, CODE, CSV, DATA, EVENTS, FROM, GROUP, HTML, IN, JSON,
+    LIMIT, MAP, NAMES, RATE, ROWS, SDI, SLACK, SLOTS, SSM, SUMMARY, SUMMARY_JSON, TEXT, TIME,
+    TOLERANCE, UNTIL, WIDTH,
+};
+use a429_equipment::FRAMES;
+
+/// A command of the program.
+#[derive(Clone, Copy, PartialEq, Eq)]
+pub enum Verb {
+    Word,
+    Encode,
+    Lines,
+    Import,
+    Plan,
+    Check,
+    Icd,
+    Margin,
+    Load,
+    Slots,
+    Lint,
+    Diff,
+    Draw,
+    Replay,
+    Simulate,
+    Survey,
+    Judge,
+    Live,
+}
+
+/// A name that a command is given: what help calls it, and its help.
+#[derive(Clone, Copy)]
+pub struct NameForm {
+    pub id: &'static str,
+    pub help: &'static str,
+}
+
+/// A whole number that a command is given, up to a maximum.
+#[derive(Clone, Copy)]
+pub struct NumberForm {
+    pub id: &'static str,
+    pub most: u32,
+    pub help: &'static str,
+}
+
+/// What is given with an option.
+#[derive(Clone, Copy)]
+pub enum OptionKind {
+    /// Nothing.
+    Flag,
+    /// A text, which help calls by this name.
+    Text {
+        value: &'static str,
+    },
+    /// Such a text each time. It is given as often as one likes.
+    Texts {
+        value: &'static str,
+    },
+    /// A whole number from `least` to `most`.
+    Number {
+        value: &'static str,
+        least: u64,
+        most: u64,
+    },
+}
+
+/// An option: its name without the two hyphens, what is given with it, and its help.
+#[derive(Clone, Copy)]
+pub struct OptionForm {
+    pub id: &'static str,
+    pub kind: OptionKind,
+    pub help: &'static str,
+}
+
+/// A command: its name, and what it is given: one to three names, perhaps a number, perhaps any number of further names,
+/// and options. `help_of` has its help.
+#[derive(Clone, Copy)]
+pub struct CommandForm {
+    pub verb: Verb,
+    pub name: &'static str,
+    pub first: NameForm,
+    pub second: Option<NameForm>,
+    pub third: Option<NameForm>,
+    pub number: Option<NumberForm>,
+    pub more: Option<NameForm>,
+    pub options: &'static [OptionForm],
+}
+
+/// The form of a name.
+macro_rules! name {
+    ($id:literal, $help:expr) => {
+        NameForm {
+            id: $id,
+            help: $help,
+        }
+    };
+}
+
+const FRAME_COUNT: NumberForm = NumberForm {
+    id: "FRAMES",
+    most: FRAMES,
+    help: help::FRAMES,
+};
+
+/// A command that is given the name of a table and nothing else. The rows below say what is different.
+const OF_TABLE: CommandForm = CommandForm {
+    verb: Verb::Plan,
+    name: "plan",
+    first: name!("TABLE", help::TABLE),
+    second: None,
+    third: None,
+    number: None,
+    more: None,
+    options: &[],
+};
+
+static COMMANDS: [CommandForm; 18] = [
+    CommandForm {
+        verb: Verb::Word,
+        name: "word",
+        first: name!("HEX", help::HEX),
+        ..OF_TABLE
+    },
+    CommandForm {
+        verb: Verb::Encode,
+        name: "encode",
+        first: name!("LABEL", help::LABEL),
+        options: &[SDI, SSM, DATA, BNR, BITS, BCD],
+        ..OF_TABLE
+    },
+    CommandForm {
+        verb: Verb::Lines,
+        name: "lines",
+        first: name!("FILE", help::FILE),
+        more: Some(name!("FILTER", help::FILTER)),
+        ..OF_TABLE
+    },
+    CommandForm {
+        verb: Verb::Import,
+        name: "import",
+        first: name!("FILE", help::ROWS),
+        options: &[MAP, NAMES],
+        ..OF_TABLE
+    },
+    CommandForm {
+        verb: Verb::Plan,
+        name: "plan",
+        ..OF_TABLE
+    },
+    CommandForm {
+        verb: Verb::Check,
+        name: "check",
+        second: Some(name!("PLAN", help::TEXT)),
+        ..OF_TABLE
+    },
+    CommandForm {
+        verb: Verb::Icd,
+        name: "icd",
+        options: &[CSV, TEXT, JSON],
+        ..OF_TABLE
+    },
+    CommandForm {
+        verb: Verb::Margin,
+        name: "margin",
+        options: &[CSV, JSON],
+        ..OF_TABLE
+    },
+    CommandForm {
+        verb: Verb::Load,
+        name: "load",
+        options: &[LIMIT, CSV, JSON],
+        ..OF_TABLE
+    },
+    CommandForm {
+        verb: Verb::Slots,
+        name: "slots",
+        options: &[GROUP, ALL_CELLS, CODE, CSV, JSON],
+        ..OF_TABLE
+    },
+    CommandForm {
+        verb: Verb::Lint,
+        name: "lint",
+        options: &[CSV, JSON],
+        ..OF_TABLE
+    },
+    CommandForm {
+        verb: Verb::Diff,
+        name: "diff",
+        second: Some(name!("OTHER", help::OTHER)),
+        options: &[ALL, CSV, JSON],
+        ..OF_TABLE
+    },
+    CommandForm {
+        verb: Verb::Draw,
+        name: "draw",
+        options: &[GROUP, SLOTS, WIDTH, HTML],
+        ..OF_TABLE
+    },
+    CommandForm {
+        verb: Verb::Replay,
+        name: "replay",
+        second: Some(name!("SCRIPT", help::SCRIPT)),
+        more: Some(name!("FURTHER", help::FURTHER)),
+        ..OF_TABLE
+    },
+    CommandForm {
+        verb: Verb::Simulate,
+        name: "simulate",
+        second: Some(name!("LOG", help::LOG)),
+        more: Some(name!("LOGS", help::LOGS)),
+        options: &[TIME, FROM, CHANNEL, UNTIL, SUMMARY, CSV, SUMMARY_JSON],
+        ..OF_TABLE
+    },
+    CommandForm {
+        verb: Verb::Survey,
+        name: "survey",
+        first: name!("LOG", help::LOG),
+        more: Some(name!("LOGS", help::LOGS)),
+        options: &[TIME, FROM, CHANNEL, RATE, ROWS, SLACK, CSV, JSON],
+        ..OF_TABLE
+    },
+    CommandForm {
+        verb: Verb::Judge,
+        name: "judge",
+        second: Some(name!("IN", help::HEARD_LOG)),
+        third: Some(name!("OUT", help::SENT_LOG)),
+        more: Some(name!("OUTS", help::SENT_LOGS)),
+        options: &[IN, TOLERANCE, EVENTS, TIME, FROM, CHANNEL, CSV, JSON],
+        ..OF_TABLE
+    },
+    CommandForm {
+        verb: Verb::Live,
+        name: "live",
+        second: Some(name!("WORDS", help::WORDS)),
+        number: Some(FRAME_COUNT),
+        more: Some(name!("FURTHER", help::RESUBMITTED)),
+        ..OF_TABLE
+    },
+];
+
+/// The commands, in the order in which help lists them.
+pub fn commands() -> &'static [CommandForm]
+    ensures rows { map form_row result.now ≡ map row_of verbs }
+    ensures each { AllByRecursion IsRow result.now }
+{
+    &COMMANDS
+}
+
+/// The command of this name. `None` if there is none.
+pub fn command_named(name: &str) -> Option<&'static CommandForm>
+    ensures { IfSome result (λ form. IsRow form.now × (form.now.name.now ≡ name.now)) }
+{
+    for form in commands() {
+        if form.name == name {
+            return Some(form);
+        }
+    }
+    None
+}
+
+/// The row of a command.
+pub fn command_of(verb: Verb) -> Option<&'static CommandForm> {
+    commands().iter().find(|form| form.verb == verb)
+}

@@ -1,0 +1,378 @@
+//! The texts of help: what each command and each of its arguments does, and an example.
+
+use crate::forms::Verb;
+
+/// The help of a command: its first line, and its end, which has an example.
+#[derive(Clone, Copy)]
+pub struct CommandHelp {
+    pub about: &'static str,
+    pub end: &'static str,
+}
+
+/// The help of a command.
+pub fn help_of(verb: Verb) -> CommandHelp {
+    let (about, end) = match verb {
+        Verb::Word => (WORD, WORD_END),
+        Verb::Encode => (ENCODE, ENCODE_END),
+        Verb::Lines => (LINES, LINES_END),
+        Verb::Import => (IMPORT, IMPORT_END),
+        Verb::Plan => (PLAN, PLAN_END),
+        Verb::Check => (CHECK, CHECK_END),
+        Verb::Icd => (ICD, ICD_END),
+        Verb::Margin => (MARGIN, MARGIN_END),
+        Verb::Load => (LOAD, LOAD_END),
+        Verb::Slots => (SLOTS, SLOTS_END),
+        Verb::Lint => (LINT, LINT_END),
+        Verb::Diff => (DIFF, DIFF_END),
+        Verb::Draw => (DRAW, DRAW_END),
+        Verb::Replay => (REPLAY, REPLAY_END),
+        Verb::Simulate => (SIMULATE, SIMULATE_END),
+        Verb::Survey => (SURVEY, SURVEY_END),
+        Verb::Judge => (JUDGE, JUDGE_END),
+        Verb::Live => (LIVE, LIVE_END),
+    };
+    CommandHelp { about, end }
+}
+
+pub const PROGRAM: &str =
+    "ARINC 429 data concentrator: receives words, and sends them in planned slots";
+
+pub const PROGRAM_END: &str = "\
+A table is TOML. It begins with `version = 2`, and then has any number of:
+  [[receiver]]      name, filters (may be left out)
+  [[source]]        name, receiver, label, sdi
+  [[group]]         name, rate (bit/s)
+  [[group.output]]  source, min_us, max_us, hold (may be left out)
+
+Examples:
+  a429 plan examples/first/table.toml
+  a429 help replay";
+
+pub const VERSION: &str = "0.2.0";
+
+pub const WORD: &str = "Print the fields of a 32-bit word, and its data as BNR and as BCD";
+
+pub const HEX: &str = "The word, as eight hexadecimal digits";
+
+pub const WORD_END: &str = "\
+Example:
+  a429 word 600000c1";
+
+pub const ENCODE: &str = "Print the 32-bit word that has these fields";
+
+pub const LABEL: &str = "The label, as three octal digits";
+
+pub const SDI: &str = "The SDI, 0 to 3 [default: 0]";
+
+pub const SSM: &str = "The SSM, 0 to 3 [default: 3 with --bnr, otherwise 0]";
+
+pub const DATA: &str = "Data as one to five hexadecimal digits, at most 7ffff";
+
+pub const BNR: &str = "Data as a whole number in BNR; write --bnr=-5 for -5";
+
+pub const BITS: &str = "Bits of --bnr below its sign, 1 to 18 [default: 18]";
+
+pub const BCD: &str = "Data as five decimal digits in BCD, the first at most 7";
+
+pub const ENCODE_END: &str = "\
+Give exactly one of --data, --bnr and --bcd. The word has odd parity. Print its
+fields with `a429 word`.
+
+Example:
+  a429 encode 203 --bnr 5000";
+
+pub const LINES: &str = "Decode a recorded line: print its words, its faults, and the rest";
+
+pub const FILE: &str = "Line file, with one byte for each symbol";
+
+pub const FILTER: &str = "Label filters, LLL/MMM in octal, at most 32";
+
+pub const LINES_END: &str = "\
+A line file has `1` for Hi, `0` for Lo and `.` for Null; spaces and line feeds
+are skipped. With filters, `lines` prints only the words that a filter passes.
+
+Example:
+  a429 lines examples/displays/line 203/377";
+
+pub const IMPORT: &str = "Print an equipment table, made from a spreadsheet's rows";
+
+pub const ROWS: &str = "Comma-separated values, with a row for each output";
+
+pub const MAP: &str = "\
+Take a heading as this column, such as
+--map Equipment=receiver; may be given again";
+
+pub const NAMES: &str = "\
+Make names of texts that are none: `Radio Height`
+becomes radio-height. Two texts that become one
+name are refused";
+
+pub const IMPORT_END: &str = "\
+The heading names the columns, in any order and any case, with spaces or
+underlines. Commas, semicolons or tabs separate fields. Other columns are
+ignored, and so are up to ten lines above the heading.
+  group, rate        the group that sends the output, and its bit rate: in
+                     bit/s, or HS (100000) or LS (12500)
+  source, receiver   the source that the output sends, and its receiver
+  label, sdi         the label in octal, and the SDI, 0 to 3 or `any`
+  min_us, max_us     minimum and maximum transmit interval in microseconds
+  min_ms, max_ms     or in milliseconds, with at most three decimals
+  hold               optional: a number, or empty
+  filters            optional: filters of the receiver, separated by spaces
+A row without a group states its source and receiver alone.
+
+Examples:
+  a429 import examples/displays/labels.csv > table.toml
+  a429 import rows.csv --map \"Min (ms)=min_ms\" > table.toml";
+
+pub const PLAN: &str = "Plan a station on the fewest buses, with the bound that shows it";
+
+pub const PLAN_END: &str = "\
+Example:
+  a429 plan examples/first/table.toml";
+
+pub const CHECK: &str = "Check whether a plan's text shows the fewest buses for a station";
+
+pub const TEXT: &str = "Plan text, from any program or person";
+
+pub const CHECK_END: &str = "\
+Example:
+  a429 check examples/displays/table.toml examples/displays/table.plan";
+
+pub const ICD: &str = "Print the data of each output for an interface control document";
+
+pub const CSV: &str = "As comma-separated values, for spreadsheets";
+
+pub const TEXT_LABELS: &str = "With --csv: labels whose zeros a spreadsheet keeps";
+
+pub const JSON: &str = "As JSON, an array with an object for each row";
+
+pub const ICD_END: &str = "\
+There is a row for each output:
+  group, rate        its group, and the bit rate in bit/s
+  source, receiver   its source, and the receiver of that source
+  label, sdi         the label in octal, and the SDI or `any`
+  bus, slot          its bus, and its first slot, both from 0
+  period, period_us  its transmit period, in slots and in microseconds
+  min_us, max_us     minimum and maximum transmit interval, as in the table
+  hold               as in the table
+  spacing            the minimum transmit interval in slots
+  latency_us         how long it takes at most until an accepted word is sent
+
+Example:
+  a429 icd --csv examples/displays/table.toml";
+
+pub const MARGIN: &str = "Show what would save a bus in each group";
+
+pub const MARGIN_END: &str = "\
+There is a row for each group. If it has more than one bus, a row follows for
+each output that could have a longer period:
+  frame, buses    the frame of the group in slots, and how many buses it has
+  excess          how many cells of a frame must be freed to save a bus
+  bound           no schedule with these intervals has fewer buses than this
+  source, period  an output, and its period in slots
+  next, less      the next longer period, and how many cells that would free
+  max_us          the maximum transmit interval that it needs for that
+  choose          if all outputs with `yes` get their max_us, a bus is saved
+
+Example:
+  a429 margin examples/air_data_and_inertial/station.toml";
+
+pub const LOAD: &str = "Print the load of each bus, and how many more outputs it can take";
+
+pub const LIMIT: &str = "Status 1 if a bus load is above PERCENT, 1 to 100";
+
+pub const LOAD_END: &str = "\
+There is a row for each bus, and a row for each group with all its buses. Column
+room_2 is the number of outputs with a period of 2 slots that fit into the free
+cells, room_4 the same for 4 slots, and so on. With --limit, `needed` in the row
+of a group above the limit is the fewest buses that stay within the limit.
+
+Example:
+  a429 load --limit 80 examples/displays/table.toml";
+
+pub const SLOTS: &str = "Print the slot tables of a plan: each cell with its output";
+
+pub const ALL_CELLS: &str = "The empty cells too";
+
+pub const CODE: &str = "As a header for C (C99), with an array for each group";
+
+pub const SLOTS_END: &str = "\
+The cells are in the order in which each group sends them in one frame.
+  slot, time_us       the slot from 0, and when it begins in the frame
+  bus                 the bus from 0
+  label, sdi, source  the source of the output in this cell
+  period              the transmit period of the output in slots
+
+Example:
+  a429 slots --group displays examples/displays/table.toml";
+
+pub const LINT: &str = "Report likely mistakes in a table, such as sources that are not sent";
+
+pub const LINT_END: &str = "\
+There is a row for each finding, and the status is 1 if there is a finding:
+  unfit           the interval of an output has no period
+  too-many-buses  a group needs this number of buses, more than 16
+  unheard         no filter of the receiver passes this source
+  unsent          no group sends this source
+  idle            this receiver has no source
+  blind           the filter with this number passes no source of its receiver
+  alike           two outputs have the same label, and one has the SDI `any`
+  full            a group has no empty cell
+
+Example:
+  a429 lint examples/air_data_and_inertial/station.toml";
+
+pub const DIFF: &str = "Print what changes when one table replaces another";
+
+pub const OTHER: &str = "Equipment table that replaces TABLE (TOML)";
+
+pub const ALL: &str = "A row for each output that only moves, instead of their number";
+
+pub const DIFF_END: &str = "\
+There is a row for each change, and the status is 1 if there is a change. A row
+`receiver`, `filters`, `source`, `source-receiver`, `label`, `sdi`, `group` or
+`rate` means that OTHER cannot be published while TABLE runs. A row `moved` has
+the number of outputs that only change their slots.
+
+Example:
+  a429 diff examples/displays/table.toml examples/displays/faster.toml";
+
+pub const DRAW: &str = "Draw the slot tables of a plan as an image (SVG)";
+
+pub const GROUP: &str = "Only the group of this name";
+
+pub const DRAWN_SLOTS: &str = "Slots to draw, 1 to 8192 [default: one frame, at most 256]";
+
+pub const WIDTH: &str = "Slots in a row, 64, 128 or 256 [default: 64]";
+
+pub const HTML: &str = "As a page (HTML) with `icd`, `margin` and `lint`";
+
+pub const DRAW_END: &str = "\
+Example:
+  a429 draw --group displays examples/displays/table.toml > displays.svg";
+
+pub const REPLAY: &str = "Play the events of a script on a station, and print the answers";
+
+pub const TABLE: &str = "Equipment table of the station (TOML)";
+
+pub const SCRIPT: &str = "Script of events, one on each line";
+
+pub const FURTHER: &str = "Further tables that the script can publish, numbered from 1";
+
+pub const REPLAY_END: &str = "\
+A script has an event on each line:
+  arrive RECEIVER HEX  a word comes in
+  cell GROUP           a group sends its next cell
+  frame GROUP          a group goes on to its next frame
+  publish N            the plan of further table N is published
+
+Example:
+  a429 replay examples/first/table.toml examples/first/script";
+
+pub const SIMULATE: &str = "Simulate a station on a log of received words with times";
+
+pub const LOG: &str = "Received words, `TIME RECEIVER HEX` on each line";
+
+pub const LOGS: &str = "Further logs, read after the first as if they were one";
+
+pub const TIME: &str = "Unit of times in the log: us, ms or s [default: us]";
+
+pub const FROM: &str = "\
+Count times from the first word (first), or from this
+time in us [default: 0]";
+
+pub const CHANNEL: &str = "\
+Take channel or name FROM in a log as the name TO, as
+in --channel 3=adc-1; may be given again";
+
+pub const UNTIL: &str = "\
+Simulate until US
+[default: one frame after the last word]";
+
+pub const SUMMARY: &str = "A row for each output instead of a line for each word";
+
+pub const SUMMARY_JSON: &str = "The summary as JSON";
+
+pub const SIMULATE_END: &str = "\
+A log has a word on each line. Blanks, commas or semicolons separate its fields,
+and a heading may name its columns. TIME must not decrease. Empty lines, and
+lines that begin with #, are ignored. US is in microseconds. Output lines:
+  TIME GROUP BUS HEX SOURCE AGE      a word is sent, AGE microseconds old
+  TIME RECEIVER HEX refused REASON   a received word is not accepted
+With --summary there is a row for each output, with times in microseconds:
+  sent                   how many words it sent
+  least_us, greatest_us  the time from one send to the next
+  late_us, bound_us      how late a word was sent, and how late it can be
+
+Example:
+  a429 simulate examples/displays/table.toml examples/displays/log";
+
+pub const SURVEY: &str = "Print which words are on recorded lines, and how often each comes";
+
+pub const RATE: &str = "\
+Bit rate of the lines, 12000 to 100000 bit/s
+[default: 100000]";
+
+pub const IMPORT_ROWS: &str = "Rows for `import` instead: the start of a table";
+
+pub const SLACK: &str = "\
+Widen the intervals of --rows by PERCENT, 0 to 99
+[default: 25]";
+
+pub const SURVEY_END: &str = "\
+A log has a word on each line. Blanks, commas or semicolons separate its fields,
+and a heading may name its columns. There is a row for each name, label and SDI,
+and a row for each name with all its words:
+  words, even                     how many words, and how many have even parity
+  least_us, mean_us, greatest_us  the time from one word to the next
+  first_us, last_us, last_word    the first time, and the last, with its word
+  load                            per cent of the time taken, at the bit rate
+
+Example:
+  a429 survey examples/displays/log";
+
+pub const JUDGE: &str = "Judge whether what a box sent is right, by logs of its words";
+
+pub const HEARD_LOG: &str = "What came in, `TIME RECEIVER HEX` on each line";
+
+pub const SENT_LOG: &str = "What the box sent, with GROUP or GROUP.BUS for RECEIVER";
+
+pub const SENT_LOGS: &str = "Further logs of what it sent, read as if they were one";
+
+pub const HEARD_LOGS: &str = "A further log of what came in; may be given again";
+
+pub const TOLERANCE: &str = "\
+How far recorded times may be wrong, 0 to 30000000 us
+[default: two slots of the group, or half its
+shortest period if that is less]";
+
+pub const EVENTS: &str = "A row for each finding instead of each output";
+
+pub const JUDGE_END: &str = "\
+Both logs are on one clock: with `--from first` its times are counted from the
+first word of IN. There is a row for each output, and a row for each group that
+counts its foreign words. The status is 1 if something is found:
+  wrong    the word that was sent did not come in before
+  stale    a later word came in before
+  soon     it was sent before the minimum interval was over
+  late     it was sent after the maximum interval was over
+  missed   a word that came in was not sent in time
+  again    a word was sent more often than `hold` says
+  foreign  a word that no output of the group sends
+
+Example:
+  a429 judge examples/displays/table.toml examples/displays/log sent.log";
+
+pub const LIVE: &str = "Run a station on threads, and print how many words and cells passed";
+
+pub const WORDS: &str = "Received words, `RECEIVER HEX` on each line";
+
+pub const RESUBMITTED: &str = "Further tables, published one by one while the station runs";
+
+pub const FRAMES: &str = "How many frames each group sends, at most 1000000";
+
+pub const LIVE_END: &str = "\
+Example:
+  a429 live examples/air_data_and_inertial/station.toml \\
+      examples/air_data_and_inertial/words 100";

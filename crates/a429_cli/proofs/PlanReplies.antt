@@ -1,0 +1,24 @@
+-- What a command on the plan of one table answers: its verb is that of no other case of `reply_to`.
+use Rattle.std.proofs.Common.{◌≡◌, ℕ, List, refl}
+use Rattle.std.specs.Prelude.{Option, Result}
+use Rattle.a429_arguments.specs.Requests.{AskedBytes}
+use Rattle.a429_arguments.specs.declared.forms.Verb.{Verb}
+use Rattle.a429_arguments.specs.declared.forms.Verb.TheVariants as verb
+use Rattle.a429_console.specs.declared.refusals.CommandRefusal.{CommandRefusal}
+use Rattle.a429_cli.specs.Plans.{IsNoPlanReply, IsPlanReply}
+use Rattle.a429_cli.specs.Replies.{IsAnswerOf, IsNoAnswer}
+use Rattle.a429_cli.specs.WholeReplies.{Replies}
+use Rattle.a429_cli.specs.declared.replies.reply.Reply.{Reply}
+
+module _ (file : List ℕ → Option (List ℕ)) (r : AskedBytes) (result : Result Reply CommandRefusal) where
+  pub on_plan : (v : Verb) → ¬ (v ≡ verb.Word) → ¬ (v ≡ verb.Encode) → ¬ (v ≡ verb.Import) → ¬ (v ≡ verb.Check) → ¬ (v ≡ verb.Lint) → ¬ (v ≡ verb.Diff) → ¬ (v ≡ verb.Survey)
+      → ¬ (v ≡ verb.Judge) → Replies (IsPlanReply v file r) (IsNoPlanReply v file r) result → Replies (IsAnswerOf v file r) (IsNoAnswer v file r) result
+  on_plan verb.Word not e i c l f s j is = absurd (not refl)
+  on_plan verb.Encode w not i c l f s j is = absurd (not refl)
+  on_plan verb.Import w e not c l f s j is = absurd (not refl)
+  on_plan verb.Check w e i not l f s j is = absurd (not refl)
+  on_plan verb.Lint w e i c not f s j is = absurd (not refl)
+  on_plan verb.Diff w e i c l not s j is = absurd (not refl)
+  on_plan verb.Survey w e i c l f not j is = absurd (not refl)
+  on_plan verb.Judge w e i c l f s not is = absurd (not refl)
+  on_plan _ w e i c l f s j is = is

@@ -1,0 +1,166 @@
+//! The command `check`: whether the text of a plan shows the fewest buses.
+ghost use Rattle.std.specs.Prelude.{◌≡◌, ◌≤◌, ◌++◌, ◌∷◌, [], MatchResult, OnOk};
+ghost use Rattle.std.specs.Io.KnownBytes.{Appends};
+ghost use Rattle.a429_cert.specs.Judged.{IsVerdictOnBytes};
+ghost use Rattle.a429_cert.specs.Printed.{verdict_text};
+ghost use Rattle.a429_console.specs.Readings.{HasRead};
+ghost use Rattle.a429_cli.specs.Checks.{AnswersCheck, IsJudging, IsUnjudged, IsVerdictReply, verdict_status};
+ghost use Rattle.a429_cli.specs.WholeReplies.{Replies};
+ghost use Rattle.a429_console.specs.RefusalText.{OrMemory};
+ghost use Rattle.a429_console.specs.Tables.{IsUnfitNamed};
+
+use crate::replies::reply::Reply;
+use a429_cert::{NoVerdict, Verdict, judge};
+use a429_console::answered::{Found, Objection};
+use a429_console::files::FileReader;
+use a429_console::files::reading::read_file;
+use a429_console::planning::read_table;
+use a429_console::refusals::evidence::TableEvidence;
+use a429_console::refusals::tables::unfit;
+use a429_console::refusals::{CommandRefusal, Refused};
+use a429_equipment::Equipment;
+use std::alloc::Global;
+use std::io;
+use std::io::Write;
+use std::marker::Model;
+
+/// What a verdict finds wrong, for a hint.
+fn objection_of(verdict: Verdict) -> Option<Objection> {
+    match verdict {
+        Verdict::Fewest => None,
+        Verdict::No(no) => Some(Objection {
+            line: no.line,
+            reason: no.reason.text(),
+        }),
+    }
+}
+
+/// A verdict on the text of a plan, and what it was judged by, for a hint. Clauses see the verdict.
+#[derive(Drop)]
+struct JudgedText {
+    verdict: Verdict,
+    equipment: Equipment,
+    text: Vec<u8>,
+}
+
+impl Model for JudgedText {
+    ghost use Rattle.a429_cert.specs.declared.verdicts.Verdict.{Verdict};
+
+    ghost Value = { Verdict };
+
+    ghost view = { λ j. j.verdict };
+}
+
+impl JudgedText {
+    ghost use Rattle.std.specs.Prelude.{◌≡◌};
+
+    /// The verdict.
+    fn verdict(&self) -> Verdict
+        ensures { result ≡ self.now }
+    {
+        self.verdict
+    }
+
+    /// What the verdict finds wrong, for a hint.
+    fn into_found(self) -> Found {
+        match objection_of(self.verdict) {
+            None => Found::Nothing,
+            Some(objection) => Found::Objection {
+                objection,
+                equipment: self.equipment,
+                text: self.text,
+            },
+        }
+    }
+}
+
+/// The refusal of an unfit output, by the names of its group and its source, with the equipment.
+fn refuse_unfit(alloc: Global, equipment: Equipment, group: usize, output: usize) -> Refused
+    ensures { OrMemory (IsUnfitNamed equipment group output) result }
+{
+    let refusal = unfit(alloc, &equipment, group, output);
+    Refused::of_table(refusal, TableEvidence::of_equipment(equipment))
+}
+
+/// The verdict on a text by a table's bytes. Error: the table's fault, then the first output in table order whose
+/// interval fits no period of the grid.
+fn verdict_on(alloc: Global, table: &[u8], text: Vec<u8>) -> Result<JudgedText, Refused>
+    ensures { MatchResult result (IsVerdictOnBytes table.now text.items) (OrMemory (IsUnjudged table.now)) }
+{
+    let equipment = read_table(alloc, table)?;
+    match judge(alloc, &equipment, &text) {
+        Ok(verdict) => Ok(JudgedText {
+            verdict,
+            equipment,
+            text,
+        }),
+        Err(NoVerdict::Unfit { group, output }) => {
+            Err(refuse_unfit(alloc, equipment, group, output))
+        }
+        Err(NoVerdict::NoMemory) => Err(Refused::plain(CommandRefusal::Memory)),
+    }
+}
+
+/// The verdict on the text in a file by the table in another. Error: the first file is refused, then the second, then
+/// the table.
+fn verdict_on_files<F: FileReader>(
+    alloc: Global,
+    files: &mut F,
+    table: &str,
+    plan: &str,
+) -> Result<JudgedText, Refused>
+    ensures { HasRead F.answers (λ file. IsJudging file table.now plan.now result) files.old files.new }
+{
+    let table = read_file(alloc, files, table)?;
+    let text = read_file(alloc, files, plan)?;
+    verdict_on(alloc, &table, text)
+}
+
+/// Writes the line of a verdict.
+fn write_verdict<W: Write>(out: &mut W, verdict: Verdict) -> io::Result<()>
+    ensures { OnOk result (Appends (W.contents out.old) (W.contents out.new) (verdict_text verdict ++ 10 ∷ [])) }
+{
+    writeln!(out, "{verdict}")
+}
+
+/// The status that belongs to a verdict: 0 if the text shows the fewest buses, otherwise 1.
+fn verdict_status(verdict: Verdict) -> u8
+    ensures due { result ≡ verdict_status verdict }
+    ensures few { result ≤ 1 }
+{
+    match verdict {
+        Verdict::Fewest => 0,
+        Verdict::No(_) => 1,
+    }
+}
+
+/// The line of a verdict, with its status. An allocation that fails is refused.
+fn verdict_reply(alloc: Global, verdict: JudgedText) -> Result<Reply, Refused>
+    ensures { Replies (IsVerdictReply verdict) (λ refusal. ⊥) result }
+{
+    let mut bytes = Vec::new(alloc);
+    let Ok(()) = write_verdict(&mut bytes, verdict.verdict()) else {
+        return Err(Refused::plain(CommandRefusal::Memory));
+    };
+    let status = verdict_status(verdict.verdict());
+    let found = verdict.into_found();
+    Ok(Reply {
+        bytes,
+        status,
+        found,
+    })
+}
+
+/// The line of the verdict on the text in a file by the table in another. The status is 0 if the text shows the fewest
+/// buses for the table, otherwise 1. The first file is refused first, then the second, then the table.
+pub fn check_reply<F: FileReader>(
+    alloc: Global,
+    files: &mut F,
+    table: &str,
+    plan: &str,
+) -> Result<Reply, Refused>
+    ensures { HasRead F.answers (λ file. AnswersCheck file table.now plan.now result) files.old files.new }
+{
+    let verdict = verdict_on_files(alloc, files, table, plan)?;
+    verdict_reply(alloc, verdict)
+}
