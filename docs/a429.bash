@@ -39,24 +39,29 @@ _a429() {
     case $command in
         help) COMPREPLY=($(compgen -W "$commands" -- "$word")); return ;;
         word) COMPREPLY=($(compgen -W "$options" -- "$word")); return ;;
+        # options
         encode) options="--sdi --ssm --data --bnr --bits --bcd $options" ;;
-        load) options="--limit --csv --json $options" ;;
-        slots) options="--group --all --c --csv --json $options" ;;
         import) options="--map --names $options" ;;
         icd) options="--csv --text --json $options" ;;
-        margin | lint) options="--csv --json $options" ;;
+        margin) options="--csv --json $options" ;;
+        load) options="--limit --csv --json $options" ;;
+        slots) options="--group --all --c --csv --json $options" ;;
+        lint) options="--csv --json $options" ;;
         diff) options="--all --csv --json $options" ;;
         draw) options="--group --slots --width --html $options" ;;
         simulate) options="--time --from --channel --until --summary --csv --json $options" ;;
         survey) options="--time --from --channel --rate --rows --slack --csv --json $options" ;;
         judge) options="--in --tolerance --events --time --from --channel --csv --json $options" ;;
+        # end of options
     esac
     case ${COMP_WORDS[COMP_CWORD - 1]} in
         --width) COMPREPLY=($(compgen -W "64 128 256" -- "$word")); return ;;
         --time) COMPREPLY=($(compgen -W "us ms s" -- "$word")); return ;;
         --from) COMPREPLY=($(compgen -W "first" -- "$word")); return ;;
         --sdi | --ssm) COMPREPLY=($(compgen -W "0 1 2 3" -- "$word")); return ;;
-        --channel | --map | --group | --slots | --until | --limit | --rate | --slack | --tolerance | --data | --bnr | --bits | --bcd) COMPREPLY=(); return ;;
+        # values
+        --sdi | --ssm | --data | --bnr | --bits | --bcd | --map | --limit | --group | --slots | --width | --time | --from | --channel | --until | --rate | --slack | --tolerance) COMPREPLY=(); return ;;
+        # end of values
     esac
     case $word in
         -*) COMPREPLY=($(compgen -W "$options" -- "$word")) ;;

@@ -143,33 +143,30 @@ def chains(names):
     return length
 
 
-def division(ready, chain, longest, idle, all_of_them):
+def division(ready, chain, longest, idle):
     """Divides idle processors among the libraries that are ready, which come with the longest chain first: pairs of a library and
-    its processors. A second processor shortens a proof by two fifths and costs a sixth more in all. So a library gets two
-    if the end of the build waits for its chain, and there are four or more; what nothing else needs goes to the first."""
-    wanted = [2 if all_of_them >= 4 and 10 * chain[name] >= 9 * longest else 1 for name in ready]
-    spare, found = idle - sum(wanted), []
-    for name, jobs in zip(ready, wanted):
-        jobs = min(jobs + max(0, min(spare, 2)), idle)
-        spare = 0
-        if jobs > 0:
-            found.append((name, jobs))
-            idle -= jobs
+    its processors. A second processor shortens a proof by two fifths and costs a sixth more in all, and a third more in a
+    small library. So a library gets one only if nothing else could use it, and if the end of the build waits for its chain."""
+    given = ready[:idle]
+    spare, found = idle - len(given), []
+    for name in given:
+        has_second = spare > 0 and 10 * chain[name] >= 8 * longest
+        spare -= has_second
+        found.append((name, 1 + has_second))
     return found
 
 
 def build_libraries(names):
     """Builds libraries, each once those below it are built."""
     chain, idle, running, done = chains(names), processors(), {}, 0
-    all_of_them = idle
     left = sorted(names, key=lambda name: -chain[name])
     total = sum(crates()[name].lines_of_code() for name in names)
-    with ThreadPoolExecutor(all_of_them) as pool:
+    with ThreadPoolExecutor(idle) as pool:
         try:
             while left or running:
                 waited_for = {*left, *[name for name, _ in running.values()]}
                 ready = [name for name in left if not waited_for & {*below(name)}]
-                for name, jobs in division(ready, chain, chain[left[0]] if left else 0, idle, all_of_them):
+                for name, jobs in division(ready, chain, chain[left[0]] if left else 0, idle):
                     left.remove(name)
                     idle -= jobs
                     running[pool.submit(build_library, name, jobs)] = name, jobs
