@@ -1,5 +1,5 @@
 -- What is judged, from the bytes of files up to their names.
-use Rattle.std.proofs.Common.{◌≡◌, ℕ, List, inl, inr}
+use Rattle.std.proofs.Common.{◌≡◌, ℕ, List, inr}
 use Rattle.std.specs.Prelude.{Err, Ok, Option, Result, false}
 use Rattle.a429_logs.specs.declared.reading.Reading.{Reading}
 use Rattle.a429_slots.specs.Proposed.{Proposed}

@@ -1,6 +1,5 @@
 pub mod LogLines
-pub mod NotedWords
-pub mod BoxWords
+pub mod LogTimes
 pub mod JudgedRows
 mod DefaultTolerance
 pub mod JudgedFiles

@@ -3,7 +3,6 @@ use Rattle.std.specs.Prelude.{◌≡◌, ◌≤◌, ◌∷◌, [], ⊤, true, Ma
 use Rattle.std.specs.Option.{option_map_or}
 use Rattle.a429_word.specs.Decimal.{decimal_number}
 use Rattle.a429_logs.specs.LogRows.{Stated}
-use Rattle.a429_logs.specs.Logs.{reading_after}
 use Rattle.a429_logs.specs.declared.reading.Reading.{Reading}
 use Rattle.a429_equipment.specs.Agreement.{last_of}
 use Rattle.a429_equipment.specs.Arrivals.{sorted}
@@ -17,7 +16,7 @@ use Rattle.a429_judge.specs.declared.facts.Mark.{Mark}
 use Rattle.a429_console.specs.RefusalText.{OrMemory}
 use Rattle.a429_console.specs.declared.refusals.CommandRefusal.{CommandRefusal}
 use Rattle.a429_console.specs.declared.refusals.CommandRefusal.TheVariants as refused
-use Rattle.a429_recordings.specs.LogItems.{IsItemFault, items_of, named}
+use Rattle.a429_recordings.specs.LogItems.{IsItemFault, items_of, named, reading_behind}
 use Rattle.a429_recordings.specs.declared.judge.words.BoxLog.{BoxLog}
 use Rattle.a429_recordings.specs.declared.judge.words.BoxLog.TheVariants as log
 use Rattle.a429_recordings.specs.declared.judge.words.BoxWord.{BoxWord}
@@ -68,10 +67,6 @@ abbrev pub box_word_by : PlanTable → Naming → List (List ℕ) → BoxLog →
 box_word_by p names channels l = named channels (box_word p names l)
 
 -- ---- how logs are read
-
--- how the log after some logs is read
-abbrev pub reading_behind : Reading → List (List ℕ) → Reading
-reading_behind reading texts = fold reading_after reading texts
 
 -- how the first log of what was sent is read, after those of what came in: times are counted from the same one, and begin again
 abbrev pub restarted : Reading → Reading

@@ -1,5 +1,5 @@
 -- The command `judge`: what it prints, and why it prints nothing.
-use Rattle.std.specs.Prelude.{◌≡◌, ◌==◌, ◌∷◌, [], ◌⊎◌, ◌++◌, ℕ, Bool, true, false, not, List, Option, Some, None, Ok, Err, Result, MatchResult, length}
+use Rattle.std.specs.Prelude.{◌≡◌, ◌==◌, ◌∷◌, ◌⊎◌, ℕ, Bool, true, false, not, List, Option, Some, Ok, Result, MatchResult, length}
 use Rattle.a429_text.specs.Sheets.{sheet_text}
 use Rattle.a429_text.specs.declared.sheets.SheetForm.{SheetForm}
 use Rattle.a429_logs.specs.LogRows.{Stated}
@@ -15,9 +15,9 @@ use Rattle.a429_console.specs.Tables.{IsProposedBy, IsTableRefusal}
 use Rattle.a429_console.specs.declared.refusals.CommandRefusal.{CommandRefusal}
 use Rattle.a429_console.specs.declared.refusals.CommandRefusal.TheVariants as refused
 use Rattle.a429_judge.specs.Recordings.{Recording}
-use Rattle.a429_recordings.specs.BoxLogs.{box_word_by, overlap, reading_behind, recording_of, restarted}
+use Rattle.a429_recordings.specs.BoxLogs.{box_word_by, overlap, recording_of, restarted}
 use Rattle.a429_recordings.specs.JudgedPlans.{event_columns, is_any_wide, is_found, judge_columns, judge_events, judged_rows}
-use Rattle.a429_recordings.specs.LogItems.{IsItemFault, items_of}
+use Rattle.a429_recordings.specs.LogItems.{IsItemFault, items_of, reading_behind}
 use Rattle.a429_recordings.specs.SimulationReplies.{reading_for}
 use Rattle.a429_recordings.specs.declared.judge.JudgeForm.{JudgeForm}
 use Rattle.a429_recordings.specs.declared.judge.JudgeInput.{JudgeInput}

@@ -1,5 +1,5 @@
 -- Logs as commands take them: what each word becomes is given, and a word that becomes nothing makes its line faulty (profile: log).
-use Rattle.std.specs.Prelude.{◌≡◌, ◌∷◌, [], ⊤, ℕ, List, Option, Some, None, Result, Ok, Err}
+use Rattle.std.specs.Prelude.{◌≡◌, ◌∷◌, ◌++◌, [], ◌⊎◌, ⊤, ℕ, List, Option, Some, None, Result, Ok, Err, MatchResult, fold}
 use Rattle.a429_text.specs.Renames.{renamed}
 use Rattle.a429_logs.specs.Logs.{WordAt, log_entries, reading_after, series_entries}
 use Rattle.a429_logs.specs.LogRows.{Stated}
@@ -7,11 +7,12 @@ use Rattle.a429_logs.specs.declared.reader.LogFault.{LogFault}
 use Rattle.a429_logs.specs.declared.reading.Reading.{Reading}
 use Rattle.a429_arguments.specs.Texts.{texts_of}
 use Rattle.a429_console.specs.Lines.{entries_before}
+use Rattle.a429_console.specs.RefusalText.{OrMemory}
 use Rattle.a429_console.specs.declared.refusals.CommandRefusal.{CommandRefusal}
 use Rattle.a429_console.specs.declared.refusals.CommandRefusal.TheVariants as refused
 use Rattle.a429_recordings.specs.declared.logs.LogNames.{LogNames}
-use Rattle.a429_recordings.specs.declared.logs.ReadFault.{ReadFault}
-use Rattle.a429_recordings.specs.declared.logs.ReadFault.TheVariants as fault
+use Rattle.a429_recordings.specs.declared.logs.keeping.KeepFault.{KeepFault}
+use Rattle.a429_recordings.specs.declared.logs.keeping.KeepFault.TheVariants as fault
 
 -- ---- names
 
@@ -52,20 +53,30 @@ abbrev pub IsItemFault : {A : Type 0} → (Stated → Option A) → Reading → 
 IsItemFault item reading texts (refused.LogLine n) = items_of item reading texts ≡ Err n
 IsItemFault item reading texts _ = ⊥
 
+-- how the log after some logs is read
+abbrev pub reading_behind : Reading → List (List ℕ) → Reading
+reading_behind reading texts = fold reading_after reading texts
+
 -- ---- what calls answer
 
--- a fault is at this line
-abbrev pub IsFaultAt : ℕ → ReadFault → Type 0
-IsFaultAt line (fault.Line f) = f.line ≡ line
-IsFaultAt line fault.NoMemory = ⊥
+-- what is kept of a word comes after what was kept before, unless the word makes its line faulty
+abbrev pub IsKept : {A B : Type 0} → Option A → List A → List A → Result B KeepFault → Type 0
+IsKept {A = A} item old new (Ok _) = (x : A) × (item ≡ Some x) × (new ≡ old ++ x ∷ [])
+IsKept item old new (Err (fault.Line why)) = item ≡ None
+IsKept item old new (Err fault.NoMemory) = ⊤
 
--- the items of a log come after those that there are, and the next log is read so; or the line is the first faulty one
-abbrev pub AddsLog : {A : Type 0} → (Stated → Option A) → Reading → List ℕ → List A → List A → Result Reading ReadFault → Type 0
-AddsLog item reading text old new (Ok next) = (next ≡ reading_after reading text) × (entries_before old (items_from item (log_entries reading text)) ≡ Ok new)
-AddsLog item reading text old new (Err (fault.Line f)) = items_from item (log_entries reading text) ≡ Err f.line
-AddsLog item reading text old new (Err fault.NoMemory) = ⊤
+-- the refusal names the first faulty line of a log, or an allocation failed
+abbrev pub RefusesLog : {A : Type 0} → (Stated → Option A) → Reading → List ℕ → CommandRefusal → Type 0
+RefusesLog item reading text refusal =
+    (refusal ≡ refused.Memory) ⊎ ((n : ℕ) × (refusal ≡ refused.LogLine n) × (items_from item (log_entries reading text) ≡ Err n))
 
--- the refusal for a fault
-abbrev pub refusal_for : ReadFault → CommandRefusal
-refusal_for (fault.Line f) = refused.LogLine f.line
-refusal_for fault.NoMemory = refused.Memory
+-- the items of a log come after those that there are, and the next log is read so; or the log is faulty
+abbrev pub KeepsLog : {A : Type 0} → (Stated → Option A) → Reading → List ℕ → List A → List A → Result Reading CommandRefusal → Type 0
+KeepsLog item reading text old new result =
+    MatchResult result (λ next. (next ≡ reading_after reading text) × (entries_before old (items_from item (log_entries reading text)) ≡ Ok new))
+    (RefusesLog item reading text)
+
+-- these are the items of logs, and the next log is read so; or a log is faulty
+abbrev pub KeepsLogs : {A : Type 0} → (Stated → Option A) → Reading → List (List ℕ) → List A → Result Reading CommandRefusal → Type 0
+KeepsLogs item reading texts items result =
+    MatchResult result (λ next. (items_of item reading texts ≡ Ok items) × (next ≡ reading_behind reading texts)) (OrMemory (IsItemFault item reading texts))

@@ -1,5 +1,5 @@
 -- The command `survey`: what it prints, and why it prints nothing.
-use Rattle.std.specs.Prelude.{◌≡◌, ◌∷◌, ◌++◌, [], ◌⊎◌, ⊤, ℕ, List, Option, Some, None, Ok, Err, Result, MatchResult, if◌then◌else◌, option_map, unwrap_or}
+use Rattle.std.specs.Prelude.{◌≡◌, ◌⊎◌, ℕ, List, Option, Some, None, Ok, Result, MatchResult, if◌then◌else◌, option_map, unwrap_or}
 use Rattle.std.specs.declared.vec.Vec.{Vec}
 use Rattle.std.specs.declared.alloc.Global.{Global}
 use Rattle.std.specs.Str.{is_utf8}
@@ -16,8 +16,6 @@ use Rattle.a429_console.specs.declared.refusals.CommandRefusal.{CommandRefusal}
 use Rattle.a429_recordings.specs.LogItems.{IsItemFault, channels_named, items_of, logs_named, named}
 use Rattle.a429_recordings.specs.SimulationReplies.{reading_for}
 use Rattle.a429_recordings.specs.declared.logs.LogNames.{LogNames}
-use Rattle.a429_recordings.specs.declared.logs.ReadFault.{ReadFault}
-use Rattle.a429_recordings.specs.declared.logs.ReadFault.TheVariants as fault
 use Rattle.a429_recordings.specs.declared.survey.SurveyForm.{SurveyForm}
 
 -- a name, if it is UTF-8
@@ -31,12 +29,6 @@ noted_of w = option_map (λ name. record { time = w.time; name = name; raw = w.r
 -- the same, with channels taken as names
 abbrev pub noted_by : List (List ℕ) → Stated → Option Noted
 noted_by channels = named channels noted_of
-
--- a word was noted, or its line is faulty
-abbrev pub IsNoted : {A : Type 0} → Stated → ℕ → List Noted → List Noted → Result A ReadFault → Type 0
-IsNoted w line old new (Ok _) = (n : Noted) × (noted_of w ≡ Some n) × (new ≡ old ++ n ∷ [])
-IsNoted w line old new (Err (fault.Line f)) = (noted_of w ≡ None) × (f.line ≡ line)
-IsNoted w line old new (Err fault.NoMemory) = ⊤
 
 -- what the options ask for: a bit rate of 100000 bit/s, and intervals widened by 25 per cent, unless others are given
 abbrev pub survey_form : OptionBytes → SurveyForm

@@ -1,17 +1,17 @@
-//! Logs: their names, those of their words, and faulty lines.
+//! Logs: their names, those of their words, and how they are read.
 ghost use Rattle.std.specs.Prelude.{◌≡◌};
 ghost use Rattle.a429_logs.specs.LogRows.{stated_by};
 ghost use Rattle.a429_arguments.specs.Texts.{texts_of};
 ghost use Rattle.a429_arguments.specs.Requests.{given_of};
-ghost use Rattle.a429_recordings.specs.LogItems.{IsFaultAt, with_name};
+ghost use Rattle.a429_recordings.specs.LogItems.{with_name};
 ghost use Rattle.a429_recordings.specs.SimulationReplies.{clock_from, reading_for};
+
+pub mod keeping;
 
 use a429_arguments::requests::Options;
 use a429_arguments::times::LogOrigin;
-use a429_console::refusals::evidence::{LogEvidence, LogRefusal};
-use a429_logs::{Clock, LogReader, LogWord, Reading, StatedWord};
+use a429_logs::{Clock, LogWord, Reading, StatedWord};
 use a429_text::renames::renamed;
-use std::alloc::AllocFailed;
 
 /// The names of logs that are read one after another, and as which names channels in them are taken.
 #[derive(Clone, Copy)]
@@ -35,48 +35,6 @@ pub fn with_name<'a>(channels: &'a [&'a str], entry: LogWord<'a>) -> LogWord<'a>
             ..word
         },
     }
-}
-
-/// A faulty line of a log, by its number from 1, and what a hint needs of it.
-#[derive(Clone, Copy)]
-pub struct FaultyLine {
-    pub line: usize,
-    pub log: LogEvidence,
-}
-
-/// Why a log cannot be read.
-#[derive(Clone, Copy)]
-pub enum ReadFault {
-    /// This line is the first that is faulty.
-    Line(FaultyLine),
-    /// An allocation failed.
-    NoMemory,
-}
-
-impl<T: Drop> From<AllocFailed<T>> for ReadFault {
-    ghost use Rattle.std.specs.Prelude.{◌≡◌};
-    ghost use Rattle.a429_recordings.specs.declared.logs.ReadFault.TheVariants.{NoMemory};
-
-    ghost from_gives = { λ _ e. e ≡ NoMemory };
-
-    fn from(_error: AllocFailed<T>) -> ReadFault {
-        ReadFault::NoMemory
-    }
-}
-
-/// A faulty line of a log that is read so.
-pub fn faulty(reader: &LogReader<'_>, reading: Reading, line: usize, why: LogRefusal) -> ReadFault
-    ensures { IsFaultAt line result }
-{
-    ReadFault::Line(FaultyLine {
-        line,
-        log: LogEvidence {
-            why,
-            number: 0,
-            shape: reader.shape(),
-            unit: reading.unit,
-        },
-    })
 }
 
 /// The clock that counts from this time on.

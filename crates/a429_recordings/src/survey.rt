@@ -1,21 +1,21 @@
 //! The command `survey`.
 ghost use Rattle.std.specs.Prelude.{◌≡◌, Ok, IfOk, MatchResult, option_map};
-ghost use Rattle.a429_logs.specs.LogRows.{stated_by};
 ghost use Rattle.a429_console.specs.Files.{bytes_of};
 ghost use Rattle.a429_arguments.specs.Texts.{texts_of};
 ghost use Rattle.a429_console.specs.Readings.{HasRead};
 ghost use Rattle.a429_console.specs.RefusalText.{OrMemory};
-ghost use Rattle.a429_recordings.specs.LogItems.{AddsLog, IsItemFault, items_of, refusal_for};
-ghost use Rattle.a429_recordings.specs.Surveys.{IsNoted, IsSurveyAnswer, noted_by, survey_text, text_in};
+ghost use Rattle.a429_recordings.specs.LogItems.{IsItemFault, items_of};
+ghost use Rattle.a429_recordings.specs.Surveys.{IsSurveyAnswer, noted_by, survey_text, text_in};
 
 pub use crate::logs::LogNames;
-use crate::logs::{ReadFault, faulty, reading_for, with_name};
+use crate::logs::keeping::{KeepFault, WordKeeper, keep_logs};
+use crate::logs::reading_for;
 use a429_arguments::requests::Options;
 use a429_console::files::FileReader;
 use a429_console::files::reading::read_logs;
-use a429_console::refusals::evidence::{Evidence, LineEvidence, LogEvidence, LogRefusal};
-use a429_console::refusals::{CommandRefusal, Refused};
-use a429_logs::{LogReader, LogWord, Reading, StatedWord};
+use a429_console::refusals::Refused;
+use a429_console::refusals::evidence::{LineEvidence, LogRefusal};
+use a429_logs::{Reading, StatedWord};
 use a429_survey::Survey;
 use a429_text::SheetForm;
 use std::alloc::{AllocError, Global};
@@ -72,73 +72,30 @@ fn text_in(name: &[u8]) -> Option<&str>
     }
 }
 
-/// Notes a word. Error: its name is not UTF-8, or an allocation failed.
-fn note_word(
-    survey: &mut Survey,
-    reader: &LogReader<'_>,
-    reading: Reading,
-    entry: LogWord<'_>,
-) -> Result<(), ReadFault>
-    ensures { IsNoted (stated_by entry.entry.word) entry.entry.line survey.old survey.new result }
-{
-    let StatedWord { time, name, raw } = entry.word;
-    let Some(name) = text_in(name) else {
-        return Err(faulty(reader, reading, entry.line, LogRefusal::Name));
-    };
-    match survey.note(name, time, raw) {
-        Ok(()) => Ok(()),
-        Err(_) => Err(ReadFault::NoMemory),
-    }
-}
+impl WordKeeper for Survey {
+    ghost use Rattle.a429_survey.specs.Figures.{Noted};
+    ghost use Rattle.a429_recordings.specs.Surveys.{noted_of};
 
-/// Notes the words of a log; the answer is how the next log is read. Error: the number of its first faulty line, from 1,
-/// or an allocation failed.
-fn note_log<'a>(
-    survey: &mut Survey,
-    channels: &'a [&'a str],
-    reading: Reading,
-    log: &'a [u8],
-) -> Result<Reading, ReadFault>
-    ensures { AddsLog (noted_by (texts_of channels.now)) reading log.now survey.old survey.new result }
-{
-    let mut reader = LogReader::open(reading, log);
-    while let Some(entry) = reader.next() {
-        match entry {
-            Ok(entry) => {
-                let entry = with_name(channels, entry);
-                if let Err(fault) = note_word(survey, &reader, reading, entry) {
-                    return Err(fault);
-                }
-            }
-            Err(fault) => return Err(faulty(
-                &reader,
-                reading,
-                fault.line,
-                LogRefusal::Line(fault.why),
-            )),
+    ghost Item = { Noted };
+
+    ghost item = { λ _. noted_of };
+
+    ghost kept = { λ noted. noted };
+
+    /// Notes a word. Error: its name is not UTF-8, or an allocation failed.
+    #[tactic(auto, unfolding(crate::specs::Surveys::noted_of))]
+    fn keep(&mut self, word: StatedWord<'_>) -> Result<(), KeepFault> {
+        let Some(name) = text_in(word.name) else {
+            return Err(KeepFault::Line(LogRefusal::Name));
+        };
+        match self.note(name, word.time, word.raw) {
+            Ok(()) => Ok(()),
+            Err(_) => Err(KeepFault::NoMemory),
         }
     }
-    Ok(reader.for_next_log())
-}
 
-/// The refusal for a fault of a log, by the number of the log from 0, with the faulty line.
-fn refusal_for(alloc: Global, number: usize, log: &[u8], fault: ReadFault) -> Refused
-    ensures { result ≡ refusal_for fault }
-{
-    match fault {
-        ReadFault::Line(fault) => {
-            let line = fault.line;
-            let evidence = LineEvidence::of(alloc, log, line).ok();
-            let log = LogEvidence {
-                number,
-                ..fault.log
-            };
-            Refused::with(
-                CommandRefusal::LogLine { line },
-                Evidence::of_log(evidence, log),
-            )
-        }
-        ReadFault::NoMemory => Refused::plain(CommandRefusal::Memory),
+    fn line_evidence(&self, alloc: Global, text: &[u8], line: usize) -> Option<LineEvidence> {
+        LineEvidence::of(alloc, text, line).ok()
     }
 }
 
@@ -153,15 +110,10 @@ fn survey_of<'a>(
         (OrMemory (IsItemFault (noted_by (texts_of channels.now)) reading (bytes_of logs.now))) }
 {
     let mut survey = Survey::new(alloc);
-    let mut next = reading;
-    for number in 0..logs.len() {
-        let log = logs[number].as_slice();
-        match note_log(&mut survey, channels, next, log) {
-            Ok(after) => next = after,
-            Err(fault) => return Err(refusal_for(alloc, number, log, fault)),
-        }
+    match keep_logs(alloc, &mut survey, channels, reading, logs) {
+        Ok(_) => Ok(survey),
+        Err(refusal) => Err(refusal),
     }
-    Ok(survey)
 }
 
 /// The sheet of a survey. Error: an allocation failed.

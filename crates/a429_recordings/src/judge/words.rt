@@ -1,16 +1,14 @@
 //! Words of the logs of a box.
 ghost use Rattle.std.specs.Prelude.{◌≡◌, ◌==◌, ◌<◌, length, option_map, position, IfOk, IfSome};
-ghost use Rattle.a429_logs.specs.LogRows.{stated_by};
 ghost use Rattle.a429_console.specs.Files.{bytes_of};
 ghost use Rattle.a429_arguments.specs.Texts.{texts_of};
-ghost use Rattle.a429_recordings.specs.BoxLogs.{AreOrdered, IsLogsReading, at_number, box_word, box_word_by, bus_named, bus_place, place_named, sent_place};
+ghost use Rattle.a429_recordings.specs.BoxLogs.{AreOrdered, IsLogsReading, at_number, box_word_by, bus_named, bus_place, place_named, sent_place};
 ghost use Rattle.a429_console.specs.Names.{number_named};
-ghost use Rattle.a429_recordings.specs.LogItems.{AddsLog, refusal_for};
 
-use crate::logs::{ReadFault, faulty, with_name};
-use a429_console::refusals::evidence::{Evidence, LogEvidence, LogRefusal};
-use a429_console::refusals::{CommandRefusal, Refused};
-use a429_logs::{LogReader, Reading, StatedWord};
+use crate::logs::keeping::{KeepFault, WordKeeper, keep_logs};
+use a429_console::refusals::Refused;
+use a429_console::refusals::evidence::{LineEvidence, LogRefusal};
+use a429_logs::{Reading, StatedWord};
 use a429_replay::Names;
 use a429_slots::{OUTPUTS, Plan};
 use a429_word::decimal_number;
@@ -130,95 +128,52 @@ fn place_named(plan: &Plan<OUTPUTS>, names: &Names, log: BoxLog, name: &[u8]) ->
     }
 }
 
-/// A word of a log of a box. `None` if there is no place of its name, or its time is not below 10^14 us.
-#[tactic(auto, unfolding(crate::specs::BoxLogs::box_word))]
-fn word_for(
-    plan: &Plan<OUTPUTS>,
-    names: &Names,
-    log: BoxLog,
-    word: StatedWord<'_>,
-) -> Option<BoxWord>
-    ensures { result ≡ box_word plan.now names.now log (stated_by word.entry) }
-{
-    if word.time >= 100_000_000_000_000 {
-        return None;
-    }
-    let place = place_named(plan, names, log, word.name)?;
-    Some(BoxWord {
-        time: word.time,
-        place,
-        raw: word.raw,
-    })
-}
-
-/// Why a word is none of a log.
-fn refusal_of(log: BoxLog, word: StatedWord<'_>) -> LogRefusal {
-    if word.time >= 100_000_000_000_000 {
-        return LogRefusal::Late;
-    }
+/// Why a word of a log is at no place.
+fn no_place(log: BoxLog) -> LogRefusal {
     match log {
         BoxLog::Heard => LogRefusal::Receiver,
         BoxLog::Sent => LogRefusal::Group,
     }
 }
 
-/// Adds the words of a log, with channels taken as names; the answer is how the next log is read. Error: the number of its
-/// first faulty line, from 1, or an allocation failed.
-fn add_words<'a>(
-    plan: &Plan<OUTPUTS>,
-    names: &Names,
-    channels: &'a [&'a str],
+/// The words of logs at places of this plan and of these names.
+#[derive(Drop)]
+struct PlaceWords<'a> {
+    plan: &'a Plan<OUTPUTS>,
+    names: &'a Names,
     log: BoxLog,
-    reading: Reading,
-    text: &'a [u8],
-    words: &mut Vec<BoxWord>,
-) -> Result<Reading, ReadFault>
-    ensures { AddsLog (box_word_by plan.now names.now (texts_of channels.now) log) reading text.now words.old.items words.new.items
-        result }
-{
-    let mut reader = LogReader::open(reading, text);
-    while let Some(entry) = reader.next() {
-        let entry = match entry {
-            Ok(entry) => with_name(channels, entry),
-            Err(fault) => return Err(faulty(
-                &reader,
-                reading,
-                fault.line,
-                LogRefusal::Line(fault.why),
-            )),
-        };
-        let Some(word) = word_for(plan, names, log, entry.word) else {
-            return Err(faulty(&reader, reading, entry.line, refusal_of(log, entry.word)));
-        };
-        words.push(word)?;
-    }
-    Ok(reader.for_next_log())
+    words: Vec<BoxWord>,
 }
 
-/// The refusal for a fault of a log, by the number of the log from 0, with the faulty line.
-fn refusal_for(
-    alloc: Global,
-    names: &Names,
-    number: usize,
-    text: &[u8],
-    fault: ReadFault,
-) -> Refused
-    ensures { result ≡ refusal_for fault }
-{
-    match fault {
-        ReadFault::Line(fault) => {
-            let line = fault.line;
-            let evidence = names.line_evidence(alloc, text, line, 0);
-            let log = LogEvidence {
-                number,
-                ..fault.log
-            };
-            Refused::with(
-                CommandRefusal::LogLine { line },
-                Evidence::of_log(evidence, log),
-            )
+impl WordKeeper for PlaceWords<'_> {
+    ghost use Rattle.a429_recordings.specs.BoxLogs.{box_word};
+    ghost use Rattle.a429_recordings.specs.declared.judge.words.BoxWord.{BoxWord};
+
+    ghost Item = { BoxWord };
+
+    ghost item = { λ kept. box_word kept.plan.now kept.names.now kept.log };
+
+    ghost kept = { λ kept. kept.words.items };
+
+    /// Keeps a word. Error: its time is not below 10^14 us, there is no place of its name, or an allocation failed.
+    #[tactic(auto, unfolding(crate::specs::BoxLogs::box_word))]
+    fn keep(&mut self, word: StatedWord<'_>) -> Result<(), KeepFault> {
+        if word.time >= 100_000_000_000_000 {
+            return Err(KeepFault::Line(LogRefusal::Late));
         }
-        ReadFault::NoMemory => Refused::plain(CommandRefusal::Memory),
+        let Some(place) = place_named(self.plan, self.names, self.log, word.name) else {
+            return Err(KeepFault::Line(no_place(self.log)));
+        };
+        self.words.push(BoxWord {
+            time: word.time,
+            place,
+            raw: word.raw,
+        })?;
+        Ok(())
+    }
+
+    fn line_evidence(&self, alloc: Global, text: &[u8], line: usize) -> Option<LineEvidence> {
+        self.names.line_evidence(alloc, text, line, 0)
     }
 }
 
@@ -237,14 +192,17 @@ pub fn read_words<'a>(
     ensures read { IsLogsReading (box_word_by plan.now names.now (texts_of channels.now) log) reading (bytes_of texts.now) result }
     ensures ordered { IfOk result (λ read. AreOrdered read.words.items) }
 {
-    let mut words = Vec::new(alloc);
-    let mut next = reading;
-    for number in 0..texts.len() {
-        let text = texts[number].as_slice();
-        match add_words(plan, names, channels, log, next, text, &mut words) {
-            Ok(after) => next = after,
-            Err(fault) => return Err(refusal_for(alloc, names, number, text, fault)),
-        }
+    let mut kept = PlaceWords {
+        plan,
+        names,
+        log,
+        words: Vec::new(alloc),
+    };
+    match keep_logs(alloc, &mut kept, channels, reading, texts) {
+        Ok(next) => Ok(BoxWords {
+            words: kept.words,
+            next,
+        }),
+        Err(refusal) => Err(refusal),
     }
-    Ok(BoxWords { words, next })
 }

@@ -1,11 +1,10 @@
-use Rattle.std.proofs.Common.{◌∙◌, ap, inl, inr}
-use Rattle.std.specs.Prelude.{Err, Ok, Result, MatchResult}
+use Rattle.std.proofs.Common.{◌∙◌, ap, inl}
+use Rattle.std.specs.Prelude.{Err}
 use Rattle.std.proofs.lemmas.Result.{err_from_is_err_and}
 use Rattle.a429_console.specs.RefusalText.{OrMemory}
-use Rattle.a429_console.specs.declared.refusals.CommandRefusal.{CommandRefusal}
 use Rattle.a429_console.proofs.ReadingParts.{read_weaker}
 use Rattle.a429_console.proofs.Refused.{failed, or_memory_weaker}
-use Rattle.a429_recordings.specs.JudgeReplies.{IsUnjudged, IsUnjudgedBy, IsUnreadBoxFile, files_of, names_of}
+use Rattle.a429_recordings.specs.JudgeReplies.{IsUnjudgedBy, IsUnreadBoxFile, files_of, names_of}
 use Rattle.a429_recordings.proofs.JudgedFiles.{judged_by}
 use Rattle.a429_recordings.proofs.judge.judge_logs.Goals as goal
 

@@ -1,15 +1,11 @@
-use Rattle.std.proofs.Common.{◌≡◌, ◌∙◌, ap, inl, inr, subst, sym, List, ℕ}
+use Rattle.std.proofs.Common.{◌≡◌, ◌∙◌, ap, inl, inr}
 use Rattle.std.specs.Prelude.{Err, Ok}
 use Rattle.std.proofs.lemmas.Result.{err_from_is_err_and}
-use Rattle.a429_logs.specs.declared.reading.Reading.{Reading}
-use Rattle.a429_slots.specs.Tables.{PlanTable}
-use Rattle.a429_console.specs.Files.{bytes_of}
-use Rattle.a429_console.specs.Names.{Naming, naming_of}
 use Rattle.a429_console.specs.RefusalText.{OrMemory}
 use Rattle.a429_console.proofs.Refused.{failed, or_memory_weaker}
-use Rattle.a429_recordings.specs.BoxLogs.{reading_behind, restarted}
-use Rattle.a429_recordings.specs.JudgeReplies.{IsHeardFault, IsNoRecording, IsSentFault, files_of, heard_words, sent_reading, sent_words, word_by}
-use Rattle.a429_recordings.specs.LogItems.{IsItemFault, items_of}
+use Rattle.a429_recordings.specs.BoxLogs.{restarted}
+use Rattle.a429_recordings.specs.JudgeReplies.{IsHeardFault, IsNoRecording, files_of, heard_words, sent_reading, sent_words, word_by}
+use Rattle.a429_recordings.specs.LogItems.{IsItemFault, reading_behind}
 use Rattle.a429_recordings.specs.declared.judge.words.BoxLog.TheVariants as log
 use Rattle.a429_recordings.proofs.JudgedFiles.{recorded}
 use Rattle.a429_recordings.proofs.judge.read_notes.Goals as goal

@@ -1,4 +1,4 @@
-use Rattle.std.proofs.Common.{[], refl}
+use Rattle.std.proofs.Common.{[]}
 use Rattle.a429_recordings.specs.JudgedPlans.{duty_of}
 use Rattle.a429_recordings.proofs.SummedUp.{rows_more}
 use Rattle.a429_recordings.proofs.judge.duties.duties_of.Goals as goal

@@ -1,8 +1,15 @@
-use Rattle.std.proofs.Common.{◌∙◌, ◌≡◌, ℕ, ap, subst, sym}
-use Rattle.a429_judge.specs.Recordings.{Recording, no_words}
-use Rattle.a429_recordings.specs.BoxLogs.{AreFrom}
-use Rattle.a429_recordings.proofs.BoxWords.{hears_keep}
+use Rattle.std.proofs.Common.{◌∙◌, ◌≡◌, ◌∷◌, [], ℕ, List, ap, refl, subst, sym}
+use Rattle.std.specs.Prelude.{fold}
+use Rattle.a429_equipment.specs.TableRecord.{TableRecord}
+use Rattle.a429_judge.specs.Recordings.{Recording}
+use Rattle.a429_recordings.specs.BoxLogs.{AreFrom, hears}
+use Rattle.a429_recordings.specs.declared.judge.words.BoxWord.{BoxWord}
 use Rattle.a429_recordings.proofs.judge.noting.notes_of.Goals as goal
+
+-- words that come in change nothing of what was sent
+hears_keep : (t : TableRecord) (words : List BoxWord) (r : Recording) → (fold (hears t) r words).last_sent ≡ r.last_sent
+hears_keep t [] r = refl
+hears_keep t (w ∷ words) r = hears_keep t words (hears t r w)
 
 pub note_sent-requires : goal.note_sent-requires
 note_sent-requires c =

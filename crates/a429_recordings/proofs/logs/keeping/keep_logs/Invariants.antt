@@ -1,0 +1,16 @@
+use Rattle.std.proofs.Common.{◌≡◌, drop}
+use Rattle.a429_console.specs.Files.{bytes_of}
+use Rattle.a429_arguments.specs.Texts.{texts_of}
+use Rattle.a429_recordings.specs.LogItems.{named, reading_behind}
+use Rattle.a429_recordings.proofs.LogLines.{AreBefore}
+use Rattle.a429_recordings.proofs.logs.keeping.keep_logs.Given as goal
+
+abbrev pub invariant-loop-number : goal.invariant-loop-number
+invariant-loop-number g l =
+    let k = g.T.WordKeeper in
+    let left = bytes_of (drop l.number l.logs) in
+    record {
+      same : k.item l.keeper ≡ k.item l.fn.keeper;
+      items : AreBefore (named (texts_of l.channels) (k.item l.fn.keeper)) l.fn.reading (bytes_of l.logs) l.next left (k.kept l.keeper);
+      next : reading_behind l.fn.reading (bytes_of l.logs) ≡ reading_behind l.next left;
+    }

@@ -1,0 +1,144 @@
+//! Logs that are read one after another, as if they were one.
+ghost use Rattle.std.specs.Prelude.{◌≡◌, [], Option, List};
+ghost use Rattle.a429_logs.specs.LogRows.{Stated, stated_by};
+ghost use Rattle.a429_console.specs.Files.{bytes_of};
+ghost use Rattle.a429_arguments.specs.Texts.{texts_of};
+ghost use Rattle.a429_console.specs.declared.refusals.CommandRefusal.TheVariants.{LogLine};
+ghost use Rattle.a429_recordings.specs.LogItems.{IsKept, KeepsLog, KeepsLogs, named};
+
+use crate::logs::with_name;
+use a429_console::refusals::evidence::{Evidence, LineEvidence, LogEvidence, LogRefusal};
+use a429_console::refusals::{CommandRefusal, Refused};
+use a429_logs::{LogReader, Reading, Shape, StatedWord};
+use std::alloc::{AllocFailed, Global};
+
+/// Why a word of a log was not kept.
+#[derive(Clone, Copy)]
+pub enum KeepFault {
+    /// It makes its line faulty.
+    Line(LogRefusal),
+    /// An allocation failed.
+    NoMemory,
+}
+
+impl<T: Drop> From<AllocFailed<T>> for KeepFault {
+    ghost use Rattle.std.specs.Prelude.{◌≡◌};
+    ghost use Rattle.a429_recordings.specs.declared.logs.keeping.KeepFault.TheVariants.{NoMemory};
+
+    ghost from_gives = { λ _ e. e ≡ NoMemory };
+
+    fn from(_error: AllocFailed<T>) -> KeepFault {
+        KeepFault::NoMemory
+    }
+}
+
+/// What keeps the words of logs, one after another.
+pub trait WordKeeper {
+    /// The type of what is kept of a word.
+    ghost Item: { Type 0 };
+
+    /// What is kept of a word. `None` if the word makes its line faulty.
+    ghost item: { Self → Stated → Option Self.Item };
+
+    /// What was kept, in order.
+    ghost kept: { Self → List Self.Item };
+
+    /// Keeps a word. Error: it makes its line faulty, or an allocation failed.
+    fn keep(&mut self, word: StatedWord<'_>) -> Result<(), KeepFault>
+        ensures kept { IsKept (item self.old (stated_by word.entry)) (kept self.old) (kept self.new) result }
+        ensures same { item self.new ≡ item self.old };
+
+    /// The line of this number of a log, for a hint. `None` if an allocation fails.
+    fn line_evidence(&self, alloc: Global, text: &[u8], line: usize) -> Option<LineEvidence>;
+}
+
+/// One of several logs: its number from 0, its bytes, and how its first line is read.
+#[derive(Clone, Copy)]
+struct NumberedLog<'a> {
+    number: usize,
+    text: &'a [u8],
+    reading: Reading,
+}
+
+/// The refusal of a faulty line of a log, with that line. The log's rows have this form so far.
+fn refuse_line<T: WordKeeper>(
+    alloc: Global,
+    keeper: &T,
+    log: NumberedLog<'_>,
+    shape: Option<Shape>,
+    line: usize,
+    why: LogRefusal,
+) -> Refused
+    ensures { result ≡ LogLine line }
+{
+    let evidence = LogEvidence {
+        why,
+        number: log.number,
+        shape,
+        unit: log.reading.unit,
+    };
+    Refused::with(
+        CommandRefusal::LogLine { line },
+        Evidence::of_log(keeper.line_evidence(alloc, log.text, line), evidence),
+    )
+}
+
+/// Keeps the words of a log, with channels taken as names. The answer is how the next log is read. Error: the first faulty
+/// line of the log, or an allocation failed.
+fn keep_log<'a, T: WordKeeper>(
+    alloc: Global,
+    keeper: &mut T,
+    channels: &'a [&'a str],
+    log: NumberedLog<'a>,
+) -> Result<Reading, Refused>
+    ensures kept { KeepsLog (named (texts_of channels.now) (T.item keeper.old)) log.entry.reading log.entry.text.now
+        (T.kept keeper.old) (T.kept keeper.new) result }
+    ensures same { T.item keeper.new ≡ T.item keeper.old }
+{
+    let mut reader = LogReader::open(log.reading, log.text);
+    while let Some(entry) = reader.next() {
+        let entry = match entry {
+            Ok(entry) => with_name(channels, entry),
+            Err(fault) => {
+                let why = LogRefusal::Line(fault.why);
+                return Err(refuse_line(alloc, keeper, log, reader.shape(), fault.line, why));
+            }
+        };
+        match keeper.keep(entry.word) {
+            Ok(()) => {}
+            Err(KeepFault::Line(why)) => {
+                return Err(refuse_line(alloc, keeper, log, reader.shape(), entry.line, why));
+            }
+            Err(KeepFault::NoMemory) => return Err(Refused::plain(CommandRefusal::Memory)),
+        }
+    }
+    Ok(reader.for_next_log())
+}
+
+/// Keeps the words of logs, one after another as if they were one, with channels taken as names. The answer is how the next
+/// log would be read. Error: the number of the first faulty line, from 1 in its log, or an allocation failed.
+#[tactic(auto, using(crate::proofs::LogLines::before_more, crate::proofs::LogLines::logs_left))]
+pub fn keep_logs<'a, T: WordKeeper>(
+    alloc: Global,
+    keeper: &mut T,
+    channels: &'a [&'a str],
+    reading: Reading,
+    logs: &'a [Vec<u8>],
+) -> Result<Reading, Refused>
+    requires { T.kept keeper.old ≡ [] }
+    ensures { KeepsLogs (named (texts_of channels.now) (T.item keeper.old)) reading (bytes_of logs.now) (T.kept keeper.new) result }
+{
+    let mut next = reading;
+    for number in 0..logs.len() {
+        let log = NumberedLog {
+            number,
+            text: &logs[number],
+            reading: next,
+        };
+        match keep_log(alloc, keeper, channels, log) {
+            Ok(after) => next = after,
+            Err(refusal) => return Err(refusal),
+        }
+    }
+    Ok(next)
+}
