@@ -62,6 +62,21 @@ macro_rules! texts {
     };
 }
 
+/// The form of an option with a whole number from the least to the most, which help calls by this name.
+macro_rules! number {
+    ($id:literal, $value:literal, $least:expr, $most:expr, $help:expr) => {
+        OptionForm {
+            id: $id,
+            kind: OptionKind::Number {
+                value: $value,
+                least: $least,
+                most: $most,
+            },
+            help: $help,
+        }
+    };
+}
+
 /// `--csv`
 pub const CSV: OptionForm = flag!("csv", help::CSV);
 
@@ -90,15 +105,7 @@ pub const ALL: OptionForm = flag!("all", help::ALL);
 pub const GROUP: OptionForm = text!("group", "NAME", help::GROUP);
 
 /// `--slots`
-pub const SLOTS: OptionForm = OptionForm {
-    id: "slots",
-    kind: OptionKind::Number {
-        value: "N",
-        least: 1,
-        most: MOST_SLOTS,
-    },
-    help: help::DRAWN_SLOTS,
-};
+pub const SLOTS: OptionForm = number!("slots", "N", 1, MOST_SLOTS, help::DRAWN_SLOTS);
 
 /// `--width`
 pub const WIDTH: OptionForm = text!("width", "N", help::WIDTH);
@@ -116,15 +123,7 @@ pub const FROM: OptionForm = text!("from", "TIME", help::FROM);
 pub const CHANNEL: OptionForm = texts!("channel", "FROM=TO", help::CHANNEL);
 
 /// `--until`
-pub const UNTIL: OptionForm = OptionForm {
-    id: "until",
-    kind: OptionKind::Number {
-        value: "US",
-        least: 0,
-        most: LAST_TIME,
-    },
-    help: help::UNTIL,
-};
+pub const UNTIL: OptionForm = number!("until", "US", 0, LAST_TIME, help::UNTIL);
 
 /// `--summary`
 pub const SUMMARY: OptionForm = flag!("summary", help::SUMMARY);
@@ -139,79 +138,31 @@ pub const ALL_CELLS: OptionForm = OptionForm {
 pub const CODE: OptionForm = flag!("c", help::CODE);
 
 /// `--limit`
-pub const LIMIT: OptionForm = OptionForm {
-    id: "limit",
-    kind: OptionKind::Number {
-        value: "PERCENT",
-        least: 1,
-        most: MOST_PERCENT,
-    },
-    help: help::LIMIT,
-};
+pub const LIMIT: OptionForm = number!("limit", "PERCENT", 1, MOST_PERCENT, help::LIMIT);
 
 /// `--rate`
-pub const RATE: OptionForm = OptionForm {
-    id: "rate",
-    kind: OptionKind::Number {
-        value: "RATE",
-        least: LEAST_RATE,
-        most: MOST_RATE,
-    },
-    help: help::RATE,
-};
+pub const RATE: OptionForm = number!("rate", "RATE", LEAST_RATE, MOST_RATE, help::RATE);
 
 /// `--rows`
 pub const ROWS: OptionForm = flag!("rows", help::IMPORT_ROWS);
 
 /// `--slack`
-pub const SLACK: OptionForm = OptionForm {
-    id: "slack",
-    kind: OptionKind::Number {
-        value: "PERCENT",
-        least: 0,
-        most: MOST_SLACK,
-    },
-    help: help::SLACK,
-};
+pub const SLACK: OptionForm = number!("slack", "PERCENT", 0, MOST_SLACK, help::SLACK);
 
 /// `--in`
 pub const IN: OptionForm = texts!("in", "LOG", help::HEARD_LOGS);
 
 /// `--tolerance`
-pub const TOLERANCE: OptionForm = OptionForm {
-    id: "tolerance",
-    kind: OptionKind::Number {
-        value: "US",
-        least: 0,
-        most: MOST_TOLERANCE,
-    },
-    help: help::TOLERANCE,
-};
+pub const TOLERANCE: OptionForm = number!("tolerance", "US", 0, MOST_TOLERANCE, help::TOLERANCE);
 
 /// `--events`
 pub const EVENTS: OptionForm = flag!("events", help::EVENTS);
 
 /// `--sdi`
-pub const SDI: OptionForm = OptionForm {
-    id: "sdi",
-    kind: OptionKind::Number {
-        value: "N",
-        least: 0,
-        most: MOST_PAIR,
-    },
-    help: help::SDI,
-};
+pub const SDI: OptionForm = number!("sdi", "N", 0, MOST_PAIR, help::SDI);
 
 /// `--ssm`
-pub const SSM: OptionForm = OptionForm {
-    id: "ssm",
-    kind: OptionKind::Number {
-        value: "N",
-        least: 0,
-        most: MOST_PAIR,
-    },
-    help: help::SSM,
-};
+pub const SSM: OptionForm = number!("ssm", "N", 0, MOST_PAIR, help::SSM);
 
 /// `--data`
 pub const DATA: OptionForm = text!("data", "HEX", help::DATA);
@@ -220,15 +171,7 @@ pub const DATA: OptionForm = text!("data", "HEX", help::DATA);
 pub const BNR: OptionForm = text!("bnr", "N", help::BNR);
 
 /// `--bits`
-pub const BITS: OptionForm = OptionForm {
-    id: "bits",
-    kind: OptionKind::Number {
-        value: "K",
-        least: 1,
-        most: MOST_BITS,
-    },
-    help: help::BITS,
-};
+pub const BITS: OptionForm = number!("bits", "K", 1, MOST_BITS, help::BITS);
 
 /// `--bcd`
 pub const BCD: OptionForm = text!("bcd", "DIGITS", help::BCD);
