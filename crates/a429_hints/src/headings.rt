@@ -1,9 +1,9 @@
 //! Hints about the heading of rows of comma-separated values that `import` refuses.
 
+use crate::file_rows::FileRows;
 use crate::hint::HintText;
 use crate::lists::{LISTED, say_more};
 use crate::nearest::Nearest;
-use crate::sheets::Sheet;
 use a429_import::{
     CsvLine, IMPORT_COLUMNS, ImportColumn, column_in, is_column, is_column_named, is_met,
 };
@@ -12,17 +12,17 @@ use std::alloc::{AllocError, Global};
 use std::cmp::min;
 
 /// Says which of the texts HEADING=COLUMN is not met. If all are, names each column that the heading lacks or has twice.
-pub fn tell_heading(sheet: Sheet, maps: &[&str], hint: &HintText) {
-    hint.turn_to_line(sheet.titles.number as usize);
+pub fn tell_heading(file: FileRows, maps: &[&str], hint: &HintText) {
+    hint.turn_to_line(file.titles.number as usize);
     let mut are_met = true;
     for text in maps {
-        if !is_met(sheet.titles, *text) {
+        if !is_met(file.titles, *text) {
             are_met = false;
-            tell_map(sheet.titles, *text, hint);
+            tell_map(file.titles, *text, hint);
         }
     }
     if are_met {
-        tell_columns(sheet, hint);
+        tell_columns(file, hint);
     }
 }
 
@@ -48,35 +48,35 @@ fn tell_map(titles: &CsvLine, text: &str, hint: &HintText) {
 }
 
 /// Names each column that the heading lacks or has twice.
-fn tell_columns(sheet: Sheet, hint: &HintText) {
+fn tell_columns(file: FileRows, hint: &HintText) {
     let mut unlike: usize = 0;
     for column in IMPORT_COLUMNS.as_slice() {
-        let times = times_in(&sheet.heading.line, *column);
+        let times = times_in(&file.heading.line, *column);
         if times > 1 {
             tell_twice(column.name(), times, hint);
-        } else if times == 0 && column.is_needed() && !tell_missing(sheet, column.name(), hint) {
+        } else if times == 0 && column.is_needed() && !tell_missing(file, column.name(), hint) {
             unlike = unlike.saturating_add(1);
         }
     }
     if unlike > 0 {
-        tell_unlike(sheet, unlike, hint);
+        tell_unlike(file, unlike, hint);
     }
 }
 
 /// Names the columns that the heading lacks and that no field is like, and the fields of the heading.
-fn tell_unlike(sheet: Sheet, count: usize, hint: &HintText) {
+fn tell_unlike(file: FileRows, count: usize, hint: &HintText) {
     hint.begin(if count == 1 {
         ": this column is missing:"
     } else {
         ": these columns are missing:"
     });
     for column in IMPORT_COLUMNS.as_slice() {
-        let is_missing = times_in(&sheet.heading.line, *column) == 0 && column.is_needed();
-        if is_missing && nearest_field(hint.alloc, sheet.titles, column.name()).is_none() {
+        let is_missing = times_in(&file.heading.line, *column) == 0 && column.is_needed();
+        if is_missing && nearest_field(hint.alloc, file.titles, column.name()).is_none() {
             hint.say_text(" ", column.name());
         }
     }
-    say_fields(sheet.titles, hint);
+    say_fields(file.titles, hint);
     hint.end("");
 }
 
@@ -89,8 +89,8 @@ fn tell_twice(name: &str, times: usize, hint: &HintText) {
 }
 
 /// Says that the heading lacks a column, and which field is like it. The answer is whether one is.
-fn tell_missing(sheet: Sheet, name: &str, hint: &HintText) -> bool {
-    let Some(near) = nearest_field(hint.alloc, sheet.titles, name) else {
+fn tell_missing(file: FileRows, name: &str, hint: &HintText) -> bool {
+    let Some(near) = nearest_field(hint.alloc, file.titles, name) else {
         return false;
     };
     hint.begin(": the column ");

@@ -1,12 +1,12 @@
 //! Hints about rows of comma-separated values that `import` refuses.
 
+use crate::file_rows::{
+    FileRows, begin_column, begin_row, is_of_names, is_of_output, tell_field, tell_no_group,
+};
 use crate::files::{REFUSED_OUTPUT, other_file};
 use crate::headings::tell_heading;
 use crate::hint::HintText;
 use crate::imported::tell_imported;
-use crate::sheets::{
-    Sheet, begin_column, begin_row, is_of_names, is_of_output, tell_field, tell_no_group,
-};
 use a429_console::refusals::evidence::RowsEvidence;
 use a429_console::refusals::{CommandRefusal, CsvKind};
 use a429_filter::Filter;
@@ -68,19 +68,19 @@ fn tell_lines(
         return hint.give_up();
     };
     let heading = Heading::of(named);
-    let sheet = Sheet {
+    let file = FileRows {
         heading: &heading,
         titles,
         rows,
         makes_names,
     };
     match refusal {
-        CommandRefusal::Table(kind, place) => tell_imported(sheet, *kind, *place, hint),
+        CommandRefusal::Table(kind, place) => tell_imported(file, *kind, *place, hint),
         CommandRefusal::Csv {
             kind: CsvKind::Column,
             ..
-        } => tell_heading(sheet, maps, hint),
-        CommandRefusal::Csv { line, kind } => tell_faulty_rows(sheet, *line, *kind, evidence, hint),
+        } => tell_heading(file, maps, hint),
+        CommandRefusal::Csv { line, kind } => tell_faulty_rows(file, *line, *kind, evidence, hint),
         _ => {}
     }
 }
@@ -129,13 +129,13 @@ fn column_of(evidence: &RowsEvidence) -> Option<ImportColumn> {
 
 /// Says what is wrong with the first faulty row, and with the next ones that are faulty by themselves.
 fn tell_faulty_rows(
-    sheet: Sheet,
+    file: FileRows,
     line: u64,
     kind: CsvKind,
     evidence: &RowsEvidence,
     hint: &HintText,
 ) {
-    let Some(row) = sheet.row_on(line) else {
+    let Some(row) = file.row_on(line) else {
         return;
     };
     match (column_of(evidence), kind) {
@@ -143,24 +143,24 @@ fn tell_faulty_rows(
             begin_row(row, ": ", hint);
             return hint.end("the row has a quote that is not closed");
         }
-        (None, _) => tell_count(sheet, row, hint),
-        (Some(column), CsvKind::Differs) => tell_differs(sheet, row, column, hint),
-        (Some(column), _) => tell_form(sheet, row, column, hint),
+        (None, _) => tell_count(file, row, hint),
+        (Some(column), CsvKind::Differs) => tell_differs(file, row, column, hint),
+        (Some(column), _) => tell_form(file, row, column, hint),
     }
-    tell_later_rows(sheet, line, hint);
+    tell_later_rows(file, line, hint);
 }
 
 /// Says what is wrong with rows after a line that are faulty by themselves.
-fn tell_later_rows(sheet: Sheet, line: u64, hint: &HintText) {
+fn tell_later_rows(file: FileRows, line: u64, hint: &HintText) {
     let mut faulty: usize = 1;
-    for row in sheet.rows {
+    for row in file.rows {
         if row.number <= line {
             continue;
         }
-        if let Some(fault) = form_fault(sheet.heading, row) {
+        if let Some(fault) = form_fault(file.heading, row) {
             faulty = faulty.saturating_add(1);
             if faulty <= FAULTY_ROWS {
-                tell_fault(sheet, row, fault, hint);
+                tell_fault(file, row, fault, hint);
             }
         }
     }
@@ -171,18 +171,18 @@ fn tell_later_rows(sheet: Sheet, line: u64, hint: &HintText) {
 }
 
 /// Says what is wrong with a row by itself: the column that does not have its form, or the number of its fields.
-fn tell_fault(sheet: Sheet, row: &CsvLine, column: Option<ImportColumn>, hint: &HintText) {
+fn tell_fault(file: FileRows, row: &CsvLine, column: Option<ImportColumn>, hint: &HintText) {
     match column {
-        Some(column) => tell_form(sheet, row, column, hint),
-        None => tell_count(sheet, row, hint),
+        Some(column) => tell_form(file, row, column, hint),
+        None => tell_count(file, row, hint),
     }
 }
 
 /// Says how many fields a row has, and how many the heading has.
-fn tell_count(sheet: Sheet, row: &CsvLine, hint: &HintText) {
+fn tell_count(file: FileRows, row: &CsvLine, hint: &HintText) {
     begin_row(row, ": the row has ", hint);
     hint.say_count("", row.len());
-    hint.say_count(" fields, but the heading has ", sheet.titles.len());
+    hint.say_count(" fields, but the heading has ", file.titles.len());
     hint.end("");
 }
 
@@ -200,20 +200,20 @@ fn has_open_quote(bytes: &[u8], line: u64) -> bool {
 }
 
 /// Says what is wrong with a field that does not have the form of its column.
-fn tell_form(sheet: Sheet, row: &CsvLine, column: ImportColumn, hint: &HintText) {
-    let Ok(text) = str::from_utf8(sheet.field(row, column)) else {
-        begin_column(sheet, row, column, hint);
+fn tell_form(file: FileRows, row: &CsvLine, column: ImportColumn, hint: &HintText) {
+    let Ok(text) = str::from_utf8(file.field(row, column)) else {
+        begin_column(file, row, column, hint);
         return hint.end("the field is not UTF-8: save the file as UTF-8");
     };
-    if is_of_output(column) && sheet.field(row, ImportColumn::Group).is_empty() {
-        return tell_no_group(sheet, row, column, text, hint);
+    if is_of_output(column) && file.field(row, ImportColumn::Group).is_empty() {
+        return tell_no_group(file, row, column, text, hint);
     }
     if column != ImportColumn::Filters {
-        return tell_field(sheet, row, column, text, hint);
+        return tell_field(file, row, column, text, hint);
     }
     for part in text.split(' ') {
         if !part.is_empty() && Filter::parse(part).is_err() {
-            return tell_field(sheet, row, column, part, hint);
+            return tell_field(file, row, column, part, hint);
         }
     }
 }
@@ -228,27 +228,27 @@ fn owner_of(column: ImportColumn) -> ImportColumn {
 }
 
 /// Says why a row differs from an earlier one: their texts become one name, or it contradicts that row.
-fn tell_differs(sheet: Sheet, row: &CsvLine, column: ImportColumn, hint: &HintText) {
-    if !(sheet.makes_names && is_of_names(column) && tell_twin_text(sheet, row, column, hint)) {
-        tell_difference(sheet, row, column, hint);
+fn tell_differs(file: FileRows, row: &CsvLine, column: ImportColumn, hint: &HintText) {
+    if !(file.makes_names && is_of_names(column) && tell_twin_text(file, row, column, hint)) {
+        tell_difference(file, row, column, hint);
     }
 }
 
 /// Says which earlier text of a column becomes the same name as that of a row. The answer is whether there is one.
-fn tell_twin_text(sheet: Sheet, row: &CsvLine, column: ImportColumn, hint: &HintText) -> bool {
-    let text = sheet.text(row, column);
+fn tell_twin_text(file: FileRows, row: &CsvLine, column: ImportColumn, hint: &HintText) -> bool {
+    let text = file.text(row, column);
     let Ok(name) = made_name(hint.alloc, text) else {
         hint.give_up();
         return true;
     };
-    let Some(earlier) = first_of_name(sheet, column, name.as_slice(), hint) else {
+    let Some(earlier) = first_of_name(file, column, name.as_slice(), hint) else {
         return false;
     };
-    let other = sheet.text(earlier, column);
+    let other = file.text(earlier, column);
     if other == text {
         return false;
     }
-    begin_column(sheet, row, column, hint);
+    begin_column(file, row, column, hint);
     hint.say_quoted("", text);
     hint.say_text(" becomes ", str::from_utf8(name.as_slice()).unwrap_or(""));
     hint.say_quoted(", and so does ", other);
@@ -259,13 +259,13 @@ fn tell_twin_text(sheet: Sheet, row: &CsvLine, column: ImportColumn, hint: &Hint
 
 /// The first row whose text in a column becomes this name.
 fn first_of_name<'a>(
-    sheet: Sheet<'a>,
+    file: FileRows<'a>,
     column: ImportColumn,
     name: &[u8],
     hint: &HintText,
 ) -> Option<&'a CsvLine> {
-    for row in sheet.rows {
-        match made_name(hint.alloc, sheet.text(row, column)) {
+    for row in file.rows {
+        match made_name(hint.alloc, file.text(row, column)) {
             Ok(made) if made.as_slice() == name => return Some(row),
             Ok(_) => {}
             Err(_) => hint.give_up(),
@@ -275,16 +275,16 @@ fn first_of_name<'a>(
 }
 
 /// Says in what a row contradicts an earlier one.
-fn tell_difference(sheet: Sheet, row: &CsvLine, column: ImportColumn, hint: &HintText) {
+fn tell_difference(file: FileRows, row: &CsvLine, column: ImportColumn, hint: &HintText) {
     let owner = owner_of(column);
-    let name = sheet.field(row, owner);
-    for earlier in sheet.rows {
-        if sheet.field(earlier, owner) == name {
-            begin_column(sheet, row, column, hint);
+    let name = file.field(row, owner);
+    for earlier in file.rows {
+        if file.field(earlier, owner) == name {
+            begin_column(file, row, column, hint);
             hint.say(owner.name());
-            hint.say_quoted(" ", sheet.text(row, owner));
-            hint.say_quoted(" has ", sheet.text(row, column));
-            hint.say_quoted(" on this line, but ", sheet.text(earlier, column));
+            hint.say_quoted(" ", file.text(row, owner));
+            hint.say_quoted(" has ", file.text(row, column));
+            hint.say_quoted(" on this line, but ", file.text(earlier, column));
             hint.say_number(" on line ", earlier.number);
             return hint.end("");
         }

@@ -9,7 +9,7 @@ const NAME_LEN: usize = 16;
 
 /// The rows of a file below their heading.
 #[derive(Clone, Copy)]
-pub struct Sheet<'a> {
+pub struct FileRows<'a> {
     /// The heading by the names of its columns.
     pub heading: &'a Heading,
     /// The heading as it is written.
@@ -19,7 +19,7 @@ pub struct Sheet<'a> {
     pub makes_names: bool,
 }
 
-impl<'a> Sheet<'a> {
+impl<'a> FileRows<'a> {
     /// The field of a row in a column; an empty one if the heading has no such column.
     pub fn field(self, row: &'a CsvLine, column: ImportColumn) -> &'a [u8] {
         self.heading.field_of(row, column)
@@ -185,15 +185,15 @@ pub fn begin_row(row: &CsvLine, words: &str, hint: &HintText) {
 }
 
 /// Begins a line about a column of a row.
-pub fn begin_column(sheet: Sheet, row: &CsvLine, column: ImportColumn, hint: &HintText) {
+pub fn begin_column(file: FileRows, row: &CsvLine, column: ImportColumn, hint: &HintText) {
     begin_row(row, ", column ", hint);
-    hint.say_short("", sheet.title(column));
+    hint.say_short("", file.title(column));
     hint.say(": ");
 }
 
 /// Says that a field is empty, and what must be in it.
-fn tell_empty(sheet: Sheet, column: ImportColumn, hint: &HintText) {
-    hint.say_text("the field is empty; it must be ", sheet.form_of(column));
+fn tell_empty(file: FileRows, column: ImportColumn, hint: &HintText) {
+    hint.say_text("the field is empty; it must be ", file.form_of(column));
     if is_of_output(column) {
         hint.say("; if no group sends the source, leave the group empty too");
     }
@@ -201,20 +201,26 @@ fn tell_empty(sheet: Sheet, column: ImportColumn, hint: &HintText) {
 }
 
 /// Says what is in a column, and what must be there.
-pub fn tell_field(sheet: Sheet, row: &CsvLine, column: ImportColumn, text: &str, hint: &HintText) {
-    let form = sheet.form_of(column);
-    begin_column(sheet, row, column, hint);
+pub fn tell_field(
+    file: FileRows,
+    row: &CsvLine,
+    column: ImportColumn,
+    text: &str,
+    hint: &HintText,
+) {
+    let form = file.form_of(column);
+    begin_column(file, row, column, hint);
     if text.is_empty() {
-        return tell_empty(sheet, column, hint);
+        return tell_empty(file, column, hint);
     }
     hint.say_quoted("", text);
-    if sheet.is_in_millis(column) && may_be_thousands(row.separator, text.as_bytes()) {
+    if file.is_in_millis(column) && may_be_thousands(row.separator, text.as_bytes()) {
         return hint.end(
             " may be a thousand times as much; write it without a point, or with fewer or more decimals",
         );
     }
     if is_of_output(column)
-        && !sheet.is_in_millis(column)
+        && !file.is_in_millis(column)
         && text.len() > 1
         && text.starts_with('0')
     {
@@ -229,7 +235,7 @@ pub fn tell_field(sheet: Sheet, row: &CsvLine, column: ImportColumn, text: &str,
         _ => {
             hint.say_text(" is not ", thing_in(column));
             hint.say_text("; it must be ", form);
-            say_remedy(sheet, column, text, hint);
+            say_remedy(file, column, text, hint);
             hint.end("");
         }
     }
@@ -237,13 +243,13 @@ pub fn tell_field(sheet: Sheet, row: &CsvLine, column: ImportColumn, text: &str,
 
 /// Says what is in a column of an output, although the row has no group.
 pub fn tell_no_group(
-    sheet: Sheet,
+    file: FileRows,
     row: &CsvLine,
     column: ImportColumn,
     text: &str,
     hint: &HintText,
 ) {
-    begin_column(sheet, row, column, hint);
+    begin_column(file, row, column, hint);
     hint.say_quoted("", text);
     hint.end(
         " in a row without a group; give the group a name, or leave the bit rate, the intervals and the hold empty",
@@ -259,16 +265,16 @@ fn in_millis(column: ImportColumn) -> &'static str {
 }
 
 /// Says what to write instead of a text, if it is known.
-fn say_remedy(sheet: Sheet, column: ImportColumn, text: &str, hint: &HintText) {
+fn say_remedy(file: FileRows, column: ImportColumn, text: &str, hint: &HintText) {
     match column {
-        ImportColumn::MinUs | ImportColumn::MaxUs if !sheet.is_in_millis(column) => {
+        ImportColumn::MinUs | ImportColumn::MaxUs if !file.is_in_millis(column) => {
             if let Some(us) = millis(text) {
                 hint.say_number("; if it is in ms, write ", us);
                 hint.say_text(", or name the column ", in_millis(column));
             }
         }
         ImportColumn::Group | ImportColumn::Source | ImportColumn::Receiver => match proposed_name(
-            sheet, column, text, hint.alloc,
+            file, column, text, hint.alloc,
         ) {
             Ok(Some(proposed)) => {
                 hint.say_text("; for example ", proposed.name.as_str());
@@ -315,7 +321,7 @@ struct ProposedName {
 /// The name for a text of a column: as `--names` makes it, and other than those for earlier texts of the column. `None` if
 /// nothing of the text is left.
 fn proposed_name(
-    sheet: Sheet,
+    file: FileRows,
     column: ImportColumn,
     text: &str,
     alloc: Global,
@@ -325,7 +331,7 @@ fn proposed_name(
         return Ok(None);
     }
     let name = str::from_utf8(made.as_slice()).unwrap_or("");
-    let number = texts_before(sheet, column, text, name, alloc)?.saturating_add(1);
+    let number = texts_before(file, column, text, name, alloc)?.saturating_add(1);
     Ok(Some(ProposedName {
         name: if number == 1 {
             String::from_str(alloc, name)?
@@ -338,15 +344,15 @@ fn proposed_name(
 
 /// How many other texts of a column become a name, of those before the first row with this text.
 fn texts_before(
-    sheet: Sheet,
+    file: FileRows,
     column: ImportColumn,
     text: &str,
     name: &str,
     alloc: Global,
 ) -> Result<usize, AllocError> {
     let mut texts: Vec<&str> = Vec::new(alloc);
-    for row in sheet.rows {
-        let earlier = sheet.text(row, column);
+    for row in file.rows {
+        let earlier = file.text(row, column);
         if earlier == text {
             break;
         }
