@@ -12,7 +12,7 @@ use clap::ArgMatches;
 const LAST_ORIGIN: u64 = 999_999_999_999_999_999;
 
 /// From when on the times in a log are counted.
-#[derive(Clone, Copy, Debug, PartialEq, Eq)]
+#[derive(Clone, Copy, PartialEq, Eq)]
 pub enum LogOrigin {
     /// From this time in microseconds, 0 to 10^18 - 1.
     Time(u64),

@@ -3,3 +3,4 @@ pub mod KeptTables
 pub mod Moving
 pub mod Numbers
 pub mod OnePointer
+pub mod Told

@@ -8,10 +8,10 @@ ghost use Rattle.a429_cert.specs.Judged.{IsNoVerdict, IsGroupUnfit};
 use crate::judging::NoVerdict;
 use a429_equipment::{Equipment, Name, OutputRow};
 use a429_grid::grid_period;
-use std::alloc::{AllocError, Global};
+use std::alloc::Global;
 
 /// An output: the name of its source, its grid period in slots, and its hold.
-#[derive(Drop)]
+#[derive(Clone, Copy)]
 pub struct DueOutput {
     pub source: Name,
     pub period: u64,
@@ -46,26 +46,16 @@ fn to_u64(number: Option<u32>) -> Option<u64>
 }
 
 /// What is due of a row, at the bit rate of its group in bit/s; `None` if its interval allows no grid period.
-fn due_output(
-    alloc: Global,
-    equipment: &Equipment,
-    rate: u32,
-    row: &OutputRow,
-) -> Result<Option<DueOutput>, AllocError>
+fn due_output(equipment: &Equipment, rate: u32, row: &OutputRow) -> Option<DueOutput>
     requires { row.now.source < length equipment.now.sources }
-    ensures { IfOk result (IsDueOfRow equipment.now rate row.now) }
+    ensures { IsDueOfRow equipment.now rate row.now result }
 {
-    let Some(period) = grid_period(row.min_us, row.max_us, rate) else {
-        return Ok(None);
-    };
-    let source = equipment.sources()[row.source].name.copied(alloc)?;
-    let period = u64::from(period.slots());
-    let hold = to_u64(row.hold);
-    Ok(Some(DueOutput {
-        source,
-        period,
-        hold,
-    }))
+    let period = grid_period(row.min_us, row.max_us, rate)?;
+    Some(DueOutput {
+        source: equipment.sources()[row.source].name,
+        period: u64::from(period.slots()),
+        hold: to_u64(row.hold),
+    })
 }
 
 /// The outputs of a group, at this bit rate in bit/s. Error: the first output whose interval allows no grid period, or
@@ -83,7 +73,7 @@ fn due_outputs(
     let mut outputs = Vec::new(alloc);
     let rows = equipment.outputs(group);
     for (output, row) in rows.iter().enumerate() {
-        match due_output(alloc, equipment, rate, row)? {
+        match due_output(equipment, rate, row) {
             Some(due) => outputs.push(due)?,
             None => return Err(NoVerdict::Unfit { group, output }),
         }
@@ -102,13 +92,11 @@ pub fn due_of(alloc: Global, equipment: &Equipment) -> Result<DueTable, NoVerdic
     let mut groups = Vec::new(alloc);
     let rows = equipment.groups();
     for (group, row) in rows.iter().enumerate() {
-        let name = row.name.copied(alloc)?;
         let rate = equipment.group_rate(group);
         let outputs = due_outputs(alloc, equipment, rate, group)?;
-        let rate = u64::from(rate);
         groups.push(DueGroup {
-            name,
-            rate,
+            name: row.name,
+            rate: u64::from(rate),
             outputs,
         })?;
     }

@@ -6,7 +6,7 @@ ghost use Rattle.a429_cert.specs.Printed.{reason_text, no_text, verdict_text};
 use std::fmt;
 
 /// Why a line is refused, in the order in which reasons are tested (profile: plan text).
-#[derive(Clone, Copy, Debug, PartialEq, Eq)]
+#[derive(Clone, Copy, PartialEq, Eq)]
 pub enum Reason {
     /// The line is not of the form due here, lacks its line feed, is absent, or follows the last line due.
     Form,
@@ -35,7 +35,7 @@ pub enum Reason {
 }
 
 /// The first line that is refused, counted from 1, with the first reason against it.
-#[derive(Clone, Copy, Debug, PartialEq, Eq)]
+#[derive(Clone, Copy, PartialEq, Eq)]
 pub struct No {
     /// The first reason that fits the line.
     pub reason: Reason,
@@ -44,7 +44,7 @@ pub struct No {
 }
 
 /// The answer to a plan text.
-#[derive(Clone, Copy, Debug, PartialEq, Eq)]
+#[derive(Clone, Copy, PartialEq, Eq)]
 pub enum Verdict {
     /// No line is refused: the text states a plan of the table's groups on the fewest buses.
     Fewest,

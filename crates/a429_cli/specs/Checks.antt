@@ -19,7 +19,7 @@ use Rattle.a429_console.specs.declared.refusals.CommandRefusal.TheVariants as re
 abbrev pub IsUnjudged : List ℕ → CommandRefusal → Type 0
 IsUnjudged table (refused.Table kind place) = reading table ≡ Err (kind, place)
 IsUnjudged table (refused.Unfit group source) =
-    (t : TableRecord) × (g : ℕ) × (o : ℕ) × (reading table ≡ Ok t) × IsFirstUnfitOf t g o × (string_bytes group ≡ group_name t g) × (string_bytes source ≡ output_name t g o)
+    (t : TableRecord) × (g : ℕ) × (o : ℕ) × (reading table ≡ Ok t) × IsFirstUnfitOf t g o × (group ≡ group_name t g) × (source ≡ output_name t g o)
 IsUnjudged table _ = ⊥
 
 -- the verdict on the text in a file by the table in another

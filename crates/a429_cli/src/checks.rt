@@ -75,10 +75,10 @@ impl JudgedText {
 }
 
 /// The refusal of an unfit output, by the names of its group and its source, with the equipment.
-fn refuse_unfit(alloc: Global, equipment: Equipment, group: usize, output: usize) -> Refused
-    ensures { OrMemory (IsUnfitNamed equipment group output) result }
+fn refuse_unfit(equipment: Equipment, group: usize, output: usize) -> Refused
+    ensures { IsUnfitNamed equipment group output result }
 {
-    let refusal = unfit(alloc, &equipment, group, output);
+    let refusal = unfit(&equipment, group, output);
     Refused::of_table(refusal, TableEvidence::of_equipment(equipment))
 }
 
@@ -94,9 +94,7 @@ fn verdict_on(alloc: Global, table: &[u8], text: Vec<u8>) -> Result<JudgedText, 
             equipment,
             text,
         }),
-        Err(NoVerdict::Unfit { group, output }) => {
-            Err(refuse_unfit(alloc, equipment, group, output))
-        }
+        Err(NoVerdict::Unfit { group, output }) => { Err(refuse_unfit(equipment, group, output)) }
         Err(NoVerdict::NoMemory) => Err(Refused::plain(CommandRefusal::Memory)),
     }
 }

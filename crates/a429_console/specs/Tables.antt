@@ -33,14 +33,14 @@ IsTableFault table _ = ⊥
 
 -- an unfit output of a group, by the names of the group and of its source
 abbrev pub IsUnfitNamed : TableRecord → ℕ → ℕ → CommandRefusal → Type 0
-IsUnfitNamed t g o (refused.Unfit group source) = (string_bytes group ≡ group_name t g) × (string_bytes source ≡ output_name t g o)
+IsUnfitNamed t g o (refused.Unfit group source) = (group ≡ group_name t g) × (source ≡ output_name t g o)
 IsUnfitNamed t g o _ = ⊥
 
 -- the first fault of a station's plan
 abbrev pub IsPlanRefusal : TableRecord → CommandRefusal → Type 0
 IsPlanRefusal t (refused.Unfit group source) =
-    (g : ℕ) × (o : ℕ) × IsFaultOf t (plan.Unfit g o) × (string_bytes group ≡ group_name t g) × (string_bytes source ≡ output_name t g o)
-IsPlanRefusal t (refused.TooManyBuses group needed) = (g : ℕ) × IsFaultOf t (plan.TooManyBuses g needed) × (string_bytes group ≡ group_name t g)
+    (g : ℕ) × (o : ℕ) × IsFaultOf t (plan.Unfit g o) × (group ≡ group_name t g) × (source ≡ output_name t g o)
+IsPlanRefusal t (refused.TooManyBuses group needed) = (g : ℕ) × IsFaultOf t (plan.TooManyBuses g needed) × (group ≡ group_name t g)
 IsPlanRefusal t _ = ⊥
 
 -- the first fault of a table, otherwise of its station's plan

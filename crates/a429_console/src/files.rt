@@ -28,7 +28,7 @@ pub enum FileFault {
 }
 
 /// Why a file cannot be read, for a person.
-#[derive(Clone, Copy, Debug, PartialEq, Eq)]
+#[derive(Clone, Copy, PartialEq, Eq)]
 pub enum FileTrouble {
     /// There is none of this name.
     Missing,

@@ -20,15 +20,15 @@ pub fn propose(alloc: Global, table: &[u8]) -> Result<Proposal<OUTPUTS>, Refused
     let equipment = read_table(alloc, table)?;
     match Proposal::of(alloc, equipment) {
         Ok(proposal) => Ok(proposal),
-        Err(none) => Err(refuse_plan(alloc, none)),
+        Err(none) => Err(refuse_plan(none)),
     }
 }
 
 /// The refusal of an equipment that has no plan, with that equipment.
-fn refuse_plan(alloc: Global, none: NoProposal) -> Refused
+fn refuse_plan(none: NoProposal) -> Refused
     ensures { IsFaultOf none.equipment none.fault → OrMemory (IsPlanRefusal none.equipment) result }
 {
-    let refusal = plan_refusal(alloc, &none);
+    let refusal = plan_refusal(&none);
     Refused::of_table(refusal, TableEvidence::of_equipment(none.equipment))
 }
 

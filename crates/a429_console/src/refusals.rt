@@ -11,16 +11,16 @@ use crate::answered::Answered;
 use crate::output::endings::{REFUSED_MEMORY, put_answer, refuse_memory_as};
 use crate::output::{Output, OutputFault};
 use crate::refusals::evidence::{Evidence, TableEvidence};
+use a429_equipment::Name;
 use a429_slots::{OUTPUTS, Proposal};
 use a429_table::{FaultKind, TablePlace};
 use std::alloc::{AllocError, AllocFailed, Global};
-use std::error::Error;
 use std::fmt;
 use std::io::Write;
 use std::marker::Model;
 
 /// What is wrong with a row of comma-separated values.
-#[derive(Clone, Copy, Debug, PartialEq, Eq)]
+#[derive(Clone, Copy, PartialEq, Eq)]
 pub enum CsvKind {
     /// It has more or fewer fields than the heading, or a field is not of its column's form.
     Form,
@@ -50,7 +50,7 @@ impl fmt::Display for CsvKind {
 }
 
 /// Why a command ends before or instead of its answer. Its text is the line that the program prints.
-#[derive(Debug, Drop)]
+#[derive(Drop)]
 pub enum CommandRefusal {
     /// The file of this name cannot be read, or has more than 16 MiB.
     File(String),
@@ -69,9 +69,9 @@ pub enum CommandRefusal {
     /// The table has this fault at this place.
     Table(FaultKind, TablePlace),
     /// No period of the grid fits the interval of the group's output of this source.
-    Unfit { group: String, source: String },
+    Unfit { group: Name, source: Name },
     /// The group needs this number of buses, which is more than 16.
-    TooManyBuses { group: String, needed: usize },
+    TooManyBuses { group: Name, needed: usize },
     /// The table has no group of this name, which was asked for.
     Group(String),
     /// The line of this number, from 1, is the first faulty one of the script or of the file of words. It is not an
@@ -119,10 +119,10 @@ impl fmt::Display for CommandRefusal {
             CommandRefusal::Filter(number) => write!(f, "refused filter {number}"),
             CommandRefusal::Table(kind, place) => write!(f, "refused table {kind} {place}"),
             CommandRefusal::Unfit { group, source } => {
-                write!(f, "refused unfit {group} {source}")
+                write!(f, "refused unfit {} {}", group.as_str(), source.as_str())
             }
             CommandRefusal::TooManyBuses { group, needed } => {
-                write!(f, "refused too-many-buses {group} {needed}")
+                write!(f, "refused too-many-buses {} {needed}", group.as_str())
             }
             CommandRefusal::Group(name) => write!(f, "refused group {name}"),
             CommandRefusal::Script(line) => write!(f, "refused script line {line}"),
@@ -139,8 +139,6 @@ impl fmt::Display for CommandRefusal {
         }
     }
 }
-
-impl Error for CommandRefusal {}
 
 impl From<AllocError> for CommandRefusal {
     ghost use Rattle.std.specs.Prelude.{◌≡◌};

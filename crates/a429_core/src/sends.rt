@@ -9,7 +9,7 @@ use std::alloc::{AllocError, Global};
 
 /// A word that a group sent: the bus and the slot of its cell, the source of the cell's output, and the word. The slot
 /// is counted from the station's first.
-#[derive(Clone, Copy, Debug, PartialEq, Eq)]
+#[derive(Clone, Copy, PartialEq, Eq)]
 pub struct SentCell {
     pub bus: u32,
     pub slot: u64,

@@ -5,7 +5,7 @@ ghost use Rattle.a429_core.specs.MachineSteps.{count_at, kept_at};
 use a429_word::Word;
 
 /// How many words a source accepted, and the last of them.
-#[derive(Clone, Copy, Debug, PartialEq, Eq)]
+#[derive(Clone, Copy, PartialEq, Eq)]
 pub struct Kept {
     pub count: u64,
     pub last: Option<Word>,

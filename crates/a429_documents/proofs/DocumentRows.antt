@@ -21,10 +21,6 @@ use Rattle.a429_slots.proofs.Cells.{output_is}
 
 -- ---- an output
 
-pub receiver_is : (receivers : List ReceiverRow) (number : ℕ) (receiver : ReceiverRow) → number < length receivers → receiver ≡ get_or receivers number receiver → receiver.name ≡ receiver_name receivers number
-receiver_is receivers number receiver below is =
-    sym (ap (λ (r : Option ReceiverRow). option_map_or (λ (r : ReceiverRow). r.name) r []) (read_is receivers number receiver below is))
-
 pub output_row_is : (keeps_zeros : Bool) (e : TableRecord) (g : GroupRow) (row : OutputRow) (t : SlotTable) (o : ℕ) (place : SlotPlace) (limits : SendLimits) (source : SourceRow) → o < length (outputs_of t) → place_of t o ≡ Some place
     → limits_of t o ≡ Some limits → slice_get e.sources row.source ≡ Some source → icd_row keeps_zeros e.receivers g source row place limits ≡ output_row keeps_zeros e g row (placed_at t o)
 unfolding output_row

@@ -87,13 +87,14 @@ pub fn latency_us(rate: u32, period: Period) -> u64
     slots_us(rate, period.slots() + 1)
 }
 
-/// The name of a receiver.
-#[tactic(auto, using(crate::proofs::DocumentRows::receiver_is))]
+/// The name of a receiver; empty if there is no such receiver.
 pub(crate) fn receiver_name(receivers: &[ReceiverRow], number: usize) -> &str
-    requires { number < length receivers.now }
     ensures { result.now ≡ receiver_name receivers.now number }
 {
-    receivers[number].name.as_str()
+    match receivers.get(number) {
+        None => "",
+        Some(receiver) => receiver.name.as_str(),
+    }
 }
 
 /// Adds the row of an output of a group, which sends this source.
@@ -107,8 +108,7 @@ fn add_row<'a>(
     place: SlotPlace,
     limits: SendLimits,
 )
-    requires receiver { source.now.receiver < length receivers.now }
-    requires rate { 1 ≤ group.now.rate }
+    requires { 1 ≤ group.now.rate }
     ensures { rows.new ≡ rows.old ++ icd_row keeps_zeros receivers.now group.now source.now output.now place limits ∷ [] }
 {
     let slots = place.period.slots();

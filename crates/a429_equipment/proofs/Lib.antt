@@ -1,3 +1,4 @@
+mod InNames
 pub mod IndexPlaces
 pub mod Ranges
 pub mod Cutting

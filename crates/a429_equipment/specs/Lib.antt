@@ -5,6 +5,7 @@ pub mod Arrivals
 pub mod SameStation
 pub mod NameForm
 pub mod Sound
+pub mod InName
 pub mod Index
 pub mod Inside
 pub mod Agreement

@@ -2,42 +2,17 @@
 ghost use Rattle.std.specs.Prelude.{◌≡◌, map, IfOk};
 ghost use Rattle.a429_equipment.specs.TableRecord.{record_of};
 
-use crate::rows::{GroupRow, OutputRow, ReceiverRow, SourceRow, StationRows};
+use crate::rows::{OutputRow, ReceiverRow, StationRows};
 use std::alloc::{AllocError, Global};
 
 impl ReceiverRow {
-    fn copied(&self, alloc: Global) -> Result<ReceiverRow, AllocError>
-        ensures { IfOk result (λ r. r ≡ self.now) }
+    fn copied(&self) -> ReceiverRow
+        ensures { result ≡ self.now }
     {
-        let name = self.name.copied(alloc)?;
-        let filters = self.filters.copied();
-        Ok(ReceiverRow { name, filters })
-    }
-}
-
-impl SourceRow {
-    fn copied(&self, alloc: Global) -> Result<SourceRow, AllocError>
-        ensures { IfOk result (λ s. s ≡ self.now) }
-    {
-        let name = self.name.copied(alloc)?;
-        Ok(SourceRow {
-            name,
-            receiver: self.receiver,
-            label: self.label,
-            sdi: self.sdi,
-        })
-    }
-}
-
-impl GroupRow {
-    fn copied(&self, alloc: Global) -> Result<GroupRow, AllocError>
-        ensures { IfOk result (λ g. g ≡ self.now) }
-    {
-        let name = self.name.copied(alloc)?;
-        Ok(GroupRow {
-            name,
-            rate: self.rate,
-        })
+        ReceiverRow {
+            name: self.name,
+            filters: self.filters.copied(),
+        }
     }
 }
 
@@ -47,8 +22,8 @@ impl StationRows {
         ensures { IfOk result (λ rows. record_of rows ≡ record_of self.now) }
     {
         let receivers = copied_receivers(alloc, &self.receivers)?;
-        let sources = copied_sources(alloc, &self.sources)?;
-        let groups = copied_groups(alloc, &self.groups)?;
+        let sources = Vec::from_slice(alloc, &self.sources)?;
+        let groups = Vec::from_slice(alloc, &self.groups)?;
         let outputs = copied_outputs(alloc, &self.outputs)?;
         Ok(StationRows {
             version: self.version,
@@ -66,27 +41,7 @@ fn copied_receivers(alloc: Global, rows: &[ReceiverRow]) -> Result<Vec<ReceiverR
 {
     let mut copies = Vec::with_capacity(alloc, rows.len())?;
     for row in rows {
-        copies.push(row.copied(alloc)?)?;
-    }
-    Ok(copies)
-}
-
-fn copied_sources(alloc: Global, rows: &[SourceRow]) -> Result<Vec<SourceRow>, AllocError>
-    ensures { IfOk result (λ v. v.items ≡ rows.now) }
-{
-    let mut copies = Vec::with_capacity(alloc, rows.len())?;
-    for row in rows {
-        copies.push(row.copied(alloc)?)?;
-    }
-    Ok(copies)
-}
-
-fn copied_groups(alloc: Global, rows: &[GroupRow]) -> Result<Vec<GroupRow>, AllocError>
-    ensures { IfOk result (λ v. v.items ≡ rows.now) }
-{
-    let mut copies = Vec::with_capacity(alloc, rows.len())?;
-    for row in rows {
-        copies.push(row.copied(alloc)?)?;
+        copies.push(row.copied())?;
     }
     Ok(copies)
 }

@@ -11,7 +11,7 @@ use std::alloc::{AllocError, Global};
 use std::marker::Model;
 
 /// The receivers, sources, groups and outputs of a station, numbered from 0 in table order (profile).
-#[derive(Debug, Drop)]
+#[derive(Drop)]
 pub struct Equipment {
     rows: StationRows,
     index: Index,

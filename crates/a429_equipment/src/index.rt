@@ -6,19 +6,11 @@ ghost use Rattle.a429_equipment.specs.Index.{GainSource, IsIndex, entry_at, plac
 use crate::rows::{ReceiverRow, SourceRow};
 use a429_word::{Label, Sdi};
 use std::alloc::{AllocError, Global};
-use std::fmt;
 
 /// The number of the first source of each receiver, label and SDI. There are at most 256 sources.
 #[derive(Drop)]
 pub struct Index {
     places: Vec<Option<u8>>,
-}
-
-impl fmt::Debug for Index {
-    /// Only its name: it follows from the sources.
-    fn fmt<W: fmt::Write>(&self, f: &mut fmt::Formatter<W>) -> fmt::Result {
-        write!(f, "Index")
-    }
 }
 
 impl Index {

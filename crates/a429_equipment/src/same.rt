@@ -15,7 +15,8 @@ fn same_filter_lists(a: &[Filter], b: &[Filter]) -> bool
             .all(|(a, b)| a.label == b.label && a.mask == b.mask)
 }
 
-fn same_filters(a: &FilterSet, b: &FilterSet) -> bool
+/// Whether two lists of filters are the same, in order, or both are none.
+pub fn same_filters(a: &FilterSet, b: &FilterSet) -> bool
     ensures { result ≡ same_filters a.now b.now }
 {
     match (a.list(), b.list()) {
@@ -38,7 +39,8 @@ pub fn same_receivers(a: &[ReceiverRow], b: &[ReceiverRow]) -> bool
     a.len() == b.len() && a.iter().zip(b).all(|(a, b)| same_receiver(a, b))
 }
 
-fn same_sdi(a: Option<Sdi>, b: Option<Sdi>) -> bool
+/// Whether two SDIs are the same number, or both are any.
+pub fn same_sdi(a: Option<Sdi>, b: Option<Sdi>) -> bool
     ensures { result ≡ same_sdi a b }
 {
     match (a, b) {

@@ -4,7 +4,7 @@ ghost use Rattle.std.specs.Prelude.{◌≡◌};
 ghost use Rattle.a429_equipment.specs.Version.{version_number};
 
 /// A version of equipment tables (profile).
-#[derive(Clone, Copy, Debug, PartialEq, Eq)]
+#[derive(Clone, Copy, PartialEq, Eq)]
 pub enum TableVersion {
     /// One rate for all groups, at the root.
     One,

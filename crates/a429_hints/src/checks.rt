@@ -147,7 +147,12 @@ fn tell_values(judged: JudgedText, due: DueLine, reason: &str, found: &str, hint
             tell_number(found, frame_of(equipment, group.number), reason, hint);
         }
         ("group", DueLine::Group(group)) => {
-            tell_text(found, group_name(equipment, group.number), reason, hint);
+            tell_text(
+                found,
+                group_name(equipment, group.number).as_str(),
+                reason,
+                hint,
+            );
         }
         _ => {
             begin_found(found, reason, hint);
@@ -238,7 +243,7 @@ fn output_of<'a>(equipment: &'a Equipment, group: usize, line: &str) -> Option<&
     }
     let source = value_at(line, "output").unwrap_or("");
     for (number, row) in equipment.outputs(group).iter().enumerate() {
-        if source_name(equipment, group, number) == source {
+        if source_name(equipment, group, number).as_str() == source {
             return Some(row);
         }
     }

@@ -57,8 +57,11 @@ fn tell_unfit_of(equipment: &Equipment, group: usize, before: usize, hint: &Hint
         }
         if count < LINES {
             hint.begin(": group ");
-            hint.say(group_name(equipment, group));
-            hint.say_text(", output of source ", source_name(equipment, group, number));
+            hint.say(group_name(equipment, group).as_str());
+            hint.say_text(
+                ", output of source ",
+                source_name(equipment, group, number).as_str(),
+            );
             tell_unfit_briefly(interval, hint);
         }
         if count == 0 {

@@ -3,7 +3,8 @@ ghost use Rattle.std.specs.Prelude.{◌≡◌, IfOk, OnOk};
 ghost use Rattle.a429_table.specs.Numbers.{NumbersOneMore};
 ghost use Rattle.a429_import.specs.ImportTables.{name_in};
 
-use crate::rows::ImportRow;
+use crate::rows::{ImportRow, RowTexts};
+use a429_table::number_name;
 use indexmap::IndexMap;
 use std::alloc::{AllocError, Global};
 
@@ -89,29 +90,14 @@ impl FirstRows {
     pub fn note(&mut self, alloc: Global, row: &ImportRow, number: usize) -> Result<(), AllocError>
         ensures { OnOk result (NotesRow self.old self.new row.now number) }
     {
-        note_name(
-            &mut self.receivers,
-            alloc,
-            row.texts.receiver.as_str(),
-            number,
-        )?;
-        note_name(&mut self.sources, alloc, row.texts.source.as_str(), number)?;
-        note_name(&mut self.groups, alloc, row.texts.group.as_str(), number)?;
-        Ok(())
+        let RowTexts {
+            receiver,
+            source,
+            group,
+            ..
+        } = &row.texts;
+        number_name(&mut self.receivers, alloc, receiver.as_str(), number)?;
+        number_name(&mut self.sources, alloc, source.as_str(), number)?;
+        number_name(&mut self.groups, alloc, group.as_str(), number)
     }
-}
-
-/// Gives a name a number, unless it has one already.
-fn note_name(
-    numbers: &mut IndexMap<String, usize>,
-    alloc: Global,
-    name: &str,
-    number: usize,
-) -> Result<(), AllocError>
-    ensures { OnOk result (NumbersOneMore numbers.old numbers.new name.now number) }
-{
-    if !numbers.contains_key(name) {
-        numbers.insert(String::from_str(alloc, name)?, number)?;
-    }
-    Ok(())
 }

@@ -10,18 +10,51 @@ use crate::columns::Heading;
 use crate::fault::{CsvFaultKind, ImportColumn};
 use crate::fields::{filters_in, hold_of, interval_of, label_in, rate_of, sdi_in, text_in};
 use crate::lines::CsvLine;
-use a429_equipment::Name;
 use a429_word::{Label, Sdi};
 use std::alloc::{AllocError, Global};
+use std::marker::Model;
+
+/// A text of a row, of any length.
+#[derive(Drop)]
+pub struct RowText {
+    text: String,
+}
+
+impl Model for RowText {
+    ghost use Rattle.std.specs.Prelude.{List, ℕ, string_bytes};
+
+    ghost Value = { List ℕ };
+
+    ghost view = { λ t. string_bytes t.text };
+}
+
+impl RowText {
+    ghost use Rattle.std.specs.Prelude.{◌≡◌, IfOk};
+
+    /// A copy of a text. Error: an allocation failed.
+    fn copy_of(alloc: Global, text: &str) -> Result<RowText, AllocError>
+        ensures { IfOk result (λ t. t ≡ text.now) }
+    {
+        let text = String::from_str(alloc, text)?;
+        Ok(RowText { text })
+    }
+
+    /// The text itself.
+    pub fn as_str(&self) -> &str
+        ensures { result.now ≡ self.now }
+    {
+        self.text.as_str()
+    }
+}
 
 /// The texts of a row. Their form is not checked here. The name of the group is empty if the row has none.
 #[derive(Drop)]
 pub struct RowTexts {
-    pub group: Name,
-    pub source: Name,
-    pub receiver: Name,
+    pub group: RowText,
+    pub source: RowText,
+    pub receiver: RowText,
     /// Filters, separated by spaces.
-    pub filters: Name,
+    pub filters: RowText,
 }
 
 /// The texts, as the fields have them.
@@ -210,10 +243,10 @@ pub fn form_fault(heading: &Heading, line: &CsvLine) -> Option<Option<ImportColu
 fn row_texts(alloc: Global, fields: TextFields<'_>) -> Result<RowTexts, AllocError>
     ensures { IfOk result (λ texts. texts ≡ texts_view fields.entry) }
 {
-    let group = Name::copy_of(alloc, fields.group)?;
-    let source = Name::copy_of(alloc, fields.source)?;
-    let receiver = Name::copy_of(alloc, fields.receiver)?;
-    let filters = Name::copy_of(alloc, fields.filters)?;
+    let group = RowText::copy_of(alloc, fields.group)?;
+    let source = RowText::copy_of(alloc, fields.source)?;
+    let receiver = RowText::copy_of(alloc, fields.receiver)?;
+    let filters = RowText::copy_of(alloc, fields.filters)?;
     Ok(RowTexts {
         group,
         source,

@@ -79,17 +79,15 @@ fn refused(refusal: CommandRefusal) -> Result<SubmitAnswer, AllocError>
 }
 
 /// The answer by the fault of a table whose equipment was read. Error: an allocation fails.
-fn answer_of_fault(
-    alloc: Global,
-    equipment: &Equipment,
-    fault: ReplanFault,
-) -> Result<SubmitAnswer, AllocError>
+fn answer_of_fault(equipment: &Equipment, fault: ReplanFault) -> Result<SubmitAnswer, AllocError>
     ensures { AnswersFault equipment.now fault result }
 {
     match fault {
-        ReplanFault::Unfit { group, output } => refused(unfit(alloc, equipment, group, output)),
+        ReplanFault::Unfit { group, output } => {
+            Ok(SubmitAnswer::Refused(unfit(equipment, group, output)))
+        }
         ReplanFault::TooManyBuses { group, needed } => {
-            refused(too_many_buses(alloc, equipment, group, needed))
+            Ok(SubmitAnswer::Refused(too_many_buses(equipment, group, needed)))
         }
         ReplanFault::StationDiffers => Ok(SubmitAnswer::OtherStation),
         ReplanFault::CountSpent => Ok(SubmitAnswer::NumbersSpent),
@@ -111,7 +109,7 @@ fn answer_read<R: Wait>(
 {
     match station.resubmit_read(table, equipment) {
         Ok(number) => Ok(SubmitAnswer::Published(number)),
-        Err(fault) => answer_of_fault(alloc, equipment, fault),
+        Err(fault) => answer_of_fault(equipment, fault),
     }
 }
 
@@ -159,7 +157,7 @@ fn cause_of(
     table: &TableEvidence,
 ) -> Option<FurtherCause> {
     match (answer, &table.equipment) {
-        (SubmitAnswer::Refused(refusal), _) => FurtherCause::of(alloc, refusal),
+        (SubmitAnswer::Refused(refusal), _) => FurtherCause::of(refusal),
         (SubmitAnswer::OtherStation, Some(other)) => FurtherCause::of_stations(
             alloc, running, other,
         ),

@@ -14,7 +14,7 @@ use a429_word::raw_word;
 use std::alloc::{AllocError, Global};
 
 /// A word that comes in at a receiver. Receivers are numbered from 0 in table order.
-#[derive(Clone, Copy, Debug, PartialEq, Eq)]
+#[derive(Clone, Copy, PartialEq, Eq)]
 pub struct Arrival {
     pub receiver: u8,
     pub raw: u32,

@@ -163,7 +163,7 @@ fn prepare<'a>(
 }
 
 /// Notes a receiver, if the words of the log come to it too closely.
-fn note_close_words(alloc: Global, simulation: &Simulation, warnings: &mut Vec<Warning>)
+fn note_close_words(simulation: &Simulation, warnings: &mut Vec<Warning>)
     ensures { AreSpaced simulation.now.player.timeline.words.items → warnings.new.items ≡ warnings.old.items }
 {
     let Some(receiver) = close_receiver(simulation.player.words()) else {
@@ -171,7 +171,7 @@ fn note_close_words(alloc: Global, simulation: &Simulation, warnings: &mut Vec<W
     };
     let receivers = simulation.setting.proposal.equipment().receivers();
     if let Some(row) = receivers.get(usize::from(receiver)) {
-        Warning::note_close_words(alloc, warnings, &row.name);
+        Warning::note_close_words(warnings, row.name);
     }
 }
 
@@ -304,7 +304,7 @@ pub fn simulate<'a, F: FileReader, O: Output>(
     };
     match prepare(alloc, &input, form) {
         Ok(mut simulation) => {
-            note_close_words(alloc, &simulation, warnings);
+            note_close_words(&simulation, warnings);
             plain_answer(print_simulation(alloc, &mut simulation, form, out))
         }
         Err(refusal) => refuse(alloc, refusal, out),

@@ -178,7 +178,7 @@ fn cause_at(
 {
     plans_are_unique();
     match proposal {
-        Err(refusal) => FurtherCause::of(alloc, refusal.refusal()),
+        Err(refusal) => FurtherCause::of(refusal.refusal()),
         Ok(proposal) => cause_of_proposal(alloc, station, proposal),
     }
 }

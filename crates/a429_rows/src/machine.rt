@@ -11,7 +11,8 @@ use std::process::Abort;
 
 /// The equipment of a table with its plan.
 pub fn proposal(rt: &impl Abort, alloc: Global, table: &str) -> Proposal<OUTPUTS> {
-    Proposal::of(alloc, equipment_of(rt, alloc, table)).expect(rt, "a proposal")
+    let proposal = Proposal::of(alloc, equipment_of(rt, alloc, table)).ok();
+    proposal.expect(rt, "a proposal")
 }
 
 /// The machine of a table, from this slot on.

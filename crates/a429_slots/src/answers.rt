@@ -52,7 +52,7 @@ impl From<ArrivalRefusal> for Refusal {
 }
 
 /// What an event is answered.
-#[derive(Clone, Copy, Debug, PartialEq, Eq)]
+#[derive(Clone, Copy, PartialEq, Eq)]
 pub enum Answer {
     /// The word was kept for the source of this number.
     Accepted {

@@ -13,7 +13,7 @@ use std::marker::Model;
 
 /// The place of an output: on one bus of its group, in the slots that leave this offset when they are divided by the
 /// period. Buses and slots are counted from 0, slots from the frame's start.
-#[derive(Clone, Copy, Debug, PartialEq, Eq)]
+#[derive(Clone, Copy, PartialEq, Eq)]
 pub struct SlotPlace {
     pub bus: u32,
     pub offset: u32,
@@ -21,7 +21,7 @@ pub struct SlotPlace {
 }
 
 /// What limits the sends of an output.
-#[derive(Clone, Copy, Debug, PartialEq, Eq)]
+#[derive(Clone, Copy, PartialEq, Eq)]
 pub struct SendLimits {
     /// One accepted word is sent at most this number of times; `None`: no limit.
     pub hold: Option<u32>,

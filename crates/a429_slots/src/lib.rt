@@ -44,7 +44,7 @@ pub use group_plan::{GroupPlan, SendLimits, SlotPlace};
 pub use group_sends::GroupSends;
 pub use open_fault::OpenFault;
 pub use outputs::OutputId;
-pub use planner::{PlanFault, plan};
+pub use planner::{PlanFault, demands_of, plan};
 pub use plans::Plan;
 pub use proposals::{NoProposal, Proposal};
 pub use senders::cached::CachedSender;

@@ -42,9 +42,9 @@ fn in_group(group: usize, fault: PackFault) -> PlanFault
     }
 }
 
-/// What the outputs of a group ask of its layout, at this bit rate in bit/s.
+/// What the outputs of a group ask of its layout, at this bit rate in bit/s. Error: an allocation failed.
 #[tactic(auto, using(crate::proofs::Rows::all_below, crate::proofs::Rows::zipped_more, a429_word::proofs::Lists::read_is))]
-fn demands_of(
+pub fn demands_of(
     alloc: Global,
     rate: u32,
     sources: &[SourceRow],

@@ -8,7 +8,6 @@ use crate::plans::Plan;
 use a429_equipment::Equipment;
 use std::alloc::Global;
 use std::marker::Model;
-use thiserror::Error;
 
 /// An equipment with the plan of its own groups.
 #[derive(Drop)]
@@ -30,8 +29,7 @@ impl<const N: usize> Model for Proposal<N> {
 }
 
 /// An equipment that has no plan, and why.
-#[derive(Debug, Drop, Error)]
-#[error("{fault}")]
+#[derive(Drop)]
 pub struct NoProposal {
     pub equipment: Equipment,
     pub fault: PlanFault,

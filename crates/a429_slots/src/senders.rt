@@ -11,7 +11,7 @@ use a429_equipment::OUTPUTS;
 use std::marker::Model;
 
 /// An output whose cell is due: the number of its source, and what limits its sends.
-#[derive(Clone, Copy, Debug, PartialEq, Eq)]
+#[derive(Clone, Copy, PartialEq, Eq)]
 pub struct Due {
     pub source: usize,
     pub limits: SendLimits,

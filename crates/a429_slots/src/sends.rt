@@ -7,7 +7,7 @@ use std::marker::Model;
 
 /// The word of a source that a group sent last: its number among the accepted words, how often it was sent, and
 /// the slot of the last time.
-#[derive(Clone, Copy, Debug, PartialEq, Eq)]
+#[derive(Clone, Copy, PartialEq, Eq)]
 pub struct LastSend {
     count: u64,
     times: u64,

@@ -86,6 +86,9 @@ groups_are rate (d ∷ ds) h i = (group_is rate d h.0 i.0, groups_are rate ds h.
 pub receiver_names : (root : Data) → IsAbsent root Name → AllByRecursion (λ d. IsTrue (is_name (name_of d))) (rows_at (codes "receiver") root)
 receiver_names root h = rows_hold Receivers _ _ (λ n d e. name_at root _ d refl e) 0 (rows_at (codes "receiver") root) h.at_receivers
 
+pub group_names : (root : Data) → IsAbsent root Name → AllByRecursion (λ d. IsTrue (is_name (name_of d))) (rows_at (codes "group") root)
+group_names root h = groups_hold _ (λ g. IsTrue (is_name (name_of g))) (λ n g e _. name_at root _ g refl e) 0 (rows_at (codes "group") root) h.at_groups
+
 pub source_rows_are : (root : Data) → IsAbsent root Name → AllByRecursion IsSourceRow (map (source_row root) (rows_at (codes "source") root))
 source_rows_are root h =
     all_mapped (source_row root) IsSourceRow (rows_at (codes "source") root)
@@ -94,5 +97,4 @@ source_rows_are root h =
 pub group_rows_are : (root : Data) (rate : Option ℕ) → IsAbsent root Name → AllByRecursion (λ d. IsRate (unwrap_or rate (rate_at d))) (rows_at (codes "group") root)
     → AllByRecursion IsGroupRow (map (group_row rate) (rows_at (codes "group") root))
 group_rows_are root rate h rates =
-    groups_are rate (rows_at (codes "group") root)
-    (groups_hold _ (λ g. IsTrue (is_name (name_of g))) (λ n g e _. name_at root _ g refl e) 0 (rows_at (codes "group") root) h.at_groups) rates
+    groups_are rate (rows_at (codes "group") root) (group_names root h) rates

@@ -3,6 +3,7 @@
 use Rattle.std.specs.Prelude.{◌≡◌, ◌==◌, ◌+◌, ◌*◌, ◌^◌, ℕ, min, List, [], ◌∷◌, map, filter, replicate, Bool, false, not, Option, slice_get, slice_index, slice_index_or, slice_set, bit_and, bit_or}
 use Rattle.std.specs.Option.{option_map_or}
 use Rattle.toml.specs.Data.{Data}
+use Rattle.a429_equipment.specs.NameForm.{short_name}
 use Rattle.a429_equipment.specs.declared.rows.SourceRow.{SourceRow}
 use Rattle.a429_equipment.specs.declared.rows.OutputRow.{OutputRow}
 use Rattle.a429_table.specs.declared.build.WordRows.{WordRows}
@@ -59,9 +60,13 @@ pub record AreRepeatsIn (sources : List SourceRow) (outputs : List (List OutputR
   pub of_sources : repeats.sources.items ≡ repeats_among 4096 (map source_words sources)
   pub of_outputs : map (λ v. v.items) repeats.outputs.items ≡ map (group_repeats sources) outputs
 
--- the rows are those of the record of a table
+-- a source; a name of more than 16 bytes, which is a fault, is left out
+abbrev pub shortened : SourceRow → SourceRow
+shortened s = record s { name = short_name s.name }
+
+-- the rows are those of the record of a table, but for such names
 pub record AreRowsOf (root : Data) (rows : WordRows) : Type 0 where
-  pub sources : rows.sources.items ≡ (stated root).sources
+  pub sources : rows.sources.items ≡ map shortened (stated root).sources
   pub outputs : map (λ v. v.items) rows.outputs.items ≡ (stated root).outputs
 
 abbrev pub source_flag : Repeats → TablePlace → Bool

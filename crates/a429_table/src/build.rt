@@ -1,10 +1,11 @@
 //! The rows of a table. They say what it says if it has no fault.
 
-ghost use Rattle.std.specs.Prelude.{◌≡◌, ◌≤◌, ◌^◌, All, map, length, codes, Some, IfOk};
+ghost use Rattle.std.specs.Prelude.{◌≡◌, ◌≤◌, ◌^◌, All, map, length, codes, option_map, Some, IfOk};
 ghost use Rattle.toml.specs.View.{view};
 ghost use Rattle.a429_table.specs.Tree.{rows_at};
 ghost use Rattle.a429_table.specs.Faults.{sdi_at};
-ghost use Rattle.a429_table.specs.Repeats.{AreRowsOf};
+ghost use Rattle.a429_table.specs.Names.{name_of};
+ghost use Rattle.a429_table.specs.Repeats.{AreRowsOf, shortened};
 ghost use Rattle.a429_table.specs.Stops.{table_of};
 ghost use Rattle.a429_word.specs.Texts.{octal_number};
 ghost use Rattle.a429_filter.specs.FilterTexts.{filter_of};
@@ -108,41 +109,42 @@ fn filters_of(receiver: &Value) -> FilterSet
     filter_list(rows_at(receiver, "filters"))
 }
 
-#[tactic(auto, unfolding(crate::specs::Stated::receiver_row))]
-fn receiver_row(alloc: Global, table: &Value) -> Result<ReceiverRow, AllocError>
-    requires { length (rows_at (codes "filters") (view table.now)) ≤ 32 }
-    ensures { IfOk result (λ r. r ≡ receiver_row (view table.now)) }
+#[tactic(auto, using(crate::proofs::ShortNames::short_is), unfolding(crate::specs::Stated::receiver_row))]
+fn receiver_row(table: &Value) -> ReceiverRow
+    requires filters { length (rows_at (codes "filters") (view table.now)) ≤ 32 }
+    requires name { length (name_of (view table.now)) ≤ 16 }
+    ensures { result ≡ receiver_row (view table.now) }
 {
-    let name = Name::copy_of(alloc, text_at(table, "name"))?;
-    let filters = filters_of(table);
-    Ok(ReceiverRow { name, filters })
+    ReceiverRow {
+        name: Name::of(text_at(table, "name")),
+        filters: filters_of(table),
+    }
 }
 
 pub fn receiver_rows(alloc: Global, tables: &[Value]) -> Result<Vec<ReceiverRow>, AllocError>
-    requires { All (λ d. length (rows_at (codes "filters") (view d)) ≤ 32) tables.now }
+    requires filters { All (λ d. length (rows_at (codes "filters") (view d)) ≤ 32) tables.now }
+    requires names { All (λ d. length (name_of (view d)) ≤ 16) tables.now }
     ensures { IfOk result (λ v. v.items ≡ map receiver_row (map view tables.now)) }
 {
     let mut rows = Vec::new(alloc);
     for table in tables {
-        rows.push(receiver_row(alloc, table)?)?;
+        rows.push(receiver_row(table))?;
     }
     Ok(rows)
 }
 
+/// A source with this SDI. A name of more than 16 bytes, which is a fault, is left out.
 #[tactic(auto, unfolding(crate::specs::Stated::source_row))]
-fn source_row(alloc: Global, index: &TableIndex<'_>, table: &Value) -> Result<SourceRow, AllocError>
-    ensures { IfOk result (λ r. r ≡ source_row (table_of index.now) (view table.now)) }
+fn source_row(index: &TableIndex<'_>, table: &Value, sdi: Option<Sdi>) -> SourceRow
+    requires { sdi ≡ option_map (natural 4) (sdi_at (view table.now)) }
+    ensures { result ≡ shortened (source_row (table_of index.now) (view table.now)) }
 {
-    let name = Name::copy_of(alloc, text_at(table, "name"))?;
-    let receiver = index.receiver(text_at(table, "receiver")).unwrap_or(0);
-    let label = label_of(text_at(table, "label"));
-    let sdi = sdi_at(table).map(sdi_number);
-    Ok(SourceRow {
-        name,
-        receiver,
-        label,
+    SourceRow {
+        name: Name::of(text_at(table, "name")),
+        receiver: index.receiver(text_at(table, "receiver")).unwrap_or(0),
+        label: label_of(text_at(table, "label")),
         sdi,
-    })
+    }
 }
 
 fn source_rows(
@@ -150,22 +152,25 @@ fn source_rows(
     index: &TableIndex<'_>,
     tables: &[Value],
 ) -> Result<Vec<SourceRow>, AllocError>
-    ensures { IfOk result (λ v. v.items ≡ map (source_row (table_of index.now)) (map view tables.now)) }
+    ensures { IfOk result (λ v. v.items ≡ map shortened (map (source_row (table_of index.now)) (map view tables.now))) }
 {
     let mut rows = Vec::new(alloc);
     for table in tables {
-        rows.push(source_row(alloc, index, table)?)?;
+        let sdi = sdi_at(table).map(sdi_number);
+        rows.push(source_row(index, table, sdi))?;
     }
     Ok(rows)
 }
 
-#[tactic(auto, unfolding(crate::specs::Stated::group_row))]
-fn group_row(alloc: Global, rate: Option<u32>, table: &Value) -> Result<GroupRow, AllocError>
-    ensures { IfOk result (λ r. r ≡ group_row rate (view table.now)) }
+#[tactic(auto, using(crate::proofs::ShortNames::short_is), unfolding(crate::specs::Stated::group_row))]
+fn group_row(rate: Option<u32>, table: &Value) -> GroupRow
+    requires { length (name_of (view table.now)) ≤ 16 }
+    ensures { result ≡ group_row rate (view table.now) }
 {
-    let name = Name::copy_of(alloc, text_at(table, "name"))?;
-    let rate = rate.unwrap_or(rate_at(table));
-    Ok(GroupRow { name, rate })
+    GroupRow {
+        name: Name::of(text_at(table, "name")),
+        rate: rate.unwrap_or(rate_at(table)),
+    }
 }
 
 /// The groups: each has this bit rate, if there is one, and otherwise its own. Error: an allocation failed.
@@ -174,11 +179,12 @@ pub fn group_rows(
     rate: Option<u32>,
     tables: &[Value],
 ) -> Result<Vec<GroupRow>, AllocError>
+    requires { All (λ d. length (name_of (view d)) ≤ 16) tables.now }
     ensures { IfOk result (λ v. v.items ≡ map (group_row rate) (map view tables.now)) }
 {
     let mut rows = Vec::new(alloc);
     for table in tables {
-        rows.push(group_row(alloc, rate, table)?)?;
+        rows.push(group_row(rate, table))?;
     }
     Ok(rows)
 }
@@ -240,7 +246,8 @@ pub struct WordRows {
     pub outputs: Vec<Vec<OutputRow>>,
 }
 
-/// The rows of the sources and of the outputs of a table. In one with a fault, a value that is missing or wrong is 0.
+/// The rows of the sources and of the outputs of a table. In one with a fault, a value that is missing or wrong is 0, and a
+/// name that is too long is empty.
 #[tactic(auto, unfolding(crate::specs::Stated::stated))]
 pub fn word_rows(alloc: Global, index: &TableIndex<'_>) -> Result<WordRows, AllocError>
     ensures { IfOk result (AreRowsOf (table_of index.now)) }

@@ -43,4 +43,5 @@ pub use document::RefusedTable;
 pub use fault::{FaultKind, TableFault, TablePlace};
 pub use reading::{read_equipment, read_or_keep};
 pub use search::places_of;
+pub use table_index::number_name;
 pub use version::version_of;

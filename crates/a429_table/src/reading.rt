@@ -92,7 +92,7 @@ fn build_equipment(
 }
 
 /// The rows of a table without faults.
-#[tactic(auto, unfolding(crate::specs::Stated::stated))]
+#[tactic(auto, using(crate::proofs::ShortNames::stated_sources), unfolding(crate::specs::Stated::stated))]
 fn build_rows(
     alloc: Global,
     index: &TableIndex<'_>,

@@ -103,8 +103,8 @@ fn note_names(names: &mut NameNumbers, alloc: Global, root: &Value) -> Result<()
     number_names(&mut names.groups, alloc, rows_at(root, "group"))
 }
 
-/// Gives a name a number, unless it has one.
-fn number_name(
+/// Gives a name a number, unless it has one. Error: an allocation failed.
+pub fn number_name(
     numbers: &mut IndexMap<String, usize>,
     alloc: Global,
     name: &str,

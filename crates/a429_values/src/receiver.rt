@@ -19,7 +19,7 @@ use std::mem::replace;
 use std::sync::Arc;
 
 /// What a receiver answers to a raw word.
-#[derive(Clone, Copy, Debug, PartialEq, Eq)]
+#[derive(Clone, Copy, PartialEq, Eq)]
 pub enum Accept {
     /// The word was kept for the source of this number.
     Accepted(usize),

@@ -4,7 +4,7 @@ use a429_word::Word;
 use thiserror::Error;
 
 /// An answered cell: its bus, its slot counted from the station's first, and the word that is sent in it, if any.
-#[derive(Clone, Copy, Debug, PartialEq, Eq)]
+#[derive(Clone, Copy, PartialEq, Eq)]
 pub struct Sent {
     pub bus: u32,
     pub slot: u64,

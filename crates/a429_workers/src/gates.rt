@@ -9,7 +9,7 @@ use a429_values::Accept;
 use thiserror::Error;
 
 /// A place in a loop. Receivers and groups have their numbers; words and cells are counted from 0.
-#[derive(Clone, Copy, Debug, PartialEq, Eq)]
+#[derive(Clone, Copy, PartialEq, Eq)]
 pub enum Point {
     /// A receiver was given a word, and has not taken it yet.
     BeforeAccept(usize, u64),
@@ -57,7 +57,7 @@ pub trait Gate {
 }
 
 /// A gate that always lets pass.
-#[derive(Clone, Copy, Debug, PartialEq, Eq)]
+#[derive(Clone, Copy, PartialEq, Eq)]
 pub struct OpenGate;
 
 impl Gate for OpenGate {

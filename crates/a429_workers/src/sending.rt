@@ -13,7 +13,7 @@ use crate::transmit::Transmit;
 use thiserror::Error;
 
 /// How many cells a group sent, how many of them with a word, and the number of the plan in force at the end.
-#[derive(Clone, Copy, Debug, PartialEq, Eq)]
+#[derive(Clone, Copy, PartialEq, Eq)]
 pub struct SendTotals {
     pub cells: u64,
     pub words: u64,

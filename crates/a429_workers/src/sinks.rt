@@ -36,7 +36,7 @@ pub trait BusSink {
 }
 
 /// A sink that keeps its cells in memory. It fails if an allocation for a cell fails.
-#[derive(Debug, Drop)]
+#[derive(Drop)]
 pub struct MemorySink {
     sent: Vec<Sent>,
     failures: u64,
@@ -103,7 +103,7 @@ impl BusSink for MemorySink {
 }
 
 /// A sink that counts its cells and keeps none. It never fails, and it does not say which cells it took.
-#[derive(Clone, Copy, Debug, PartialEq, Eq)]
+#[derive(Clone, Copy, PartialEq, Eq)]
 pub struct CountSink {
     count: u64,
 }

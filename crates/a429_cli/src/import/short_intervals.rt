@@ -36,13 +36,12 @@ fn are_short(rows: &[OutputRow], rate: u32) -> bool
 }
 
 /// Notes each group all of whose outputs have such an interval, in table order.
-fn note_groups(alloc: Global, equipment: &Equipment, warnings: &mut Vec<Warning>)
+fn note_groups(equipment: &Equipment, warnings: &mut Vec<Warning>)
     ensures { HasNoShortGroup equipment.now → warnings.new.items ≡ warnings.old.items }
 {
     for group in 0..equipment.groups().len() {
         if are_short(equipment.outputs(group), equipment.group_rate(group)) {
-            let name = &equipment.groups()[group].name;
-            Warning::note_short_intervals(alloc, warnings, name);
+            Warning::note_short_intervals(warnings, equipment.groups()[group].name);
         }
     }
 }
@@ -52,6 +51,6 @@ pub fn note_short_intervals(alloc: Global, table: &[u8], warnings: &mut Vec<Warn
     ensures { StatesNoShortGroup table.now → warnings.new.items ≡ warnings.old.items }
 {
     if let Ok(equipment) = read_equipment(alloc, table) {
-        note_groups(alloc, &equipment, warnings);
+        note_groups(&equipment, warnings);
     }
 }

@@ -17,7 +17,7 @@ pub enum FurtherCause {
     Unfit,
     /// The group needs this number of buses, which is more than 16.
     TooManyBuses {
-        group: String,
+        group: Name,
         needed: usize,
     },
     /// The table is of another station than the one that runs.
@@ -28,20 +28,17 @@ pub enum FurtherCause {
 }
 
 impl FurtherCause {
-    /// The cause by the refusal of the table. `None` if an allocation fails.
-    pub fn of(alloc: Global, refusal: &CommandRefusal) -> Option<FurtherCause>
+    /// The cause by the refusal of the table. `None` if an allocation failed.
+    pub fn of(refusal: &CommandRefusal) -> Option<FurtherCause>
         ensures { refusal.now ≡ Memory → IsNone result }
     {
         match refusal {
             CommandRefusal::Table(kind, _) => Some(FurtherCause::Fault(*kind)),
             CommandRefusal::Unfit { .. } => Some(FurtherCause::Unfit),
-            CommandRefusal::TooManyBuses { group, needed } => {
-                let group = String::from_str(alloc, group.as_str()).ok()?;
-                Some(FurtherCause::TooManyBuses {
-                    group,
-                    needed: *needed,
-                })
-            }
+            CommandRefusal::TooManyBuses { group, needed } => Some(FurtherCause::TooManyBuses {
+                group: *group,
+                needed: *needed,
+            }),
             _ => None,
         }
     }
@@ -94,16 +91,12 @@ impl Warning {
     }
 
     /// Notes a receiver to which words come too closely, unless an allocation fails.
-    pub fn note_close_words(alloc: Global, warnings: &mut Vec<Warning>, receiver: &Name) {
-        if let Ok(name) = receiver.copied(alloc) {
-            let _ = warnings.push(Warning::CloseWords(name));
-        }
+    pub fn note_close_words(warnings: &mut Vec<Warning>, receiver: Name) {
+        let _ = warnings.push(Warning::CloseWords(receiver));
     }
 
     /// Notes a group whose intervals may be milliseconds, unless an allocation fails.
-    pub fn note_short_intervals(alloc: Global, warnings: &mut Vec<Warning>, group: &Name) {
-        if let Ok(name) = group.copied(alloc) {
-            let _ = warnings.push(Warning::ShortIntervals(name));
-        }
+    pub fn note_short_intervals(warnings: &mut Vec<Warning>, group: Name) {
+        let _ = warnings.push(Warning::ShortIntervals(group));
     }
 }

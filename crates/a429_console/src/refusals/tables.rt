@@ -12,43 +12,36 @@ use a429_slots::{NoProposal, PlanFault};
 use std::alloc::Global;
 
 /// The refusal of an equipment that has no plan.
-pub fn plan_refusal(alloc: Global, none: &NoProposal) -> CommandRefusal
+pub fn plan_refusal(none: &NoProposal) -> CommandRefusal
     ensures { IsFaultOf none.now.equipment none.now.fault → OrMemory (IsPlanRefusal none.now.equipment) result }
 {
     match none.fault {
-        PlanFault::Unfit { group, output } => unfit(alloc, &none.equipment, group, output),
+        PlanFault::Unfit { group, output } => unfit(&none.equipment, group, output),
         PlanFault::TooManyBuses { group, needed } => {
-            too_many_buses(alloc, &none.equipment, group, needed)
+            too_many_buses(&none.equipment, group, needed)
         }
         PlanFault::NoMemory => CommandRefusal::Memory,
     }
 }
 
 /// The refusal of an unfit output, by the names of its group and its source.
-pub fn unfit(alloc: Global, equipment: &Equipment, group: usize, output: usize) -> CommandRefusal
-    ensures named { OrMemory (IsUnfitNamed equipment.now group output) result }
-    ensures first { IsFaultOf equipment.now (Unfit group output) → OrMemory (IsPlanRefusal equipment.now) result }
+pub fn unfit(equipment: &Equipment, group: usize, output: usize) -> CommandRefusal
+    ensures named { IsUnfitNamed equipment.now group output result }
+    ensures first { IsFaultOf equipment.now (Unfit group output) → IsPlanRefusal equipment.now result }
 {
-    let source = String::from_str(alloc, source_name(equipment, group, output));
-    let group = String::from_str(alloc, group_name(equipment, group));
-    match (group, source) {
-        (Ok(group), Ok(source)) => CommandRefusal::Unfit { group, source },
-        _ => CommandRefusal::Memory,
+    CommandRefusal::Unfit {
+        group: group_name(equipment, group),
+        source: source_name(equipment, group, output),
     }
 }
 
 /// The refusal of a group that needs too many buses, by its name.
-pub fn too_many_buses(
-    alloc: Global,
-    equipment: &Equipment,
-    group: usize,
-    needed: usize,
-) -> CommandRefusal
-    ensures { IsFaultOf equipment.now (TooManyBuses group needed) → OrMemory (IsPlanRefusal equipment.now) result }
+pub fn too_many_buses(equipment: &Equipment, group: usize, needed: usize) -> CommandRefusal
+    ensures { IsFaultOf equipment.now (TooManyBuses group needed) → IsPlanRefusal equipment.now result }
 {
-    match String::from_str(alloc, group_name(equipment, group)) {
-        Ok(group) => CommandRefusal::TooManyBuses { group, needed },
-        Err(_) => CommandRefusal::Memory,
+    CommandRefusal::TooManyBuses {
+        group: group_name(equipment, group),
+        needed,
     }
 }
 

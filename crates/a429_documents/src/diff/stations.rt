@@ -1,35 +1,15 @@
 //! What differs of the stations of two tables.
 ghost use Rattle.std.specs.Prelude.{◌≡◌, ◌==◌, ◌<◌, ◌++◌, length};
 ghost use Rattle.a429_text.specs.Sheets.{field_of};
-ghost use Rattle.a429_equipment.specs.SameStation.{all_agree, same_filter, same_filters, same_sdi};
-ghost use Rattle.a429_documents.specs.Document.{receiver_name};
 ghost use Rattle.a429_documents.specs.Diff.{filter_count, filter_rows, label_rows, of_group, of_name, rate_rows, sdi_or_any, sdi_rows, source_receiver_rows, source_rows, station_rows};
 
 use crate::diff::names::{Named, add_list};
 use crate::diff::rows::{Subject, add_number, add_unless};
-use a429_equipment::{Equipment, GroupRow, ReceiverRow, SourceRow};
-use a429_filter::{Filter, FilterSet};
+use crate::document::receiver_name;
+use a429_equipment::{Equipment, GroupRow, ReceiverRow, SourceRow, same_filters, same_sdi};
+use a429_filter::FilterSet;
 use a429_text::{Cell, Rows};
 use a429_word::Sdi;
-
-fn same_lists(a: &[Filter], b: &[Filter]) -> bool
-    ensures { result ≡ all_agree same_filter a.now b.now }
-{
-    a.len() == b.len()
-        && a.iter()
-            .zip(b)
-            .all(|(a, b)| a.label == b.label && a.mask == b.mask)
-}
-
-fn same_filters(a: &FilterSet, b: &FilterSet) -> bool
-    ensures { result ≡ same_filters a.now b.now }
-{
-    match (a.list(), b.list()) {
-        (None, None) => true,
-        (Some(a), Some(b)) => same_lists(a, b),
-        _ => false,
-    }
-}
 
 /// The number of filters, if there is a list.
 fn filter_count(filters: &FilterSet) -> Cell<'static>
@@ -69,16 +49,6 @@ impl Named for ReceiverRow {
     }
 }
 
-/// The name of a receiver; empty if there is no such receiver.
-fn receiver_name(equipment: &Equipment, number: usize) -> &str
-    ensures { result.now ≡ receiver_name equipment.now.receivers number }
-{
-    match equipment.receivers().get(number) {
-        None => "",
-        Some(receiver) => receiver.name.as_str(),
-    }
-}
-
 /// An SDI, or `any`.
 fn sdi_or_any(sdi: Option<Sdi>) -> Cell<'static>
     ensures { field_of result ≡ sdi_or_any sdi }
@@ -86,16 +56,6 @@ fn sdi_or_any(sdi: Option<Sdi>) -> Cell<'static>
     match sdi {
         None => Cell::Text("any"),
         Some(sdi) => Cell::Number(u64::from(sdi.value())),
-    }
-}
-
-fn same_sdi(a: Option<Sdi>, b: Option<Sdi>) -> bool
-    ensures { result ≡ same_sdi a b }
-{
-    match (a, b) {
-        (None, None) => true,
-        (Some(a), Some(b)) => a == b,
-        _ => false,
     }
 }
 
@@ -110,8 +70,8 @@ fn add_receiver(
     ensures { rows.new ≡ rows.old ++ source_receiver_rows a.now.receivers b.now.receivers source.now other.now }
 {
     let (own, others) = (
-        receiver_name(a, source.receiver),
-        receiver_name(b, other.receiver),
+        receiver_name(a.receivers(), source.receiver),
+        receiver_name(b.receivers(), other.receiver),
     );
     let (first, second) = (Cell::Text(own), Cell::Text(others));
     add_unless(

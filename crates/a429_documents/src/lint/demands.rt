@@ -1,40 +1,14 @@
 //! The demands of an equipment's groups.
 ghost use Rattle.std.specs.Prelude.{◌≡◌, ◌≤◌, IfOk, length, map};
-ghost use Rattle.std.specs.List.{AllZip};
 ghost use Rattle.a429_pack.specs.Demanded.{demand_of};
 ghost use Rattle.a429_pack.specs.Demands.{exponent_of, exponents_of, frame_of};
-ghost use Rattle.a429_slots.specs.Asked.{IsAsked};
-ghost use Rattle.a429_slots.specs.Planned.{HaveSources};
 ghost use Rattle.a429_documents.specs.Lint.{AreAsked, are_fit, bus_count};
 
-use a429_equipment::{Equipment, OutputRow, SourceRow};
-use a429_grid::{Period, grid_period};
+use a429_equipment::Equipment;
+use a429_grid::Period;
 use a429_pack::Demand;
+use a429_slots::demands_of;
 use std::alloc::{AllocError, Global};
-
-/// The demands of a group's outputs, at this bit rate in bit/s.
-#[tactic(auto, using(a429_slots::proofs::Rows::all_below, a429_slots::proofs::Rows::zipped_more, a429_word::proofs::Lists::read_is))]
-fn demands_of(
-    alloc: Global,
-    rate: u32,
-    sources: &[SourceRow],
-    outputs: &[OutputRow],
-) -> Result<Vec<Demand>, AllocError>
-    requires { HaveSources sources.now outputs.now }
-    ensures { IfOk result (λ demands. AllZip (IsAsked rate sources.now) outputs.now demands.items) }
-{
-    let mut demands = Vec::new(alloc);
-    for output in outputs {
-        let source = &sources[output.source];
-        let period = grid_period(output.min_us, output.max_us, rate);
-        demands.push(Demand {
-            period,
-            label: source.label,
-            sdi: source.sdi,
-        })?;
-    }
-    Ok(demands)
-}
 
 /// The demands of each group's outputs, in table order. Error: an allocation failed.
 pub fn demands_of_groups(

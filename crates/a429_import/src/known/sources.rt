@@ -14,6 +14,7 @@ use crate::fault::ImportColumn;
 use crate::named_rows::NamedRows;
 use crate::rows::RowFields;
 use crate::short_numbers::ShortNumbers;
+use a429_equipment::same_sdi;
 use a429_word::{Label, Sdi};
 use std::alloc::{AllocError, Global};
 
@@ -25,16 +26,6 @@ pub struct KnownSources {
     receivers: ShortNumbers,
     labels: Vec<Label>,
     sdis: Vec<Option<Sdi>>,
-}
-
-fn same_sdi(a: Option<Sdi>, b: Option<Sdi>) -> bool
-    ensures { result ≡ same_sdi a b }
-{
-    match (a, b) {
-        (None, None) => true,
-        (Some(a), Some(b)) => a.value() == b.value(),
-        _ => false,
-    }
 }
 
 /// Whether this is the number.

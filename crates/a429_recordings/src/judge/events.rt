@@ -130,13 +130,8 @@ fn add_found(
         ++ map (finding_row (group_name equipment.now group) (output_name equipment.now group output)) found.now) }
 {
     let name = group_name(equipment, group);
-    add_findings(
-        rows,
-        alloc,
-        name,
-        source_name(equipment, group, output),
-        found,
-    )
+    let source = source_name(equipment, group, output);
+    add_findings(rows, alloc, name.as_str(), source.as_str(), found)
 }
 
 /// Adds the rows of the findings at an output. Error: an allocation failed.
@@ -228,12 +223,8 @@ fn add_foreign_of(
 {
     let foreign = judging.judge.foreign(alloc, duties, group);
     let marks = foreign.as_slice()?;
-    add_foreign(
-        rows,
-        alloc,
-        group_name(judging.proposal.equipment(), group),
-        marks,
-    )
+    let name = group_name(judging.proposal.equipment(), group);
+    add_foreign(rows, alloc, name.as_str(), marks)
 }
 
 /// Adds the rows of a group. Error: an allocation failed.

@@ -42,12 +42,8 @@ fn add_output(
     let judgement = judging.judge.judgement(alloc, duties, &duty)?;
     let equipment = judging.proposal.equipment();
     let name = group_name(equipment, group);
-    add_output_row(
-        rows,
-        name,
-        source_name(equipment, group, output),
-        &judgement,
-    );
+    let source = source_name(equipment, group, output);
+    add_output_row(rows, name.as_str(), source.as_str(), &judgement);
     Ok(is_bad(judgement.verdict))
 }
 
@@ -89,11 +85,8 @@ fn add_group(
     let found = add_outputs(rows, alloc, judging, group, &duties)?;
     let foreign = judging.judge.foreign(alloc, &duties, group);
     let count = foreign.as_slice()?.len();
-    add_foreign_row(
-        rows,
-        group_name(judging.proposal.equipment(), group),
-        count as u64,
-    );
+    let name = group_name(judging.proposal.equipment(), group);
+    add_foreign_row(rows, name.as_str(), count as u64);
     Ok(either(found, count > 0))
 }
 

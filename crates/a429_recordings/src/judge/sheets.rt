@@ -7,25 +7,9 @@ use crate::judge::duties::Judging;
 use crate::judge::events::{EVENT_COLUMNS, add_events};
 use crate::judge::rows::add_groups;
 use a429_console::answered::Found;
+use a429_judge::COLUMNS;
 use a429_text::{Rows, Sheet, SheetForm};
 use std::alloc::{AllocError, Global};
-
-/// The names of the columns of rows.
-const COLUMNS: &[&str] = &[
-    "group",
-    "source",
-    "sent",
-    "least_us",
-    "greatest_us",
-    "late_us",
-    "wrong",
-    "stale",
-    "soon",
-    "late",
-    "missed",
-    "again",
-    "verdict",
-];
 
 /// What is printed, whether something was found, and the rows of outputs, for a hint.
 #[derive(Drop)]

@@ -71,7 +71,7 @@ fn add_output(
     let equipment = proposal.equipment();
     let name = group_name(equipment, group);
     let source = source_name(equipment, group, output);
-    add_row(rows, name, source, figures, bound);
+    add_row(rows, name.as_str(), source.as_str(), figures, bound);
 }
 
 /// Adds a row for each output of a group, in table order.

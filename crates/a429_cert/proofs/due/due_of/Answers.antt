@@ -1,4 +1,4 @@
-use Rattle.std.proofs.Common.{◌≡◌, ◌∙◌, ◌+◌, ◌≤◌, ℕ, List, Result, ap, arith, length, map, subst, sym, take}
+use Rattle.std.proofs.Common.{◌≡◌, ◌∙◌, ◌+◌, ◌≤◌, ℕ, List, Result, ap, arith, length, map, refl, subst, sym, take}
 use Rattle.std.specs.Prelude.{Some, slice_get, IfErr}
 use Rattle.std.specs.List.{AllZip}
 use Rattle.std.proofs.lemmas.List.{length-map, take_all}
@@ -21,7 +21,7 @@ use Rattle.a429_slots.proofs.Planning.{rated_at}
 pub returns-in_err-outputs-clause-fault : goal.returns-in_err-outputs-clause-fault
 returns-in_err-outputs-clause-fault c =
     let e : TableRecord = c.args.equipment.now in
-    let (none, is, same) = err_from_is_err_and c.from_residual-in_err-outputs.result c.from_residual-in_err-outputs.ensures.1 in
+    let (none, is, same) = err_from_is_err_and c.from_residual.result c.from_residual.ensures.1 in
     subst (λ (r : Result DueTable NoVerdict). IfErr r (IsNoVerdict e)) (sym is)
     (subst (IsNoVerdict e) (sym same)
     (fault_in e c.group_rate-rate.result c.loop-group.group c.in_err-outputs.field-0.0 c.group_rate-rate.ensures.rate (all_fit e (take c.loop-group.group (rated_outputs e)) c.loop-group.groups.items c.loop-group.invariant.groups) c.in_err-outputs.ensures.fault))
@@ -31,17 +31,16 @@ loop-group-preserved c =
     let e : TableRecord = c.args.equipment.now in
     let rows : List GroupRow = c.groups-rows.result.now in
     let row : GroupRow = c.index-rows-group.result in
-    let made : DueGroup = record { name = c.in_ok-name.name; rate = c.from-rate.result; outputs = c.in_ok-outputs.outputs } in
+    let made : DueGroup = record { name = row.name; rate = c.from.result; outputs = c.in_ok-outputs.outputs } in
     let there : slice_get rows c.loop-group.group ≡ Some row = read_is rows c.loop-group.group row (omega arith) c.index-rows-group.is in
-    let named : made.name ≡ row.name = c.in_ok-name.ensures in
     let (outputs, at, zipped) = c.in_ok-outputs.ensures.due in
     record {
       names = ap (map (λ (g : DueGroup). g.name)) c.in_ok-push.ensures.items
-          ∙ map_next (λ (r : GroupRow). r.name) (λ (g : DueGroup). g.name) rows c.loop-group.groups.items c.loop-group.group row made there c.loop-group.invariant.names named;
+          ∙ map_next (λ (r : GroupRow). r.name) (λ (g : DueGroup). g.name) rows c.loop-group.groups.items c.loop-group.group row made there c.loop-group.invariant.names refl;
       groups = subst (λ (gs : List DueGroup). AllZip (IsDueGroup e) (take (c.loop-group.group + 1) (rated_outputs e)) gs) (sym c.in_ok-push.ensures.items)
           (zip_next (IsDueGroup e) (rated_outputs e) c.loop-group.groups.items c.loop-group.group (c.group_rate-rate.result, outputs) made
           (rated_at e c.loop-group.group c.group_rate-rate.result outputs c.group_rate-rate.ensures.rate at) c.loop-group.invariant.groups
-          (record { rate = c.from-rate.ensures; outputs = zipped }));
+          (record { rate = c.from.ensures; outputs = zipped }));
     }
 
 pub returns-clause-due : goal.returns-clause-due

@@ -10,11 +10,11 @@ returns c =
     let rows : List SourceRow = c.sources.result.now in
     let same : rows ≡ c.args.equipment.now.sources = c.sources.ensures.rows in
     let below : c.args.row.now.source < length rows = subst (λ (rs : List SourceRow). c.args.row.now.source < length rs) (sym same) c.requires in
-    let slots : c.from-period.result ≡ 2 ^ c.in-Some.period = c.from-period.ensures ∙ c.slots.ensures.value in
+    let slots : c.from.result ≡ 2 ^ c.in_ok-period.period = c.from.ensures ∙ c.slots.ensures.value in
     record {
       source = c.index-sources-row.result;
       there = ap (λ (rs : List SourceRow). slice_get rs c.args.row.now.source) (sym same) ∙ read_is rows c.args.row.now.source c.index-sources-row.result below c.index-sources-row.is;
-      name = c.in_ok-source.ensures ∙ ap (λ (s : SourceRow). s.name) (sym c.index-sources-row.is);
-      period = subst (IsGridPeriod c.args.row.now.min_us c.args.row.now.max_us c.args.rate) (sym slots) c.in-Some.ensures;
-      hold = c.to_u64-hold.ensures;
+      name = ap (λ (s : SourceRow). s.name) (sym c.index-sources-row.is);
+      period = subst (IsGridPeriod c.args.row.now.min_us c.args.row.now.max_us c.args.rate) (sym slots) c.in_ok-period.ensures;
+      hold = c.to_u64.ensures;
     }

@@ -17,7 +17,7 @@ returns-in-None-clause-fault c =
     let e : TableRecord = c.args.equipment.now in
     let rows : List OutputRow = c.outputs-rows.result.now in
     let row : OutputRow = get_or rows c.loop-output.output blank in
-    let unfit : HasNoGridPeriod row.min_us row.max_us c.args.rate = subst (λ (found : Option DueOutput). MatchOption found (HasNoGridPeriod row.min_us row.max_us c.args.rate) (IsDueOutput e c.args.rate row)) c.in-None.is c.in_ok-due.ensures in (
+    let unfit : HasNoGridPeriod row.min_us row.max_us c.args.rate = subst (λ (found : Option DueOutput). MatchOption found (HasNoGridPeriod row.min_us row.max_us c.args.rate) (IsDueOutput e c.args.rate row)) c.in-None.is c.due_output.ensures in (
       refl,
       (
         rows,
@@ -37,6 +37,6 @@ loop-output-preserved c =
     let rows : List OutputRow = c.outputs-rows.result.now in
     let row : OutputRow = get_or rows c.loop-output.output blank in
     let there : slice_get rows c.loop-output.output ≡ Some row = slice_get-get_or rows c.loop-output.output blank (omega arith) in
-    let is_due : IsDueOutput e c.args.rate row c.in-Some.due = subst (λ (found : Option DueOutput). MatchOption found (HasNoGridPeriod row.min_us row.max_us c.args.rate) (IsDueOutput e c.args.rate row)) c.in-Some.is c.in_ok-due.ensures in
+    let is_due : IsDueOutput e c.args.rate row c.in-Some.due = subst (λ (found : Option DueOutput). MatchOption found (HasNoGridPeriod row.min_us row.max_us c.args.rate) (IsDueOutput e c.args.rate row)) c.in-Some.is c.due_output.ensures in
     subst (λ (os : List DueOutput). AllZip (IsDueOutput e c.args.rate) (take (c.loop-output.output + 1) rows) os) (sym c.in_ok-push-in-Some.ensures.items)
     (zip_next (IsDueOutput e c.args.rate) rows c.loop-output.outputs.items c.loop-output.output row c.in-Some.due there c.loop-output.invariant is_due)
