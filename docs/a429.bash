@@ -12,6 +12,7 @@ icd       Print the data of each output for an interface control document
 margin    Show what would save a bus in each group
 load      Print the load of each bus, and how many more outputs it can take
 slots     Print the slot tables of a plan: each cell with its output
+buses     Print which words each input bus and each output bus carries
 lint      Report likely mistakes in a table, such as sources that are not sent
 diff      Print what changes when one table replaces another
 draw      Draw the slot tables of a plan as an image (SVG)
@@ -46,10 +47,11 @@ _a429() {
         margin) options="--csv --json $options" ;;
         load) options="--limit --csv --json $options" ;;
         slots) options="--group --all --c --csv --json $options" ;;
+        buses) options="--csv --json $options" ;;
         lint) options="--csv --json $options" ;;
         diff) options="--all --csv --json $options" ;;
         draw) options="--group --slots --width --html $options" ;;
-        simulate) options="--time --from --channel --until --summary --csv --json $options" ;;
+        simulate) options="--time --from --channel --until --sent --summary --csv --json $options" ;;
         survey) options="--time --from --channel --rate --rows --slack --csv --json $options" ;;
         judge) options="--in --tolerance --events --time --from --channel --csv --json $options" ;;
         # end of options

@@ -10,7 +10,7 @@ use Rattle.clap.specs.Simple.{filled, with_index}
 use Rattle.clap.specs.Takes.{default_passes}
 use Rattle.clap.specs.Walk.{arg_by_id, arg_by_index}
 use Rattle.clap.proofs.OnLiterals.{clap_on_literals}
-use Rattle.a429_arguments.specs.CommandLine.{All, AsText, Bcd, Bits, Bnr, Channels, Code, Csv, Data, Events, From, Group, Html, Inputs, Json, Limit, MakesNames, Maps, OptionName, Rate, Rows, Sdi, Slack, Slots, Ssm, Summary, Time, Tolerance, Until, Width, command_line, many_rule, number_rule, options_of, required_rule, row_app, row_of}
+use Rattle.a429_arguments.specs.CommandLine.{All, AsText, Bcd, Bits, Bnr, Channels, Code, Csv, Data, Events, From, Group, Html, Inputs, Json, Limit, MakesNames, Maps, OptionName, Rate, Rows, Sdi, Sent, Slack, Slots, Ssm, Summary, Time, Tolerance, Until, Width, command_line, many_rule, number_rule, options_of, required_rule, row_app, row_of}
 use Rattle.a429_arguments.specs.declared.forms.Verb.{Verb}
 use Rattle.a429_arguments.specs.declared.forms.Verb.TheVariants as verb
 use Rattle.a429_arguments.proofs.CommandWords.{IsNamed, leaf}
@@ -115,7 +115,7 @@ plain_parts s all =
     }
 
 abbrev pub all_options : List OptionName
-all_options = Csv ∷ Json ∷ All ∷ Group ∷ Slots ∷ Width ∷ Html ∷ Time ∷ From ∷ Until ∷ Summary ∷ Code ∷ Limit ∷ Rate ∷ Rows ∷ Slack ∷ Inputs ∷ Channels ∷ Maps ∷ AsText ∷ MakesNames ∷ Tolerance ∷ Events ∷ Sdi ∷ Ssm ∷ Data ∷ Bnr ∷ Bits ∷ Bcd ∷ []
+all_options = Csv ∷ Json ∷ All ∷ Group ∷ Slots ∷ Width ∷ Html ∷ Time ∷ From ∷ Until ∷ Sent ∷ Summary ∷ Code ∷ Limit ∷ Rate ∷ Rows ∷ Slack ∷ Inputs ∷ Channels ∷ Maps ∷ AsText ∷ MakesNames ∷ Tolerance ∷ Events ∷ Sdi ∷ Ssm ∷ Data ∷ Bnr ∷ Bits ∷ Bcd ∷ []
 
 -- no two arguments have one id
 abbrev pub ids_are_new : Verb → List (Rule × Text) → Bool
@@ -178,6 +178,7 @@ by_name verb.Icd verb.Icd is = refl
 by_name verb.Margin verb.Margin is = refl
 by_name verb.Load verb.Load is = refl
 by_name verb.Slots verb.Slots is = refl
+by_name verb.Buses verb.Buses is = refl
 by_name verb.Lint verb.Lint is = refl
 by_name verb.Diff verb.Diff is = refl
 by_name verb.Draw verb.Draw is = refl
@@ -205,11 +206,12 @@ module _ (first second third number : Text) where
   facts verb.Margin = known (record { met = refl; leads = refl; label = refl; no_help = refl }) (refl, refl, tt) tt (refl, refl, (refl, refl, tt)) (inl refl, (inr (Csv, refl, refl, refl, refl), (inr (Json, refl, refl, refl, refl), (inl refl, tt)))) refl
   facts verb.Load = known (record { met = refl; leads = refl; label = refl; no_help = refl }) (refl, refl, tt) tt (refl, refl, (refl, refl, (refl, refl, tt))) (inl refl, (inl refl, (inr (Csv, refl, refl, refl, refl), (inr (Json, refl, refl, refl, refl), (inl refl, tt))))) refl
   facts verb.Slots = known (record { met = refl; leads = refl; label = refl; no_help = refl }) (refl, refl, tt) tt (refl, refl, (refl, refl, (refl, refl, (refl, refl, (refl, refl, tt))))) (inl refl, (inl refl, (inr (All, refl, refl, refl, refl), (inr (Code, refl, refl, refl, refl), (inr (Csv, refl, refl, refl, refl), (inr (Json, refl, refl, refl, refl), (inl refl, tt))))))) refl
+  facts verb.Buses = known (record { met = refl; leads = refl; label = refl; no_help = refl }) (refl, refl, tt) tt (refl, refl, (refl, refl, tt)) (inl refl, (inr (Csv, refl, refl, refl, refl), (inr (Json, refl, refl, refl, refl), (inl refl, tt)))) refl
   facts verb.Lint = known (record { met = refl; leads = refl; label = refl; no_help = refl }) (refl, refl, tt) tt (refl, refl, (refl, refl, tt)) (inl refl, (inr (Csv, refl, refl, refl, refl), (inr (Json, refl, refl, refl, refl), (inl refl, tt)))) refl
   facts verb.Diff = known (record { met = refl; leads = refl; label = refl; no_help = refl }) (refl, refl, (refl, refl, tt)) tt (refl, refl, (refl, refl, (refl, refl, tt))) (inl refl, (inl refl, (inr (All, refl, refl, refl, refl), (inr (Csv, refl, refl, refl, refl), (inr (Json, refl, refl, refl, refl), (inl refl, tt)))))) refl
   facts verb.Draw = known (record { met = refl; leads = refl; label = refl; no_help = refl }) (refl, refl, tt) tt (refl, refl, (refl, refl, (refl, refl, (refl, refl, tt)))) (inl refl, (inl refl, (inl refl, (inl refl, (inr (Html, refl, refl, refl, refl), (inl refl, tt)))))) refl
   facts verb.Replay = known (record { met = refl; leads = refl; label = refl; no_help = refl }) (refl, refl, (refl, refl, tt)) (refl, refl) tt (inl refl, (inl refl, (inl refl, (inl refl, tt)))) refl
-  facts verb.Simulate = known (record { met = refl; leads = refl; label = refl; no_help = refl }) (refl, refl, (refl, refl, tt)) (refl, refl) (refl, refl, (refl, refl, (refl, refl, (refl, refl, (refl, refl, (refl, refl, (refl, refl, tt))))))) (inl refl, (inl refl, (inl refl, (inl refl, (inl refl, (inl refl, (inl refl, (inr (Summary, refl, refl, refl, refl), (inr (Csv, refl, refl, refl, refl), (inr (Json, refl, refl, refl, refl), (inl refl, tt))))))))))) refl
+  facts verb.Simulate = known (record { met = refl; leads = refl; label = refl; no_help = refl }) (refl, refl, (refl, refl, tt)) (refl, refl) (refl, refl, (refl, refl, (refl, refl, (refl, refl, (refl, refl, (refl, refl, (refl, refl, (refl, refl, tt)))))))) (inl refl, (inl refl, (inl refl, (inl refl, (inl refl, (inl refl, (inl refl, (inr (Sent, refl, refl, refl, refl), (inr (Summary, refl, refl, refl, refl), (inr (Csv, refl, refl, refl, refl), (inr (Json, refl, refl, refl, refl), (inl refl, tt)))))))))))) refl
   facts verb.Survey = known (record { met = refl; leads = refl; label = refl; no_help = refl }) (refl, refl, tt) (refl, refl) (refl, refl, (refl, refl, (refl, refl, (refl, refl, (refl, refl, (refl, refl, (refl, refl, (refl, refl, tt)))))))) (inl refl, (inl refl, (inl refl, (inl refl, (inl refl, (inl refl, (inr (Rows, refl, refl, refl, refl), (inl refl, (inr (Csv, refl, refl, refl, refl), (inr (Json, refl, refl, refl, refl), (inl refl, tt))))))))))) refl
   facts verb.Judge = known (record { met = refl; leads = refl; label = refl; no_help = refl }) (refl, refl, (refl, refl, (refl, refl, tt))) (refl, refl) (refl, refl, (refl, refl, (refl, refl, (refl, refl, (refl, refl, (refl, refl, (refl, refl, (refl, refl, tt)))))))) (inl refl, (inl refl, (inl refl, (inl refl, (inl refl, (inl refl, (inr (Events, refl, refl, refl, refl), (inl refl, (inl refl, (inl refl, (inr (Csv, refl, refl, refl, refl), (inr (Json, refl, refl, refl, refl), (inl refl, tt))))))))))))) refl
   facts verb.Live = known (record { met = refl; leads = refl; label = refl; no_help = refl }) (refl, refl, (refl, refl, (refl, refl, tt))) (refl, refl) tt (inl refl, (inl refl, (inl refl, (inl refl, (inl refl, tt))))) refl

@@ -86,12 +86,12 @@ name_is None default text is = absurd (cc is)
 name_is (Some t) default text is = same_Some t.now text is
 
 -- what is given of the options is read as it
-pub options_are : (o : OptionBytes) (f : SheetForm) (all html summary code rows events text names : Bool) (group : Option Text) (slots width : Option ℕ) (time : TimeUnit) (from : LogOrigin) (until limit rate slack tolerance : Option ℕ) (fields : FieldBytes) → f ≡ o.form → all ≡ o.all
-    → group ≡ o.group → slots ≡ o.slots → width ≡ o.width → html ≡ o.html → time ≡ o.time → from ≡ o.from → until ≡ o.until → summary ≡ o.summary → code ≡ o.code → limit ≡ o.limit → rate ≡ o.rate → rows ≡ o.rows
+pub options_are : (o : OptionBytes) (f : SheetForm) (all html sent summary code rows events text names : Bool) (group : Option Text) (slots width : Option ℕ) (time : TimeUnit) (from : LogOrigin) (until limit rate slack tolerance : Option ℕ) (fields : FieldBytes) → f ≡ o.form → all ≡ o.all
+    → group ≡ o.group → slots ≡ o.slots → width ≡ o.width → html ≡ o.html → time ≡ o.time → from ≡ o.from → until ≡ o.until → sent ≡ o.sent → summary ≡ o.summary → code ≡ o.code → limit ≡ o.limit → rate ≡ o.rate → rows ≡ o.rows
     → slack ≡ o.slack → tolerance ≡ o.tolerance → events ≡ o.events → text ≡ o.text → names ≡ o.names → fields ≡ o.fields
-    → record { form = f; all = all; group = group; slots = slots; width = width; html = html; time = time; from = from; until = until; summary = summary; code = code; limit = limit; rate = rate; rows = rows; slack = slack; tolerance = tolerance; events = events; text = text; names = names; fields = fields } ≡ o
-options_are o f all html summary code rows events text names group slots width time from until limit rate slack tolerance fields a b c d e g t u h i j k m n p q r s v l =
-    rw (a, b, c, d, e, g, t, u, h, i, j, k, m, n, p, q, r, s, v, l) refl
+    → record { form = f; all = all; group = group; slots = slots; width = width; html = html; time = time; from = from; until = until; sent = sent; summary = summary; code = code; limit = limit; rate = rate; rows = rows; slack = slack; tolerance = tolerance; events = events; text = text; names = names; fields = fields } ≡ o
+options_are o f all html sent summary code rows events text names group slots width time from until limit rate slack tolerance fields a b c d e g t u h w i j k m n p q r s v l =
+    rw (a, b, c, d, e, g, t, u, h, w, i, j, k, m, n, p, q, r, s, v, l) refl
 
 -- and of the fields of a word
 pub fields_are : (f : FieldBytes) (sdi ssm bits : Option ℕ) (hex bnr bcd : Option Text) → sdi ≡ f.sdi → ssm ≡ f.ssm → hex ≡ f.hex → bnr ≡ f.bnr → bits ≡ f.bits → bcd ≡ f.bcd

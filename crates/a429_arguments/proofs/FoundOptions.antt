@@ -8,9 +8,9 @@ use Rattle.std.proofs.lemmas.Bool.{and_parts, or_parts}
 use Rattle.std.proofs.lemmas.Slice.Eq.{bytes_eq-Decides}
 use Rattle.clap.specs.Words.{Row, Rule, Text, first_of, one_of}
 use Rattle.clap.specs.Walk.{has_row}
-use Rattle.a429_arguments.specs.CommandLine.{All, AsText, Bcd, Bits, Bnr, Channels, Code, Csv, Data, Events, From, Group, Html, Inputs, Json, Limit, MakesNames, Maps, OptionName, Rate, Rows, Sdi, Slack, Slots, Ssm, Summary, Time, Tolerance, Until, Width, last_time, least_rate, most_bits, most_pair, most_percent, most_rate, most_slack, most_slots, most_tolerance, options_of, row_of}
+use Rattle.a429_arguments.specs.CommandLine.{All, AsText, Bcd, Bits, Bnr, Channels, Code, Csv, Data, Events, From, Group, Html, Inputs, Json, Limit, MakesNames, Maps, OptionName, Rate, Rows, Sdi, Sent, Slack, Slots, Ssm, Summary, Time, Tolerance, Until, Width, last_time, least_rate, most_bits, most_pair, most_percent, most_rate, most_slack, most_slots, most_tolerance, options_of, row_of}
 use Rattle.a429_arguments.specs.Requests.{AskedBytes, HasWords, OptionBytes, flag_word, has_one_value, has_option, is_csv, is_flag, is_json, origin_word, unit_word, word_given}
-use Rattle.a429_arguments.specs.RequestRows.{AreFields, AreOptions, form_of, is_set, is_value_given, lacks_csv, lacks_rows, number_of, origin_given, unit_given, values_of, width_given}
+use Rattle.a429_arguments.specs.RequestRows.{AreFields, AreOptions, form_of, has_other_form, is_set, is_value_given, lacks_csv, lacks_rows, number_of, origin_given, unit_given, values_of, width_given}
 use Rattle.a429_text.specs.declared.sheets.SheetForm.{SheetForm}
 use Rattle.a429_text.specs.declared.sheets.SheetForm.TheVariants as form
 use Rattle.a429_arguments.specs.declared.forms.Verb.{Verb}
@@ -72,6 +72,11 @@ lines_of _ summary all = refl
 widened_of : (slack : Option Text) (rows : Bool) → (is_some slack ≡ true → rows ≡ true) → (is_some slack && not rows) ≡ false
 widened_of None rows asked = refl
 widened_of (Some text) rows asked = rw (asked refl) refl
+
+-- a log of sent words is asked for in no other form, and without a summary
+logged_of : (f : SheetForm) (sent summary : Bool) → (sent ≡ true → (f ≡ form.Columns) × (summary ≡ false)) → (sent && (is_csv f || (is_json f || summary))) ≡ false
+logged_of f false summary asked = refl
+logged_of f true summary asked = rw ((asked refl).0, (asked refl).1) refl
 
 -- labels as texts are asked for only in comma-separated values
 separated_of : (f : SheetForm) (text : Bool) → (text ≡ true → f ≡ form.Csv) → (text && not (is_csv f)) ≡ false
@@ -202,6 +207,15 @@ module _ (r : AskedBytes) (us : List (Rule × Text)) (f : Facts r.verb us) (has 
       rw (flag_field AsText r.options.text refl, flag_field Csv (is_csv r.options.form) refl)
       (separated_of r.options.form r.options.text has.separated)
 
+  one_form_is_had : has_other_form end_rows ≡ false
+  one_form_is_had =
+      rw (
+        flag_field Sent r.options.sent refl,
+        flag_field Csv (is_csv r.options.form) refl,
+        flag_field Json (is_json r.options.form) refl,
+        flag_field Summary r.options.summary refl,
+      ) (logged_of r.options.form r.options.sent r.options.summary has.logged)
+
   -- no option is given several times
   none_repeated : (name : OptionName) → is_flag name ≡ false → word_given r.options name ≡ None → values_of (id_of name) end_rows ≡ []
   none_repeated name value is = rw (value_row name None value is) refl
@@ -222,6 +236,7 @@ module _ (r : AskedBytes) (us : List (Rule × Text)) (f : Facts r.verb us) (has 
     until =
         ap (number_of 0 last_time) (one_field Until (option_map decimal r.options.until) refl refl)
         ∙ number_of_decimal 0 last_time r.options.until (omega arith) (from_zero last_time r.options.until (has.options Until));
+    sent = flag_field Sent r.options.sent refl;
     summary = flag_field Summary r.options.summary refl;
     code = flag_field Code r.options.code refl;
     limit =
@@ -241,7 +256,7 @@ module _ (r : AskedBytes) (us : List (Rule × Text)) (f : Facts r.verb us) (has 
     fields = fields_are_read;
     text = flag_field AsText r.options.text refl;
     names = flag_field MakesNames r.options.names refl;
-    taken = rw (made_of v (is_value_given end_rows) (λ made. value_is ∙ has.encoded made), rows_are_had, csv_is_had, none_repeated Channels refl refl, none_repeated Maps refl refl) refl;
+    taken = rw (made_of v (is_value_given end_rows) (λ made. value_is ∙ has.encoded made), rows_are_had, csv_is_had, none_repeated Channels refl refl, none_repeated Maps refl refl, one_form_is_had) refl;
   }
 
   -- ---- the other values

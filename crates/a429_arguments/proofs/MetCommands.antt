@@ -1,5 +1,5 @@
 -- The command that was met among the words: what its name and its rows say of the request.
-use Rattle.std.proofs.Common.{◌≡◌, ◌∙◌, ap, codes, refl, sym, true, Bool, List}
+use Rattle.std.proofs.Common.{◌≡◌, ◌∙◌, ap, codes, refl, sym, Bool, List}
 use Rattle.std.specs.Prelude.{Option, Some, None, option_map}
 use Rattle.std.specs.Str.{bytes_eq}
 use Rattle.std.proofs.lemmas.Option.{same_Some}

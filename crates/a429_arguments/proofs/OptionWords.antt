@@ -8,7 +8,7 @@ use Rattle.clap.specs.Simple.{filled}
 use Rattle.clap.specs.Takes.{value_passes}
 use Rattle.clap.specs.Walk.{Held, Waiting, arg_by_id, arg_by_long, has_row, idle}
 use Rattle.clap.proofs.OnLiterals.{clap_on_literals}
-use Rattle.a429_arguments.specs.CommandLine.{All, AsText, Bcd, Bits, Bnr, Channels, Code, Csv, Data, Events, From, Group, Html, Inputs, Json, Limit, MakesNames, Maps, OptionName, Rate, Rows, Sdi, Slack, Slots, Ssm, Summary, Time, Tolerance, Until, Width, option_rule}
+use Rattle.a429_arguments.specs.CommandLine.{All, AsText, Bcd, Bits, Bnr, Channels, Code, Csv, Data, Events, From, Group, Html, Inputs, Json, Limit, MakesNames, Maps, OptionName, Rate, Rows, Sdi, Sent, Slack, Slots, Ssm, Summary, Time, Tolerance, Until, Width, option_rule}
 use Rattle.a429_arguments.specs.Requests.{OptionBytes, flag_word, is_csv, is_flag, is_json, option_words, word_given, words_of_options}
 use Rattle.a429_arguments.proofs.CommandWords.{row}
 use Rattle.a429_arguments.proofs.PlainWords.{IsPlainWord, TakesValues, at_word, for_none}
@@ -44,6 +44,7 @@ kind_of_option o Csv word given = record { range = refl; action = refl; reading 
 kind_of_option o Json word given = record { range = refl; action = refl; reading = refl; missing = refl; passes = refl }
 kind_of_option o All word given = record { range = refl; action = refl; reading = refl; missing = refl; passes = refl }
 kind_of_option o Html word given = record { range = refl; action = refl; reading = refl; missing = refl; passes = refl }
+kind_of_option o Sent word given = record { range = refl; action = refl; reading = refl; missing = refl; passes = refl }
 kind_of_option o Summary word given = record { range = refl; action = refl; reading = refl; missing = refl; passes = refl }
 kind_of_option o Code word given = record { range = refl; action = refl; reading = refl; missing = refl; passes = refl }
 kind_of_option o Rows word given = record { range = refl; action = refl; reading = refl; missing = refl; passes = refl }
@@ -64,6 +65,7 @@ same_option Html Html is = refl
 same_option Time Time is = refl
 same_option From From is = refl
 same_option Until Until is = refl
+same_option Sent Sent is = refl
 same_option Summary Summary is = refl
 same_option Code Code is = refl
 same_option Limit Limit is = refl
@@ -94,6 +96,7 @@ flag_is_true Csv o word flag given = flag_text (is_csv o.form) word given
 flag_is_true Json o word flag given = flag_text (is_json o.form) word given
 flag_is_true All o word flag given = flag_text o.all word given
 flag_is_true Html o word flag given = flag_text o.html word given
+flag_is_true Sent o word flag given = flag_text o.sent word given
 flag_is_true Summary o word flag given = flag_text o.summary word given
 flag_is_true Code o word flag given = flag_text o.code word given
 flag_is_true Rows o word flag given = flag_text o.rows word given

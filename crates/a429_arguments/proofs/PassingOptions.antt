@@ -6,7 +6,7 @@ use Rattle.std.specs.Str.{bytes_eq}
 use Rattle.std.proofs.lemmas.Bool.{eqb-true}
 use Rattle.clap.specs.ValueTests.{is_unsigned_in}
 use Rattle.clap.specs.Words.{Text}
-use Rattle.a429_arguments.specs.CommandLine.{All, AsText, Bcd, Bits, Bnr, Channels, Code, Csv, Data, Events, From, Group, Html, Inputs, Json, Limit, MakesNames, Maps, OptionName, Rate, Rows, Sdi, Slack, Slots, Ssm, Summary, Time, Tolerance, Until, Width, last_time, least_rate, most_bits, most_pair, most_percent, most_rate, most_slack, most_slots, most_tolerance}
+use Rattle.a429_arguments.specs.CommandLine.{All, AsText, Bcd, Bits, Bnr, Channels, Code, Csv, Data, Events, From, Group, Html, Inputs, Json, Limit, MakesNames, Maps, OptionName, Rate, Rows, Sdi, Sent, Slack, Slots, Ssm, Summary, Time, Tolerance, Until, Width, last_time, least_rate, most_bits, most_pair, most_percent, most_rate, most_slack, most_slots, most_tolerance}
 use Rattle.a429_arguments.specs.Requests.{CanBeGiven, IsName, IsOrigin, IsWidth, OptionBytes, flag_word, is_csv, is_json, last_origin, origin_word, unit_word, word_given}
 use Rattle.a429_arguments.specs.RequestRows.{origin_given, unit_given, width_given}
 use Rattle.a429_arguments.specs.declared.times.LogOrigin.{LogOrigin}
@@ -68,6 +68,7 @@ words_pass o can Html = flag_passes o.html
 words_pass o can Time = unit_passes o.time
 words_pass o can From = origin_passes o.from (can From)
 words_pass o can Until = number_passes 0 last_time o.until (omega arith) (from_zero last_time o.until (can Until))
+words_pass o can Sent = flag_passes o.sent
 words_pass o can Summary = flag_passes o.summary
 words_pass o can Code = flag_passes o.code
 words_pass o can Limit = number_passes 1 most_percent o.limit (omega arith) (can Limit)

@@ -91,6 +91,7 @@ pub data OptionName : Type 0 where
   Time : OptionName
   From : OptionName
   Until : OptionName
+  Sent : OptionName
   Summary : OptionName
   Code : OptionName
   Limit : OptionName
@@ -122,6 +123,7 @@ option_rule Html = flag_rule (codes "html")
 option_rule Time = value_rule (codes "time")
 option_rule From = value_rule (codes "from")
 option_rule Until = number_value_rule (codes "until") 0 last_time
+option_rule Sent = flag_rule (codes "sent")
 option_rule Summary = flag_rule (codes "summary")
 option_rule Code = flag_rule (codes "c")
 option_rule Limit = number_value_rule (codes "limit") 1 most_percent
@@ -152,10 +154,11 @@ options_of verb.Icd = Csv ∷ AsText ∷ Json ∷ []
 options_of verb.Margin = Csv ∷ Json ∷ []
 options_of verb.Load = Limit ∷ Csv ∷ Json ∷ []
 options_of verb.Slots = Group ∷ All ∷ Code ∷ Csv ∷ Json ∷ []
+options_of verb.Buses = Csv ∷ Json ∷ []
 options_of verb.Lint = Csv ∷ Json ∷ []
 options_of verb.Diff = All ∷ Csv ∷ Json ∷ []
 options_of verb.Draw = Group ∷ Slots ∷ Width ∷ Html ∷ []
-options_of verb.Simulate = Time ∷ From ∷ Channels ∷ Until ∷ Summary ∷ Csv ∷ Json ∷ []
+options_of verb.Simulate = Time ∷ From ∷ Channels ∷ Until ∷ Sent ∷ Summary ∷ Csv ∷ Json ∷ []
 options_of verb.Survey = Time ∷ From ∷ Channels ∷ Rate ∷ Rows ∷ Slack ∷ Csv ∷ Json ∷ []
 options_of verb.Judge = Inputs ∷ Tolerance ∷ Events ∷ Time ∷ From ∷ Channels ∷ Csv ∷ Json ∷ []
 options_of _ = []
@@ -189,6 +192,7 @@ row_of verb.Icd = with_table verb.Icd (codes "icd")
 row_of verb.Margin = with_table verb.Margin (codes "margin")
 row_of verb.Load = with_table verb.Load (codes "load")
 row_of verb.Slots = with_table verb.Slots (codes "slots")
+row_of verb.Buses = with_table verb.Buses (codes "buses")
 row_of verb.Lint = with_table verb.Lint (codes "lint")
 row_of verb.Diff = record (with_table verb.Diff (codes "diff")) { second = Some (codes "OTHER") }
 row_of verb.Draw = with_table verb.Draw (codes "draw")
@@ -203,8 +207,8 @@ row_of verb.Live =
 -- all of them, in the order in which help lists them
 abbrev pub verbs : List Verb
 verbs =
-    verb.Word ∷ verb.Encode ∷ verb.Lines ∷ verb.Import ∷ verb.Plan ∷ verb.Check ∷ verb.Icd ∷ verb.Margin ∷ verb.Load ∷ verb.Slots ∷ verb.Lint ∷ verb.Diff ∷ verb.Draw
-    ∷ verb.Replay ∷ verb.Simulate ∷ verb.Survey ∷ verb.Judge ∷ verb.Live ∷ []
+    verb.Word ∷ verb.Encode ∷ verb.Lines ∷ verb.Import ∷ verb.Plan ∷ verb.Check ∷ verb.Icd ∷ verb.Margin ∷ verb.Load ∷ verb.Slots ∷ verb.Buses ∷ verb.Lint ∷ verb.Diff
+    ∷ verb.Draw ∷ verb.Replay ∷ verb.Simulate ∷ verb.Survey ∷ verb.Judge ∷ verb.Live ∷ []
 
 -- ---- the command line
 

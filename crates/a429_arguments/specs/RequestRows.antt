@@ -108,9 +108,15 @@ lacks_option rows = lacks_rows rows || lacks_csv rows
 abbrev pub has_wrong_rename : List Row → Bool
 has_wrong_rename rows = has_wrong_renames (codes "channel") rows || has_wrong_renames (codes "map") rows
 
+-- a log of sent words is asked for, and another form or a summary
+abbrev pub has_other_form : List Row → Bool
+has_other_form rows =
+    is_set (one_of (codes "sent") rows)
+    && (is_set (one_of (codes "csv") rows) || (is_set (one_of (codes "json") rows) || is_set (one_of (codes "summary") rows)))
+
 -- what is given to a command of this name does not go together, or a text FROM=TO is wrong
 abbrev pub are_refused : Text → List Row → Bool
-are_refused name rows = lacks_value name rows || (lacks_option rows || has_wrong_rename rows)
+are_refused name rows = lacks_value name rows || (lacks_option rows || (has_wrong_rename rows || has_other_form rows))
 
 -- the choices, if each of them is there
 abbrev pub choices_of : Option (Option ℕ) → Option TimeUnit → Option LogOrigin → Option SheetForm → Option Choices
@@ -147,6 +153,7 @@ pub record AreOptions (name : Text) (rows : List Row) (o : OptionBytes) : Type 0
   pub time : unit_given (first_of (codes "time") rows) ≡ Some o.time
   pub from : origin_given (first_of (codes "from") rows) ≡ Some o.from
   pub until : number_of 0 last_time (one_of (codes "until") rows) ≡ Some o.until
+  pub sent : is_set (one_of (codes "sent") rows) ≡ o.sent
   pub summary : is_set (one_of (codes "summary") rows) ≡ o.summary
   pub code : is_set (one_of (codes "c") rows) ≡ o.code
   pub limit : number_of 1 most_percent (one_of (codes "limit") rows) ≡ Some o.limit

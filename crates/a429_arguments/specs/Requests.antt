@@ -8,7 +8,7 @@ use Rattle.clap.specs.declared.builder.action.ArgAction.{ArgAction}
 use Rattle.clap.specs.declared.builder.action.ArgAction.TheVariants.{SetTrue}
 use Rattle.clap.specs.declared.error.Error.{Error}
 use Rattle.clap.specs.declared.error.kind.ErrorKind.TheVariants.{OutOfMemory}
-use Rattle.a429_arguments.specs.CommandLine.{All, AsText, Bcd, Bits, Bnr, Channels, Code, Csv, Data, Events, From, Group, Html, Inputs, Json, Limit, MakesNames, Maps, OptionName, Rate, Rows, Sdi, Slack, Slots, Ssm, Summary, Time, Tolerance, Until, Width, last_time, least_rate, most_bits, most_pair, most_percent, most_rate, most_slack, most_slots, most_tolerance, option_rule, options_of, row_of}
+use Rattle.a429_arguments.specs.CommandLine.{All, AsText, Bcd, Bits, Bnr, Channels, Code, Csv, Data, Events, From, Group, Html, Inputs, Json, Limit, MakesNames, Maps, OptionName, Rate, Rows, Sdi, Sent, Slack, Slots, Ssm, Summary, Time, Tolerance, Until, Width, last_time, least_rate, most_bits, most_pair, most_percent, most_rate, most_slack, most_slots, most_tolerance, option_rule, options_of, row_of}
 use Rattle.a429_arguments.specs.Texts.{texts_of}
 use Rattle.a429_text.specs.declared.sheets.SheetForm.{SheetForm}
 use Rattle.a429_text.specs.declared.sheets.SheetForm.TheVariants as form
@@ -50,6 +50,8 @@ pub record OptionBytes : Type 0 where
   pub from : LogOrigin
   -- until when cells are asked for, in microseconds
   pub until : Option ℕ
+  -- only the words that are sent, as lines of a log
+  pub sent : Bool
   -- one line for each output, instead of one for each word
   pub summary : Bool
   -- a header for C, instead of rows
@@ -101,6 +103,7 @@ no_options = record {
   time = unit.Microseconds;
   from = origin.Time 0;
   until = None;
+  sent = false;
   summary = false;
   code = false;
   limit = None;
@@ -168,6 +171,7 @@ word_given o Html = flag_word o.html
 word_given o Time = unit_word o.time
 word_given o From = origin_word o.from
 word_given o Until = option_map decimal o.until
+word_given o Sent = flag_word o.sent
 word_given o Summary = flag_word o.summary
 word_given o Code = flag_word o.code
 word_given o Limit = option_map decimal o.limit
@@ -292,6 +296,8 @@ pub record HasWords (r : AskedBytes) : Type 0 where
   pub options : (name : OptionName) → CanBeGiven r.options name
   -- the lines of `simulate` have no form as JSON
   pub summarized : r.verb ≡ verb.Simulate → is_json r.options.form ≡ true → r.options.summary ≡ true
+  -- a log of sent words has no other form, and no summary
+  pub logged : r.options.sent ≡ true → (r.options.form ≡ form.Columns) × (r.options.summary ≡ false)
   -- a header for C and rows for `import` have no other form
   pub coded : r.options.code || r.options.rows ≡ true → r.options.form ≡ form.Columns
   -- only the intervals of rows for `import` are widened
@@ -325,6 +331,7 @@ given_of o = record {
   time = o.time;
   from = o.from;
   until = o.until;
+  sent = o.sent;
   summary = o.summary;
   code = o.code;
   limit = o.limit;

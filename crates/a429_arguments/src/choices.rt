@@ -4,10 +4,10 @@ ghost use Rattle.std.specs.List.{list_all};
 ghost use Rattle.a429_arguments.specs.Requests.{is_one_alone};
 ghost use Rattle.a429_text.specs.Renames.{is_rename};
 ghost use Rattle.clap.specs.Words.{first_of, found_of, one_of, rows_of};
-ghost use Rattle.a429_arguments.specs.RequestRows.{are_refused, are_renames, choices_given, form_given, form_of, has_wrong_renames, is_set, is_value_given, lacks_csv, lacks_option, has_wrong_rename, lacks_rows, lacks_value, width_given};
+ghost use Rattle.a429_arguments.specs.RequestRows.{are_refused, are_renames, choices_given, form_given, form_of, has_other_form, has_wrong_renames, is_set, is_value_given, lacks_csv, lacks_option, has_wrong_rename, lacks_rows, lacks_value, width_given};
 
 use crate::options::{
-    BCD, BITS, BNR, CHANNEL, CODE, CSV, DATA, JSON, MAP, ROWS, SLACK, SUMMARY, TEXT, WIDTH,
+    BCD, BITS, BNR, CHANNEL, CODE, CSV, DATA, JSON, MAP, ROWS, SENT, SLACK, SUMMARY, TEXT, WIDTH,
 };
 use crate::times::{LogOrigin, origin_given, unit_given};
 use a429_logs::TimeUnit;
@@ -250,6 +250,19 @@ fn renames_given(found: &ArgMatches<'_>) -> Result<(), &'static str>
     maps_given(found)
 }
 
+/// Whether a log of sent words is asked for in no other form, and without a summary. The error says what is wrong.
+fn sent_given(found: &ArgMatches<'_>) -> Result<(), &'static str>
+    ensures given { IfOk result (λ _. has_other_form (rows_of (found_of found.now)) ≡ false) }
+    ensures none { IfErr result (λ _. has_other_form (rows_of (found_of found.now)) ≡ true) }
+{
+    if is_given(found, SENT.id)
+        && (is_given(found, CSV.id) || is_given(found, JSON.id) || is_given(found, SUMMARY.id))
+    {
+        return Err("'--sent' cannot be used with '--csv', '--json' or '--summary'");
+    }
+    Ok(())
+}
+
 /// Whether all that is given goes together, and each text FROM=TO has its form. The error says what is wrong.
 fn all_given(name: &str, found: &ArgMatches<'_>) -> Result<(), &'static str>
     ensures given { IfOk result (λ _. are_refused name.now (rows_of (found_of found.now)) ≡ false) }
@@ -257,7 +270,8 @@ fn all_given(name: &str, found: &ArgMatches<'_>) -> Result<(), &'static str>
 {
     value_if_made(name, found)?;
     needed_given(found)?;
-    renames_given(found)
+    renames_given(found)?;
+    sent_given(found)
 }
 
 /// What is chosen of the command of this name. The error says what is wrong.

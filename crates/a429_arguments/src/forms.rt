@@ -7,7 +7,7 @@ ghost use Rattle.a429_arguments.specs.CommandLine.{IsRow, form_row, row_of, verb
 use crate::help;
 use crate::options::{
     ALL, ALL_CELLS, BCD, BITS, BNR, CHANNEL, CODE, CSV, DATA, EVENTS, FROM, GROUP, HTML, IN, JSON,
-    LIMIT, MAP, NAMES, RATE, ROWS, SDI, SLACK, SLOTS, SSM, SUMMARY, SUMMARY_JSON, TEXT, TIME,
+    LIMIT, MAP, NAMES, RATE, ROWS, SDI, SENT, SLACK, SLOTS, SSM, SUMMARY, SUMMARY_JSON, TEXT, TIME,
     TOLERANCE, UNTIL, WIDTH,
 };
 use a429_equipment::FRAMES;
@@ -25,6 +25,7 @@ pub enum Verb {
     Margin,
     Load,
     Slots,
+    Buses,
     Lint,
     Diff,
     Draw,
@@ -121,7 +122,7 @@ const OF_TABLE: CommandForm = CommandForm {
     options: &[],
 };
 
-static COMMANDS: [CommandForm; 18] = [
+static COMMANDS: [CommandForm; 19] = [
     CommandForm {
         verb: Verb::Word,
         name: "word",
@@ -185,6 +186,12 @@ static COMMANDS: [CommandForm; 18] = [
         ..OF_TABLE
     },
     CommandForm {
+        verb: Verb::Buses,
+        name: "buses",
+        options: &[CSV, JSON],
+        ..OF_TABLE
+    },
+    CommandForm {
         verb: Verb::Lint,
         name: "lint",
         options: &[CSV, JSON],
@@ -215,7 +222,7 @@ static COMMANDS: [CommandForm; 18] = [
         name: "simulate",
         second: Some(name!("LOG", help::LOG)),
         more: Some(name!("LOGS", help::LOGS)),
-        options: &[TIME, FROM, CHANNEL, UNTIL, SUMMARY, CSV, SUMMARY_JSON],
+        options: &[TIME, FROM, CHANNEL, UNTIL, SENT, SUMMARY, CSV, SUMMARY_JSON],
         ..OF_TABLE
     },
     CommandForm {

@@ -22,6 +22,7 @@ pub fn help_of(verb: Verb) -> CommandHelp {
         Verb::Margin => (MARGIN, MARGIN_END),
         Verb::Load => (LOAD, LOAD_END),
         Verb::Slots => (SLOTS, SLOTS_END),
+        Verb::Buses => (BUSES, BUSES_END),
         Verb::Lint => (LINT, LINT_END),
         Verb::Diff => (DIFF, DIFF_END),
         Verb::Draw => (DRAW, DRAW_END),
@@ -207,6 +208,18 @@ The cells are in the order in which each group sends them in one frame.
 Example:
   a429 slots --group displays examples/displays/table.toml";
 
+pub const BUSES: &str = "Print which words each input bus and each output bus carries";
+
+pub const BUSES_END: &str = "\
+A row is a word on a bus.
+  direction           in: the bus of a receiver; out: a bus of a group
+  name, bus, rate     the receiver or the group, the bus from 0, its bit rate
+  label, sdi, source  the word, and its source
+  period_us           how often it goes out, in microseconds
+
+Example:
+  a429 buses examples/displays/table.toml";
+
 pub const LINT: &str = "Report likely mistakes in a table, such as sources that are not sent";
 
 pub const LINT_END: &str = "\
@@ -289,6 +302,8 @@ in --channel 3=adc-1; may be given again";
 pub const UNTIL: &str = "\
 Simulate until US
 [default: one frame after the last word]";
+
+pub const SENT: &str = "Only the words that are sent, as a log for `judge`";
 
 pub const SUMMARY: &str = "A row for each output instead of a line for each word";
 

@@ -1,9 +1,9 @@
 //! The arguments of the program `a429`: which commands there are, and what the arguments ask for.
 //!
 //! `forms` has a row for each command: its names, its options and its help. All else that depends on the commands of the
-//! program comes from these rows. `requests` reads what is asked for (`Asked`), and `given` the arguments that a system gives.
-//! `times` has the options for the times in a log. `laws` says that a request in its plain form is read as that request. It is
-//! for commands: a program that embeds the libraries does not need it.
+//! program comes from these rows. `requests` reads what is asked for (`Asked`), and `given` the arguments that a system gives;
+//! `memory` has arguments in memory. `times` has the options for the times in a log. `laws` says that a request in its plain
+//! form is read as that request. It is for commands: a program that embeds the libraries does not need it.
 //!
 //! ```text
 //! match parse(alloc, words) {
@@ -16,6 +16,7 @@ pub mod forms;
 pub mod given;
 mod help;
 pub mod laws;
+pub mod memory;
 mod options;
 pub mod requests;
 pub mod times;

@@ -125,6 +125,9 @@ pub const CHANNEL: OptionForm = texts!("channel", "FROM=TO", help::CHANNEL);
 /// `--until`
 pub const UNTIL: OptionForm = number!("until", "US", 0, LAST_TIME, help::UNTIL);
 
+/// `--sent`
+pub const SENT: OptionForm = flag!("sent", help::SENT);
+
 /// `--summary`
 pub const SUMMARY: OptionForm = flag!("summary", help::SUMMARY);
 

@@ -12,7 +12,7 @@ use crate::command_line::{build_command, words_error};
 use crate::forms::{CommandForm, NameForm, NumberForm, Verb, command_named};
 use crate::options::{
     ALL, BCD, BITS, BNR, CHANNEL, CODE, DATA, EVENTS, GROUP, HTML, IN, LIMIT, MAP, NAMES, RATE,
-    ROWS, SDI, SLACK, SLOTS, SSM, SUMMARY, TEXT, TOLERANCE, UNTIL,
+    ROWS, SDI, SENT, SLACK, SLOTS, SSM, SUMMARY, TEXT, TOLERANCE, UNTIL,
 };
 use crate::times::LogOrigin;
 use a429_logs::TimeUnit;
@@ -59,6 +59,8 @@ pub struct Options<'a> {
     pub from: LogOrigin,
     /// The last microsecond at which the slot of a cell may begin (`--until`). `None`: one frame after the last word.
     pub until: Option<u64>,
+    /// Only the words that are sent are printed, as lines of a log (`--sent`).
+    pub sent: bool,
     /// There is one row for each output, instead of one line for each word (`--summary`).
     pub summary: bool,
     /// A header for C is printed, instead of rows (`--c`).
@@ -263,6 +265,7 @@ fn options_in<'a>(found: &ArgMatches<'a>, choices: Choices) -> Options<'a>
         time: choices.time,
         from: choices.from,
         until: asked_time(found, UNTIL.id),
+        sent: is_given(found, SENT.id),
         summary: is_given(found, SUMMARY.id),
         code: is_given(found, CODE.id),
         limit: asked_number(found, LIMIT.id),

@@ -7,6 +7,7 @@ use Rattle.a429_arguments.specs.declared.forms.Verb.{Verb}
 use Rattle.a429_arguments.specs.declared.forms.Verb.TheVariants as verb
 use Rattle.a429_console.specs.declared.refusals.CommandRefusal.{CommandRefusal}
 use Rattle.a429_console.specs.declared.refusals.CommandRefusal.TheVariants as refused
+use Rattle.a429_documents.specs.Buses.{buses_columns, buses_rows}
 use Rattle.a429_documents.specs.Document.{icd_columns, icd_rows}
 use Rattle.a429_documents.specs.Margins.{IsMargin, margin_columns}
 use Rattle.a429_slots.specs.Proposed.{Proposed}
@@ -25,6 +26,7 @@ is_on_plan verb.Icd = true
 is_on_plan verb.Margin = true
 is_on_plan verb.Load = true
 is_on_plan verb.Slots = true
+is_on_plan verb.Buses = true
 is_on_plan verb.Draw = true
 is_on_plan _ = false
 
@@ -36,6 +38,7 @@ IsReplyOnPlan verb.Margin o q status text =
     ((rows : List (List Field)) × IsMargin q.station q.plan rows × (text ≡ sheet_text o.form margin_columns rows)) × (status ≡ 0)
 IsReplyOnPlan verb.Load o q status text = IsLoad q (limit_of o.limit) o.form status text
 IsReplyOnPlan verb.Slots o q status text = HasSlots (slots_form o) q o.group status text
+IsReplyOnPlan verb.Buses o q status text = (text ≡ sheet_text o.form buses_columns (buses_rows q.station q.plan)) × (status ≡ 0)
 IsReplyOnPlan verb.Draw o q status text = HasImage q o.group (picture_of o) × (status ≡ 0)
 IsReplyOnPlan _ o q status text = ⊥
 

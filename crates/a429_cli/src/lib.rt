@@ -39,6 +39,7 @@ mod surveys;
 mod word;
 
 pub use a429_arguments::given::{Arguments, given_words};
+pub use a429_arguments::memory::MemoryWords;
 pub use a429_arguments::requests::Asked;
 pub use a429_console::answered::Answered;
 pub use a429_console::files::disk::DiskFiles;

@@ -1,8 +1,9 @@
-//! The commands on the plan of one table: `plan`, `icd`, `margin`, `load`, `slots` and `draw`.
+//! The commands on the plan of one table: `plan`, `icd`, `margin`, `load`, `slots`, `buses` and `draw`.
 ghost use Rattle.std.specs.Prelude.{◌≡◌, List, true, IfOk};
 ghost use Rattle.a429_cert.specs.PlanText.{plan_text_of};
 ghost use Rattle.a429_console.specs.Readings.{HasRead};
 ghost use Rattle.a429_arguments.specs.Requests.{asked_of, given_of};
+ghost use Rattle.a429_documents.specs.Buses.{buses_columns, buses_rows};
 ghost use Rattle.a429_documents.specs.Document.{icd_columns, icd_rows};
 ghost use Rattle.a429_documents.specs.Margins.{IsMargin, margin_columns};
 ghost use Rattle.a429_text.specs.Fields.{Field};
@@ -21,7 +22,7 @@ use a429_cert::plan_text;
 use a429_console::files::FileReader;
 use a429_console::planning::with_plan;
 use a429_console::refusals::{CommandRefusal, Refused};
-use a429_documents::{icd_sheet, margin_sheet};
+use a429_documents::{buses_sheet, icd_sheet, margin_sheet};
 use a429_slots::{OUTPUTS, Proposal};
 use a429_text::SheetForm;
 use std::alloc::{AllocError, Global};
@@ -71,6 +72,19 @@ fn margin_of(
     Ok(Reply::done(text))
 }
 
+/// Which words each bus carries.
+fn buses_of(
+    alloc: Global,
+    proposal: &Proposal<OUTPUTS>,
+    form: SheetForm,
+) -> Result<Reply, AllocError>
+    ensures { IfOk result (λ reply. (reply.bytes.items ≡ sheet_text form buses_columns
+        (buses_rows proposal.now.station proposal.now.plan)) × (reply.status ≡ 0)) }
+{
+    let text = buses_sheet(alloc, proposal).render(alloc, form)?;
+    Ok(Reply::done(text))
+}
+
 /// What a command writes about a proposal, and its status.
 fn reply_on_plan(
     alloc: Global,
@@ -89,6 +103,7 @@ fn reply_on_plan(
         Verb::Margin => or_no_memory(margin_of(alloc, proposal, form)),
         Verb::Load => or_no_memory(load_of(alloc, proposal, options.limit, form)),
         Verb::Slots => slots_of(alloc, proposal, options.group, SlotsForm::of(options)),
+        Verb::Buses => or_no_memory(buses_of(alloc, proposal, form)),
         Verb::Draw => image_of(alloc, proposal, options.group, Picture::of(options)),
         _ => unreachable!(),
     }

@@ -5,9 +5,9 @@ use Rattle.std.proofs.lemmas.Option.{get_or_from_slice_get, none-some, same_Some
 use Rattle.std.specs.Prelude.{Option}
 use Rattle.std.specs.Str.{IsUtf8}
 use Rattle.a429_console.specs.Ends.{Writing}
-use Rattle.a429_arguments.specs.GivenWords.{AreAllWords, AreFrom, HasNoText}
+use Rattle.a429_arguments.specs.GivenWords.{AreAllWords, AreFrom, HasNoText, HasNoWordAt, IsWordAt}
 use Rattle.a429_cli.specs.ProgramRuns.{CommandIsDone, HasRunProgram, Reader}
-use Rattle.a429_commands.specs.WordsInMemory.{AreTexts, HasNoWordAt, IsWordAt, ProgramGetsItsWords, after_path}
+use Rattle.a429_commands.specs.WordsInMemory.{AreTexts, ProgramGetsItsWords, after_path}
 
 -- a place without a word is past the last
 past_last : (words : List (List ℕ)) (place : ℕ) → HasNoWordAt words place → length words ≤ place

@@ -39,6 +39,7 @@ replay_has_words table script a b = record {
   maps = refl;
   options = can_give_nothing;
   summarized = λ _ json. absurd (false≢true json);
+  logged = λ sent. absurd (false≢true sent);
   coded = λ code. absurd (false≢true code);
   widened = λ given. absurd (false≢true given);
   separated = λ text. absurd (false≢true text);

@@ -1,17 +1,9 @@
 -- Arguments in memory, given to the program.
-use Rattle.std.specs.Prelude.{◌≡◌, ◌⊎◌, ℕ, List, Option, Some, None, drop, slice_get}
+use Rattle.std.specs.Prelude.{◌⊎◌, ℕ, List, Option, drop}
 use Rattle.std.specs.List.{AllByRecursion}
 use Rattle.std.specs.Str.{IsUtf8}
 use Rattle.a429_console.specs.Ends.{IsMistakeTold, Writing}
 use Rattle.a429_cli.specs.ProgramRuns.{IsDoneOrRefused, Reader}
-
--- the argument at this place has exactly these bytes
-abbrev pub IsWordAt : List (List ℕ) → ℕ → List ℕ → Type 0
-IsWordAt words place bytes = slice_get words place ≡ Some bytes
-
--- there is no argument at this place
-abbrev pub HasNoWordAt : List (List ℕ) → ℕ → Type 0
-HasNoWordAt words place = slice_get words place ≡ None
 
 -- the arguments after the path of the program, in order
 abbrev pub after_path : List (List ℕ) → List (List ℕ)

@@ -1,22 +1,21 @@
 -- The rows of a document, one after the other.
-use Rattle.std.proofs.Common.{◌≡◌, ℕ, Bool, zero, suc, map, append-nil, ◌+◌, ◌<◌, ◌≤◌, List, [], ◌∷◌, ◌++◌, length, get_or, drop, Option, Some, refl, sym, ap, ◌∙◌, append_assoc}
+use Rattle.std.proofs.Common.{◌≡◌, ℕ, Bool, zero, suc, map, append-nil, ◌+◌, ◌<◌, ◌≤◌, List, [], ◌∷◌, ◌++◌, length, drop, Option, Some, refl, sym, ap, ◌∙◌, append_assoc}
 use Rattle.std.specs.Prelude.{slice_get, option_map}
 use Rattle.std.specs.List.{AllZip, zip}
 use Rattle.std.specs.Option.{option_map_or}
 use Rattle.std.proofs.lemmas.List.{drop_all}
 use Rattle.std.proofs.lemmas.Option.{same_Some}
-use Rattle.a429_word.proofs.Lists.{drop_at, read_is}
+use Rattle.a429_word.proofs.Lists.{drop_at}
 use Rattle.a429_text.specs.Fields.{Field}
 use Rattle.a429_equipment.specs.TableRecord.{TableRecord}
 use Rattle.a429_equipment.specs.declared.rows.GroupRow.{GroupRow}
 use Rattle.a429_equipment.specs.declared.rows.OutputRow.{OutputRow}
-use Rattle.a429_equipment.specs.declared.rows.ReceiverRow.{ReceiverRow}
 use Rattle.a429_equipment.specs.declared.rows.SourceRow.{SourceRow}
 use Rattle.a429_slots.specs.declared.group_plan.SlotPlace.{SlotPlace}
 use Rattle.a429_slots.specs.declared.group_plan.SendLimits.{SendLimits}
 use Rattle.a429_slots.specs.Tables.{Placed, SlotTable, PlanTable, placed_at, outputs_of, place_of, limits_of, groups_of}
 use Rattle.a429_slots.specs.Planned.{IsServed, IsPlannedAt, IsPlanOf}
-use Rattle.a429_documents.specs.Document.{receiver_name, icd_row, output_row, output_rows, groups_rows}
+use Rattle.a429_documents.specs.Document.{icd_row, output_row, output_rows, groups_rows}
 use Rattle.a429_slots.proofs.Cells.{output_is}
 
 -- ---- an output

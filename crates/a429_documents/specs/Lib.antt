@@ -9,3 +9,4 @@ pub mod SlotRows
 pub mod SlotHeader
 pub mod Limits
 pub mod Load
+pub mod Buses

@@ -9,16 +9,17 @@ use Rattle.a429_recordings.specs.SimulationReplies.{ArePrinted, AreSimulationFil
 use Rattle.a429_recordings.specs.Simulating.{text_of}
 use Rattle.a429_recordings.specs.Timeline.{end_of}
 use Rattle.a429_recordings.specs.declared.simulate.SimulationForm.{SimulationForm}
+use Rattle.a429_recordings.specs.declared.simulate.lines.LineStyle.{LineStyle}
 use Rattle.a429_recordings.specs.declared.simulate.log.LogWord.{LogWord}
 use Rattle.a429_replay.proofs.PutLines.{Appends-ended, Appends-text, Appends-then}
 
 -- all lines, or the first ones, with their end
-pub printed_ended : (q : Proposed) (words : List LogWord) (last : ℕ) (csv all : Bool) (bytes : List ℕ) → ArePrinted q words last csv all bytes
-    → IsPrinting q words last csv (status_of all) ((heading csv ++ bytes) ++ ending all)
-printed_ended q words last csv true bytes (told, (moments, timeline, all), text) =
-    inl ((moments, timeline, append-nil (heading csv ++ bytes) ∙ ap (λ (bs : List ℕ). heading csv ++ bs) (text ∙ ap (text_of q csv) all)), refl)
-printed_ended q words last csv false bytes (moments, n, begun, text) =
-    inr (heading csv ++ bytes, (moments, n, begun, ap (λ (bs : List ℕ). heading csv ++ bs) text), refl, sym (append_assoc (heading csv ++ bytes) memory_refused (10 ∷ [])))
+pub printed_ended : (q : Proposed) (words : List LogWord) (last : ℕ) (style : LineStyle) (all : Bool) (bytes : List ℕ) → ArePrinted q words last style all bytes
+    → IsPrinting q words last style (status_of all) ((heading style ++ bytes) ++ ending all)
+printed_ended q words last style true bytes (told, (moments, timeline, all), text) =
+    inl ((moments, timeline, append-nil (heading style ++ bytes) ∙ ap (λ (bs : List ℕ). heading style ++ bs) (text ∙ ap (text_of q style) all)), refl)
+printed_ended q words last style false bytes (moments, n, begun, text) =
+    inr (heading style ++ bytes, (moments, n, begun, ap (λ (bs : List ℕ). heading style ++ bs) text), refl, sym (append_assoc (heading style ++ bytes) memory_refused (10 ∷ [])))
 
 -- they were put out
 pub heading_first : (old mid new : Option (List ℕ)) (head text bytes end : List ℕ) → Appends (append_known old head) (append_known mid text) bytes → Appends mid new (text ++ end)
@@ -29,6 +30,6 @@ heading_first old mid new head text bytes end lines last =
 -- what a simulation that begins so prints, as the reply to these files
 pub simulated_reply : (file : List ℕ → Option (List ℕ)) (table : List ℕ) (log channels : List (List ℕ)) (form : SimulationForm) (i : SimulationFiles) (q : Proposed) (words : List LogWord)
     → AreSimulationFiles file table log channels i → IsSimulated i form.reading q words → (status : ℕ) (bytes : List ℕ)
-    → OrNoMemory (IsWritten q words (end_of q words form.until) form.summary form.form) status bytes → IsSimulation file table log channels form status bytes
+    → OrNoMemory (IsWritten q words (end_of q words form.until) form.summary form.style form.form) status bytes → IsSimulation file table log channels form status bytes
 simulated_reply file table log channels form i q words read simulated status bytes (inl printing) = inr (i, q, words, read, simulated, printing)
 simulated_reply file table log channels form i q words read simulated status bytes (inr memory) = inl (refused.Memory, tt, memory.0, memory.1)

@@ -1,5 +1,5 @@
 -- What a simulation does and prints: steps of the machine by a timeline, what happens in them, and the lines of that.
-use Rattle.std.specs.Prelude.{◌==◌, ◌+◌, ◌-◌, ◌%◌, ◌++◌, ◌∷◌, [], ℕ, Bool, true, false, List, Option, Some, None, if◌then◌else◌, codes, filter_map, length, map, replicate, unwrap_or}
+use Rattle.std.specs.Prelude.{◌==◌, ◌+◌, ◌-◌, ◌%◌, ◌++◌, ◌∷◌, [], ℕ, List, Option, Some, None, if◌then◌else◌, codes, filter_map, length, map, replicate, unwrap_or}
 use Rattle.std.specs.Fmt.{decimal}
 use Rattle.std.specs.List.{flat_map}
 use Rattle.a429_word.specs.Hexadecimal.{hex}
@@ -16,6 +16,8 @@ use Rattle.a429_slots.specs.declared.answers.Answer.TheVariants.{Accepted, Sent,
 use Rattle.a429_console.specs.Names.{name_at, naming_of}
 use Rattle.a429_replay.specs.AnswerLines.{refusal_text}
 use Rattle.a429_recordings.specs.Timeline.{rate_of, table_of}
+use Rattle.a429_recordings.specs.declared.simulate.lines.LineStyle.{LineStyle}
+use Rattle.a429_recordings.specs.declared.simulate.lines.LineStyle.TheVariants as style
 use Rattle.a429_recordings.specs.declared.simulate.log.LogWord.{LogWord}
 use Rattle.a429_recordings.specs.declared.simulate.machine.Happening.{Happening}
 use Rattle.a429_recordings.specs.declared.simulate.machine.Happening.TheVariants.{Refuses, Sends}
@@ -136,21 +138,28 @@ happenings_of q steps = happenings_after q [] steps
 -- ---- lines
 
 -- what separates the fields of a line
-abbrev pub separator : Bool → List ℕ
-separator true = codes ","
-separator false = codes " "
+abbrev pub separator : LineStyle → List ℕ
+separator style.Commas = codes ","
+separator _ = codes " "
 
 -- what ends the line of a word that is sent: with commas the two fields of words that are not taken are empty
-abbrev pub sent_end : Bool → List ℕ
-sent_end true = codes ",," ++ 10 ∷ []
-sent_end false = 10 ∷ []
+abbrev pub sent_end : LineStyle → List ℕ
+sent_end style.Commas = codes ",," ++ 10 ∷ []
+sent_end _ = 10 ∷ []
 
--- the slot's beginning, the group, the bus, the word, its source, and its age at the slot's end
-abbrev pub sent_line : Proposed → Bool → SentWord → List ℕ
-sent_line q csv s =
-    decimal (slots_us (rate_of q s.group) s.send.slot) ++ separator csv ++ name_at (naming_of q.station).groups s.group ++ separator csv ++ decimal s.bus
-    ++ separator csv ++ hex s.raw ++ separator csv ++ name_at (naming_of q.station).sources s.source ++ separator csv
-    ++ decimal (slots_us (rate_of q s.group) (s.send.slot + 1) - s.send.time) ++ sent_end csv
+-- as a line of a log: the slot's beginning, the bus as GROUP.BUS, and the word
+abbrev pub log_line : Proposed → SentWord → List ℕ
+log_line q s =
+    decimal (slots_us (rate_of q s.group) s.send.slot) ++ codes " " ++ name_at (naming_of q.station).groups s.group ++ codes "." ++ decimal s.bus ++ codes " "
+    ++ hex s.raw ++ 10 ∷ []
+
+-- the slot's beginning, the group, the bus, the word, its source, and its age at the slot's end; or as a line of a log
+abbrev pub sent_line : Proposed → LineStyle → SentWord → List ℕ
+sent_line q style.Log s = log_line q s
+sent_line q style s =
+    decimal (slots_us (rate_of q s.group) s.send.slot) ++ separator style ++ name_at (naming_of q.station).groups s.group ++ separator style ++ decimal s.bus
+    ++ separator style ++ hex s.raw ++ separator style ++ name_at (naming_of q.station).sources s.source ++ separator style
+    ++ decimal (slots_us (rate_of q s.group) (s.send.slot + 1) - s.send.time) ++ sent_end style
 
 -- its time, the receiver, the word, and why it is refused
 abbrev pub refused_line : Proposed → LogWord → List ℕ → List ℕ
@@ -162,11 +171,17 @@ abbrev pub refused_row : Proposed → LogWord → List ℕ → List ℕ
 refused_row q w reason =
     decimal w.time ++ codes ",,," ++ hex w.raw ++ codes ",,," ++ name_at (naming_of q.station).receivers w.receiver ++ codes "," ++ reason ++ 10 ∷ []
 
+-- the line of a word that is refused; a log of sent words has none
+abbrev pub refusal_line_of : Proposed → LineStyle → LogWord → List ℕ → List ℕ
+refusal_line_of q style.Spaces w reason = refused_line q w reason
+refusal_line_of q style.Commas w reason = refused_row q w reason
+refusal_line_of q style.Log w reason = []
+
 -- the line of a word that is sent, and of one that is refused
-abbrev pub line_of : Proposed → Bool → Happening → List ℕ
-line_of q csv (Refuses w why) = if csv then refused_row q w (refusal_text why) else refused_line q w (refusal_text why)
-line_of q csv (Sends s) = sent_line q csv s
+abbrev pub line_of : Proposed → LineStyle → Happening → List ℕ
+line_of q style (Refuses w why) = refusal_line_of q style w (refusal_text why)
+line_of q style (Sends s) = sent_line q style s
 
 -- the lines of what happens
-abbrev pub text_of : Proposed → Bool → List Happening → List ℕ
-text_of q csv happenings = flat_map (line_of q csv) happenings
+abbrev pub text_of : Proposed → LineStyle → List Happening → List ℕ
+text_of q style happenings = flat_map (line_of q style) happenings

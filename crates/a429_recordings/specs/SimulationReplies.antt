@@ -1,6 +1,7 @@
 -- The command `simulate`: what it writes, and its status.
 use Rattle.std.specs.Prelude.{◌≡◌, ◌∷◌, [], ◌++◌, ◌⊎◌, ℕ, List, Bool, true, false, Option, None, Some, Ok, Result, MatchResult, IfOk, codes, take}
 use Rattle.a429_text.specs.declared.sheets.SheetForm.{SheetForm}
+use Rattle.a429_text.specs.declared.sheets.SheetForm.TheVariants as form
 use Rattle.a429_arguments.specs.declared.times.LogOrigin.{LogOrigin}
 use Rattle.a429_arguments.specs.declared.times.LogOrigin.TheVariants as origin
 use Rattle.a429_logs.specs.declared.clocks.Clock.{Clock}
@@ -12,7 +13,7 @@ use Rattle.a429_arguments.specs.Texts.{texts_of}
 use Rattle.a429_console.specs.Names.{naming_of}
 use Rattle.a429_console.specs.Outputs.{AppendsPending, IsPut, OrNoMemory, memory_refused}
 use Rattle.a429_console.specs.RefusalText.{OrMemory, refusal_line}
-use Rattle.a429_arguments.specs.Requests.{OptionBytes, is_csv}
+use Rattle.a429_arguments.specs.Requests.{OptionBytes}
 use Rattle.a429_console.specs.Tables.{IsProposedBy, IsTableRefusal}
 use Rattle.a429_console.specs.declared.refusals.CommandRefusal.{CommandRefusal}
 use Rattle.a429_console.specs.declared.refusals.CommandRefusal.TheVariants as refused
@@ -27,6 +28,8 @@ use Rattle.a429_recordings.specs.declared.logs.LogNames.{LogNames}
 use Rattle.a429_recordings.specs.declared.simulate.Simulation.{Simulation}
 use Rattle.a429_recordings.specs.declared.simulate.SimulationForm.{SimulationForm}
 use Rattle.a429_recordings.specs.declared.simulate.SimulationInput.{SimulationInput}
+use Rattle.a429_recordings.specs.declared.simulate.lines.LineStyle.{LineStyle}
+use Rattle.a429_recordings.specs.declared.simulate.lines.LineStyle.TheVariants as style
 use Rattle.a429_recordings.specs.declared.simulate.lines.Setting.{Setting}
 use Rattle.a429_recordings.specs.declared.simulate.log.LogWord.{LogWord}
 use Rattle.a429_recordings.specs.declared.simulate.machine.Happening.{Happening}
@@ -42,10 +45,16 @@ clock_from origin.First = record { base = None; last = 0 }
 abbrev pub reading_for : OptionBytes → Reading
 reading_for o = record { unit = o.time; shape = None; clock = clock_from o.from }
 
+-- how lines are written, by whether only the words that are sent have one, and by the form of what is printed
+abbrev pub line_style : Bool → SheetForm → LineStyle
+line_style true form = style.Log
+line_style false form.Csv = style.Commas
+line_style false _ = style.Spaces
+
 -- what the options ask for
 abbrev pub simulation_form : OptionBytes → SimulationForm
 simulation_form o =
-    record { until = o.until; summary = o.summary; form = o.form; reading = reading_for o }
+    record { until = o.until; summary = o.summary; style = line_style o.sent o.form; form = o.form; reading = reading_for o }
 
 -- the bytes of the files that a simulation reads, and as which names channels in the logs are taken
 pub record SimulationFiles : Type 0 where
@@ -92,43 +101,43 @@ IsSimulationRefusal file table logs channels form refusal =
     ⊎ ((i : SimulationFiles) × AreSimulationFiles file table logs channels i × IsUnsimulated i form refusal)
 
 -- what comes before the lines: with commas the names of the fields
-abbrev pub heading : Bool → List ℕ
-heading true = codes "time,group,bus,word,source,age_us,receiver,refused" ++ 10 ∷ []
-heading false = []
+abbrev pub heading : LineStyle → List ℕ
+heading style.Commas = codes "time,group,bus,word,source,age_us,receiver,refused" ++ 10 ∷ []
+heading _ = []
 
 -- the lines of what happens in the whole timeline were printed
-abbrev pub IsPrinted : Proposed → List LogWord → ℕ → Bool → List ℕ → Type 0
-IsPrinted q words last csv bytes =
-    (moments : List Moment) × IsTimeline q words last moments × (bytes ≡ heading csv ++ text_of q csv (happenings_of q (steps_of q moments)))
+abbrev pub IsPrinted : Proposed → List LogWord → ℕ → LineStyle → List ℕ → Type 0
+IsPrinted q words last style bytes =
+    (moments : List Moment) × IsTimeline q words last moments × (bytes ≡ heading style ++ text_of q style (happenings_of q (steps_of q moments)))
 
 -- the lines of what happens first in a timeline were printed
-abbrev pub IsPrintedInPart : Proposed → List LogWord → ℕ → Bool → List ℕ → Type 0
-IsPrintedInPart q words last csv bytes =
+abbrev pub IsPrintedInPart : Proposed → List LogWord → ℕ → LineStyle → List ℕ → Type 0
+IsPrintedInPart q words last style bytes =
     (moments : List Moment) × (n : ℕ) × TimelineIsBegun q words last moments
-    × (bytes ≡ heading csv ++ text_of q csv (take n (happenings_of q (steps_of q moments))))
+    × (bytes ≡ heading style ++ text_of q style (take n (happenings_of q (steps_of q moments))))
 
 -- what a simulation that began writes, and its status: all lines, or the first ones and then that an allocation failed
-abbrev pub IsPrinting : Proposed → List LogWord → ℕ → Bool → ℕ → List ℕ → Type 0
-IsPrinting q words last csv status bytes =
-    (IsPrinted q words last csv bytes × (status ≡ 0))
-    ⊎ ((lines : List ℕ) × IsPrintedInPart q words last csv lines × (status ≡ 1) × (bytes ≡ lines ++ memory_refused ++ 10 ∷ []))
+abbrev pub IsPrinting : Proposed → List LogWord → ℕ → LineStyle → ℕ → List ℕ → Type 0
+IsPrinting q words last style status bytes =
+    (IsPrinted q words last style bytes × (status ≡ 0))
+    ⊎ ((lines : List ℕ) × IsPrintedInPart q words last style lines × (status ≡ 1) × (bytes ≡ lines ++ memory_refused ++ 10 ∷ []))
 
 -- what a simulation that began writes instead of its lines, and its status: the summary of the whole timeline
 abbrev pub IsSummary : Proposed → List LogWord → ℕ → SheetForm → ℕ → List ℕ → Type 0
 IsSummary q words last form status bytes =
     (moments : List Moment) × IsTimeline q words last moments × (bytes ≡ summary_text q (happenings_of q (steps_of q moments)) form) × (status ≡ 0)
 
--- what it writes in a form, by whether the summary is asked for
-abbrev pub IsWritten : Proposed → List LogWord → ℕ → Bool → SheetForm → ℕ → List ℕ → Type 0
-IsWritten q words last true form = IsSummary q words last form
-IsWritten q words last false form = IsPrinting q words last (is_csv form)
+-- what it writes: the summary in a form, if that is asked for, or its lines
+abbrev pub IsWritten : Proposed → List LogWord → ℕ → Bool → LineStyle → SheetForm → ℕ → List ℕ → Type 0
+IsWritten q words last true style form = IsSummary q words last form
+IsWritten q words last false style form = IsPrinting q words last style
 
 -- what `simulate` writes, and its status: the line of a refusal, or what the simulation prints
 abbrev pub IsSimulation : (List ℕ → Option (List ℕ)) → List ℕ → List (List ℕ) → List (List ℕ) → SimulationForm → ℕ → List ℕ → Type 0
 IsSimulation file table logs channels form status bytes =
     ((refusal : CommandRefusal) × OrMemory (IsSimulationRefusal file table logs channels form) refusal × (status ≡ 1) × (bytes ≡ refusal_line refusal ++ 10 ∷ []))
     ⊎ ((i : SimulationFiles) × (q : Proposed) × (words : List LogWord) × AreSimulationFiles file table logs channels i × IsSimulated i form.reading q words
-    × IsWritten q words (end_of q words form.until) form.summary form.form status bytes)
+    × IsWritten q words (end_of q words form.until) form.summary form.style form.form status bytes)
 
 -- the words of the logs that are simulated are apart
 abbrev pub SimulatesSpacedWords : (List ℕ → Option (List ℕ)) → List ℕ → List (List ℕ) → List (List ℕ) → SimulationForm → Type 0
@@ -151,8 +160,8 @@ IsSimulationReading file table names result =
     (OrMemory (IsUnreadFile file table (logs_named names)))
 
 -- a station of a table's bytes, with its names
-abbrev pub IsSettingOf : List ℕ → Bool → Setting → Type 0
-IsSettingOf table csv s = IsProposedBy table s.proposal × HasStationNames s.names s.proposal × (s.csv ≡ csv)
+abbrev pub IsSettingOf : List ℕ → LineStyle → Setting → Type 0
+IsSettingOf table style s = IsProposedBy table s.proposal × HasStationNames s.names s.proposal × (s.style ≡ style)
 
 -- a beginning with the words of the logs
 abbrev pub BeginsLog : Setting → SimulationFiles → SimulationForm → Player → Type 0
@@ -175,28 +184,28 @@ pub record SimulationIsReady (s : Simulation) : Type 0 where
 pub record IsPreparedFor (i : SimulationFiles) (form : SimulationForm) (s : Simulation) : Type 0 where
   pub words : List LogWord
   pub simulated : IsSimulated i form.reading s.setting.proposal words
-  pub csv : s.setting.csv ≡ is_csv form.form
+  pub style : s.setting.style ≡ form.style
   pub begin : HasPlayed s.setting.proposal words (end_of s.setting.proposal words form.until) [] s.player
   pub ready : SimulationIsReady s
 
 -- these lines were printed by a simulation to its end, or if an allocation failed those of what happened first
-abbrev pub ArePrinted : Proposed → List LogWord → ℕ → Bool → Bool → List ℕ → Type 0
-ArePrinted q words last csv true bytes = (told : List Happening) × AreHappenings q words last told × (bytes ≡ text_of q csv told)
-ArePrinted q words last csv false bytes =
-    (moments : List Moment) × (n : ℕ) × TimelineIsBegun q words last moments × (bytes ≡ text_of q csv (take n (happenings_of q (steps_of q moments))))
+abbrev pub ArePrinted : Proposed → List LogWord → ℕ → LineStyle → Bool → List ℕ → Type 0
+ArePrinted q words last style true bytes = (told : List Happening) × AreHappenings q words last told × (bytes ≡ text_of q style told)
+ArePrinted q words last style false bytes =
+    (moments : List Moment) × (n : ℕ) × TimelineIsBegun q words last moments × (bytes ≡ text_of q style (take n (happenings_of q (steps_of q moments))))
 
 -- a timeline is played on a station to which nothing has happened: the lines are put out, or appended to those that are yet to be; the answer says
 -- whether memory sufficed
-abbrev pub PutsLines : {X E : Type 0} → (X → Option (List ℕ)) → Proposed → Bool → Player → X → X → List ℕ → List ℕ → Result Bool E → Type 0
-PutsLines contents q csv player out out' text text' result =
+abbrev pub PutsLines : {X E : Type 0} → (X → Option (List ℕ)) → Proposed → LineStyle → Player → X → X → List ℕ → List ℕ → Result Bool E → Type 0
+PutsLines contents q style player out out' text text' result =
     (words : List LogWord) (last : ℕ) → HasPlayed q words last [] player
-    → IfOk result (λ sufficed. (bytes : List ℕ) × ArePrinted q words last csv sufficed bytes × AppendsPending (contents out) text (contents out') text' bytes)
+    → IfOk result (λ sufficed. (bytes : List ℕ) × ArePrinted q words last style sufficed bytes × AppendsPending (contents out) text (contents out') text' bytes)
 
 -- the lines of a simulation that begins so were put, or that an allocation failed before that
 abbrev pub HasPrintedLines : {E : Type 0} → Simulation → Option (List ℕ) → Option (List ℕ) → Result ℕ E → Type 0
 HasPrintedLines s old new result =
     (words : List LogWord) (last : ℕ) → HasPlayed s.setting.proposal words last [] s.player
-    → IfOk result (λ status. IsPut (OrNoMemory (IsPrinting s.setting.proposal words last s.setting.csv)) old new status)
+    → IfOk result (λ status. IsPut (OrNoMemory (IsPrinting s.setting.proposal words last s.setting.style)) old new status)
 
 -- the summary of a simulation that begins so was put in a form, or that an allocation failed before that
 abbrev pub HasPrintedSummary : {E : Type 0} → Simulation → SheetForm → Option (List ℕ) → Option (List ℕ) → Result ℕ E → Type 0
@@ -208,7 +217,7 @@ HasPrintedSummary s form old new result =
 abbrev pub HasPrinted : {E : Type 0} → Simulation → SimulationForm → Option (List ℕ) → Option (List ℕ) → Result ℕ E → Type 0
 HasPrinted s form old new result =
     (words : List LogWord) (last : ℕ) → HasPlayed s.setting.proposal words last [] s.player
-    → IfOk result (λ status. IsPut (OrNoMemory (IsWritten s.setting.proposal words last form.summary form.form)) old new status)
+    → IfOk result (λ status. IsPut (OrNoMemory (IsWritten s.setting.proposal words last form.summary form.style form.form)) old new status)
 
 -- the text is the summary of a simulation that begins so, in a form
 abbrev pub HasSummary : Setting → Player → SheetForm → List ℕ → Type 0

@@ -4,12 +4,11 @@ ghost use Rattle.a429_console.specs.Readings.{HasRead};
 ghost use Rattle.a429_console.specs.Outputs.{CountsFault};
 ghost use Rattle.a429_console.specs.RefusalText.{OrMemory};
 ghost use Rattle.a429_console.specs.Replying.{HasReplied};
-ghost use Rattle.a429_arguments.specs.Requests.{is_csv};
 ghost use Rattle.a429_console.specs.Tables.{IsTableRefusal};
 ghost use Rattle.a429_recordings.specs.CellLines.{IsBeginOfSlot};
 ghost use Rattle.a429_recordings.specs.CloseWords.{AreSpaced};
 ghost use Rattle.a429_recordings.specs.LogItems.{channels_named, logs_named};
-ghost use Rattle.a429_recordings.specs.SimulationReplies.{BeginsLog, BeginsNoLog, HasPrinted, HasPrintedLines, HasPrintedSummary, HasSummary, IsPreparedFor, IsSettingOf, IsSimulationOf, IsSimulationReading, IsUnsimulated, PutsLines, SimulatesSpacedWords, SimulationIsReady, files_of};
+ghost use Rattle.a429_recordings.specs.SimulationReplies.{BeginsLog, BeginsNoLog, HasPrinted, HasPrintedLines, HasPrintedSummary, HasSummary, IsPreparedFor, IsSettingOf, IsSimulationOf, IsSimulationReading, IsUnsimulated, PutsLines, SimulatesSpacedWords, SimulationIsReady, files_of, line_style};
 ghost use Rattle.a429_recordings.specs.SimulationRuns.{CanBePlayed, HasStationNames};
 
 mod close;
@@ -26,6 +25,7 @@ pub use crate::logs::LogNames;
 use crate::logs::reading_for;
 use crate::simulate::close::close_receiver;
 use crate::simulate::figures::Summary;
+pub use crate::simulate::lines::LineStyle;
 use crate::simulate::lines::{PendingLines, Setting};
 use crate::simulate::log::read_words;
 use crate::simulate::playing::Player;
@@ -44,12 +44,13 @@ use a429_replay::{Names, put_if_full};
 use a429_text::SheetForm;
 use std::alloc::{AllocError, Global};
 
-/// What a simulation prints, the summary or all lines, and in which form; and until when in microseconds it asks for cells.
-/// Lines have no form as JSON.
+/// What a simulation prints, the summary or lines, and in which form or style; and until when in microseconds it asks for
+/// cells.
 #[derive(Clone, Copy)]
 pub struct SimulationForm {
     pub until: Option<u64>,
     pub summary: bool,
+    pub style: LineStyle,
     pub form: SheetForm,
     /// How the first line of the log is read.
     pub reading: Reading,
@@ -67,19 +68,21 @@ impl SimulationForm {
         SimulationForm {
             until: options.until,
             summary: options.summary,
+            style: line_style(options.sent, options.form),
             form: options.form,
             reading: reading_for(options),
         }
     }
 }
 
-/// Whether fields are separated by commas.
-fn is_csv(form: SheetForm) -> bool
-    ensures { result ≡ is_csv form }
+/// How lines are written, by whether only the words that are sent have one, and by the form of what is printed.
+fn line_style(sent: bool, form: SheetForm) -> LineStyle
+    ensures { result ≡ line_style sent form }
 {
-    match form {
-        SheetForm::Csv => true,
-        _ => false,
+    match (sent, form) {
+        (true, _) => LineStyle::Log,
+        (false, SheetForm::Csv) => LineStyle::Commas,
+        (false, _) => LineStyle::Spaces,
     }
 }
 
@@ -117,15 +120,15 @@ fn read_input<'a, F: FileReader>(
 }
 
 /// The station of a table's bytes. Error: the table, or its plan, is refused.
-fn read_station(alloc: Global, table: &[u8], csv: bool) -> Result<Setting, Refused>
-    ensures { MatchResult result (IsSettingOf table.now csv) (OrMemory (IsTableRefusal table.now)) }
+fn read_station(alloc: Global, table: &[u8], style: LineStyle) -> Result<Setting, Refused>
+    ensures { MatchResult result (IsSettingOf table.now style) (OrMemory (IsTableRefusal table.now)) }
 {
     let proposal = propose(alloc, table)?;
     let names = Names::of(alloc, proposal.equipment())?;
     Ok(Setting {
         proposal,
         names,
-        csv,
+        style,
     })
 }
 
@@ -157,7 +160,7 @@ fn prepare<'a>(
 ) -> Result<Simulation, Refused>
     ensures { MatchResult result (IsPreparedFor (files_of input.now) form) (OrMemory (IsUnsimulated (files_of input.now) form)) }
 {
-    let setting = read_station(alloc, &input.table, is_csv(form.form))?;
+    let setting = read_station(alloc, &input.table, form.style)?;
     let player = read_player(alloc, &setting, input, form)?;
     Ok(Simulation { setting, player })
 }
@@ -185,8 +188,8 @@ fn put_lines<O: Output>(
 ) -> Result<bool, OutputFault>
     requires names { HasStationNames setting.now.names setting.now.proposal }
     requires playable { CanBePlayed setting.now.proposal player.old }
-    requires begin { IsBeginOfSlot setting.now.proposal setting.now.csv lines.old.begin }
-    ensures put { PutsLines O.contents setting.now.proposal setting.now.csv player.old out.old out.new
+    requires begin { IsBeginOfSlot setting.now.proposal setting.now.style lines.old.begin }
+    ensures put { PutsLines O.contents setting.now.proposal setting.now.style player.old out.old out.new
         lines.old.text.items lines.new.text.items result }
     ensures faults { CountsFault result (O.failures out.old) (O.failures out.new) }
 {
@@ -213,7 +216,7 @@ fn print_lines<O: Output>(
     ensures faults { CountsFault result (O.failures out.old) (O.failures out.new) }
 {
     let setting = &simulation.setting;
-    let Ok(mut lines) = PendingLines::open(alloc, setting.csv) else {
+    let Ok(mut lines) = PendingLines::open(alloc, setting.style) else {
         return refuse_memory(out);
     };
     let sufficed = put_lines(setting, &mut simulation.player, &mut lines, out)?;
@@ -264,7 +267,7 @@ fn print_simulation<O: Output>(
     out: &mut O,
 ) -> Result<u8, OutputFault>
     requires ready { SimulationIsReady simulation.old }
-    requires csv { simulation.old.setting.csv ≡ is_csv form.form }
+    requires style { simulation.old.setting.style ≡ form.style }
     ensures printed { HasPrinted simulation.old form (O.contents out.old) (O.contents out.new) result }
     ensures status { IfOk result (λ status. status ≤ 1) }
     ensures flushed { OnOk result (IsTrue (O.is_flushed out.new)) }
@@ -278,8 +281,9 @@ fn print_simulation<O: Output>(
 }
 
 /// Plays the words of logs on the station of a table, at their times. It puts a line for each word that is sent or
-/// refused, or instead the summary of what each output sent. A refusal is one line instead. The status is 0, or 1 after
-/// a refusal, or if an allocation fails after the first lines. A receiver to which words come too closely is noted.
+/// refused, or only for those that are sent, or instead the summary of what each output sent. A refusal is one line
+/// instead. The status is 0, or 1 after a refusal, or if an allocation fails after the first lines. A receiver to which
+/// words come too closely is noted.
 pub fn simulate<'a, F: FileReader, O: Output>(
     alloc: Global,
     files: &mut F,

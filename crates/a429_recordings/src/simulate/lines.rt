@@ -3,8 +3,8 @@ ghost use Rattle.std.specs.Prelude.{◌≡◌, ◌+◌, ◌<◌, ◌≤◌, ◌+
 ghost use Rattle.a429_word.specs.Written.{Gains};
 ghost use Rattle.a429_console.specs.Names.{name_at, naming_of};
 ghost use Rattle.a429_replay.specs.AnswerLines.{refusal_text};
-ghost use Rattle.a429_recordings.specs.CellLines.{BeginsSlot, IsBeginOfSlot, IsHeading, PushesLine, rest_of};
-ghost use Rattle.a429_recordings.specs.Simulating.{refused_line, refused_row, sent_end, sent_line, separator};
+ghost use Rattle.a429_recordings.specs.CellLines.{BeginsSlot, IsBeginOfSlot, IsHeading, PushesLine, bus_separator, origin_of, rest_of, word_end};
+ghost use Rattle.a429_recordings.specs.Simulating.{refusal_line_of, refused_line, refused_row, sent_end, sent_line, separator};
 ghost use Rattle.a429_recordings.specs.SimulationRuns.{HasPlannedGroup, HasStationNames, IsKnown};
 ghost use Rattle.a429_recordings.specs.declared.simulate.machine.Happening.TheVariants.{Sends};
 
@@ -20,12 +20,20 @@ use std::alloc::{AllocError, Global};
 /// How many bytes the room has in which a line is written. The longest line has fewer.
 const ROOM: usize = 128;
 
-/// What lines are written with: the proposal of the station, its names, and whether fields have commas between them.
+/// How lines are written: with spaces or commas between their fields, or only those of words that are sent, as a log.
+#[derive(Clone, Copy)]
+pub enum LineStyle {
+    Spaces,
+    Commas,
+    Log,
+}
+
+/// What lines are written with: the proposal of the station, its names, and how they are written.
 #[derive(Drop)]
 pub struct Setting {
     pub proposal: Proposal<OUTPUTS>,
     pub names: Names,
-    pub csv: bool,
+    pub style: LineStyle,
 }
 
 /// What the lines of a group's cells in a slot begin with, from a place in the room on, and when the slot ends, in
@@ -49,11 +57,11 @@ pub struct PendingLines {
 impl PendingLines {
     /// The lines before those of what happens: with commas between fields the names of these. Error: an allocation
     /// failed.
-    pub fn open(alloc: Global, csv: bool) -> Result<PendingLines, AllocError>
-        ensures { IfOk result (IsHeading csv) }
+    pub fn open(alloc: Global, style: LineStyle) -> Result<PendingLines, AllocError>
+        ensures { IfOk result (IsHeading style) }
     {
         let mut text = Vec::new(alloc);
-        if csv {
+        if let LineStyle::Commas = style {
             text.extend_from_slice(b"time,group,bus,word,source,age_us,receiver,refused\n")?;
         }
         // no slot of a simulation has this number
@@ -70,31 +78,42 @@ impl PendingLines {
 
 /// Writes what separates the fields of a line before the bytes that begin at `end`, and gives its start.
 #[inline(always)]
-fn put_separator(room: &mut [u8], end: usize, csv: bool) -> usize
+fn put_separator(room: &mut [u8], end: usize, style: LineStyle) -> usize
     requires { (1 ≤ end) × (end ≤ length room.old) }
     ensures start { result + 1 ≡ end }
-    ensures written { drop result room.new ≡ separator csv ++ drop end room.old }
+    ensures written { drop result room.new ≡ separator style ++ drop end room.old }
     ensures size { length room.new ≡ length room.old }
 {
-    if csv {
-        put_text(room, end, b",")
-    } else {
-        put_text(room, end, b" ")
+    match style {
+        LineStyle::Commas => put_text(room, end, b","),
+        _ => put_text(room, end, b" "),
+    }
+}
+
+/// The same between the group and the bus.
+fn put_bus_separator(room: &mut [u8], end: usize, style: LineStyle) -> usize
+    requires { (1 ≤ end) × (end ≤ length room.old) }
+    ensures start { result + 1 ≡ end }
+    ensures written { drop result room.new ≡ bus_separator style ++ drop end room.old }
+    ensures size { length room.new ≡ length room.old }
+{
+    match style {
+        LineStyle::Log => put_text(room, end, b"."),
+        _ => put_separator(room, end, style),
     }
 }
 
 /// Writes what ends the line of a word that is sent before the bytes that begin at `end`, and gives its start.
 #[inline(always)]
-fn put_end(room: &mut [u8], end: usize, csv: bool) -> usize
+fn put_end(room: &mut [u8], end: usize, style: LineStyle) -> usize
     requires { (3 ≤ end) × (end ≤ length room.old) }
     ensures start { (result ≤ end) × (end ≤ result + 3) }
-    ensures written { drop result room.new ≡ sent_end csv ++ drop end room.old }
+    ensures written { drop result room.new ≡ sent_end style ++ drop end room.old }
     ensures size { length room.new ≡ length room.old }
 {
-    if csv {
-        put_text(room, end, b",,\n")
-    } else {
-        put_text(room, end, b"\n")
+    match style {
+        LineStyle::Commas => put_text(room, end, b",,\n"),
+        _ => put_text(room, end, b"\n"),
     }
 }
 
@@ -156,15 +175,15 @@ impl Setting {
         requires names { HasStationNames self.now.names self.now.proposal }
         requires known { HasPlannedGroup self.now.proposal group }
         requires few { slot < 300000000000 }
-        ensures { BeginsSlot self.now.proposal self.now.csv group slot result }
+        ensures { BeginsSlot self.now.proposal self.now.style group slot result }
     {
         let rate = rate_of(&self.proposal, group);
         let start = micros_of(rate, slot);
         let end = micros_of(rate, slot + 1);
         let mut room = [0u8; 64];
-        let at = put_separator(&mut room, 64, self.csv);
+        let at = put_bus_separator(&mut room, 64, self.style);
         let at = put_text(&mut room, at, self.group_name(group));
-        let at = put_separator(&mut room, at, self.csv);
+        let at = put_separator(&mut room, at, self.style);
         let at = put_decimal(&mut room, at, start);
         SlotBegin {
             group,
@@ -172,6 +191,39 @@ impl Setting {
             end,
             at,
             room,
+        }
+    }
+
+    /// Writes the source of a word that is sent, and its age, with what ends the line, before the bytes that begin at
+    /// `end`, and gives its start.
+    #[inline(always)]
+    fn put_origin(&self, room: &mut [u8], end: usize, source: usize, age: u64) -> usize
+        requires names { HasStationNames self.now.names self.now.proposal }
+        requires room { (41 ≤ end) × (end ≤ length room.old) }
+        ensures start { (result ≤ end) × (end ≤ result + 41) }
+        ensures written { drop result room.new ≡ origin_of self.now.proposal self.now.style source age ++ drop end room.old }
+        ensures size { length room.new ≡ length room.old }
+    {
+        let at = put_end(room, end, self.style);
+        let at = put_decimal(room, at, age);
+        let at = put_separator(room, at, self.style);
+        let at = put_text(room, at, self.source_name(source));
+        put_separator(room, at, self.style)
+    }
+
+    /// Writes what follows the word in the line of one that is sent before the bytes that begin at `end`, and gives its
+    /// start.
+    #[inline(always)]
+    fn put_word_end(&self, room: &mut [u8], end: usize, source: usize, age: u64) -> usize
+        requires names { HasStationNames self.now.names self.now.proposal }
+        requires room { (41 ≤ end) × (end ≤ length room.old) }
+        ensures start { (result ≤ end) × (end ≤ result + 41) }
+        ensures written { drop result room.new ≡ word_end self.now.proposal self.now.style source age ++ drop end room.old }
+        ensures size { length room.new ≡ length room.old }
+    {
+        match self.style {
+            LineStyle::Log => put_text(room, end, b"\n"),
+            _ => self.put_origin(room, end, source, age),
         }
     }
 
@@ -183,16 +235,12 @@ impl Setting {
         requires room { (80 ≤ end) × (end ≤ length room.old) }
         ensures start { (result ≤ end) × (end ≤ result + 80) }
         ensures written { drop result room.new
-            ≡ rest_of self.now.proposal self.now.csv sent.bus sent.raw sent.source age ++ drop end room.old }
+            ≡ rest_of self.now.proposal self.now.style sent.bus sent.raw sent.source age ++ drop end room.old }
         ensures size { length room.new ≡ length room.old }
     {
-        let at = put_end(room, end, self.csv);
-        let at = put_decimal(room, at, age);
-        let at = put_separator(room, at, self.csv);
-        let at = put_text(room, at, self.source_name(sent.source));
-        let at = put_separator(room, at, self.csv);
+        let at = self.put_word_end(room, end, sent.source, age);
         let at = put_hex(room, at, sent.raw);
-        let at = put_separator(room, at, self.csv);
+        let at = put_separator(room, at, self.style);
         put_decimal(room, at, u64::from(sent.bus))
     }
 
@@ -206,8 +254,8 @@ impl Setting {
         sent: SentWord,
     ) -> Result<(), AllocError>
         requires names { HasStationNames self.now.names self.now.proposal }
-        requires begin { BeginsSlot self.now.proposal self.now.csv sent.group sent.send.slot begin.now }
-        ensures line { Gains result text.old.items text.new.items (sent_line self.now.proposal self.now.csv sent) }
+        requires begin { BeginsSlot self.now.proposal self.now.style sent.group sent.send.slot begin.now }
+        ensures line { Gains result text.old.items text.new.items (sent_line self.now.proposal self.now.style sent) }
         ensures kept { OnErr result (text.new.items ≡ text.old.items) }
     {
         let mut room = [0u8; ROOM];
@@ -222,8 +270,8 @@ impl Setting {
     fn push_sent(&self, lines: &mut PendingLines, sent: SentWord) -> Result<(), AllocError>
         requires names { HasStationNames self.now.names self.now.proposal }
         requires known { IsKnown self.now.proposal (Sends sent) }
-        requires begin { IsBeginOfSlot self.now.proposal self.now.csv lines.old.begin }
-        ensures { PushesLine self.now.proposal self.now.csv (Sends sent) lines.old lines.new result }
+        requires begin { IsBeginOfSlot self.now.proposal self.now.style lines.old.begin }
+        ensures { PushesLine self.now.proposal self.now.style (Sends sent) lines.old lines.new result }
     {
         if lines.begin.slot != sent.send.slot || lines.begin.group != sent.group {
             lines.begin = self.slot_begin(sent.group, sent.send.slot);
@@ -232,7 +280,7 @@ impl Setting {
     }
 
     /// Appends the line of a word that is refused. If an allocation fails, nothing is appended.
-    pub fn push_refused(
+    fn push_refused(
         &self,
         text: &mut Vec<u8>,
         word: LogWord,
@@ -260,7 +308,7 @@ impl Setting {
     }
 
     /// The same with commas between the fields.
-    pub fn push_refused_row(
+    fn push_refused_row(
         &self,
         text: &mut Vec<u8>,
         word: LogWord,
@@ -287,21 +335,37 @@ impl Setting {
         text.extend_from_slice(&room[at..])
     }
 
-    /// Appends the line of what happens. If an allocation fails, nothing is appended.
+    /// Appends the line of a word that is refused, if there is one. If an allocation fails, nothing is appended.
+    fn push_refusal(
+        &self,
+        text: &mut Vec<u8>,
+        word: LogWord,
+        refusal: Refusal,
+    ) -> Result<(), AllocError>
+        requires names { HasStationNames self.now.names self.now.proposal }
+        ensures line { Gains result text.old.items text.new.items
+            (refusal_line_of self.now.proposal self.now.style word (refusal_text refusal)) }
+        ensures kept { OnErr result (text.new.items ≡ text.old.items) }
+    {
+        match self.style {
+            LineStyle::Spaces => self.push_refused(text, word, refusal),
+            LineStyle::Commas => self.push_refused_row(text, word, refusal),
+            LineStyle::Log => Ok(()),
+        }
+    }
+
+    /// Appends the line of what happens, if there is one. If an allocation fails, nothing is appended.
     #[inline(always)]
     pub fn push(&self, lines: &mut PendingLines, happening: Happening) -> Result<(), AllocError>
         requires names { HasStationNames self.now.names self.now.proposal }
         requires known { IsKnown self.now.proposal happening }
-        requires begin { IsBeginOfSlot self.now.proposal self.now.csv lines.old.begin }
-        ensures { PushesLine self.now.proposal self.now.csv happening lines.old lines.new result }
+        requires begin { IsBeginOfSlot self.now.proposal self.now.style lines.old.begin }
+        ensures { PushesLine self.now.proposal self.now.style happening lines.old lines.new result }
     {
         match happening {
             Happening::Sends(sent) => self.push_sent(lines, sent),
-            Happening::Refuses(word, refusal) if self.csv => {
-                self.push_refused_row(&mut lines.text, word, refusal)
-            }
             Happening::Refuses(word, refusal) => {
-                self.push_refused(&mut lines.text, word, refusal)
+                self.push_refusal(&mut lines.text, word, refusal)
             }
         }
     }

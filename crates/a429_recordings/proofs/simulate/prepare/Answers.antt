@@ -50,7 +50,7 @@ returns c =
     record {
       words = start.0;
       simulated = record { proposed = proposed; words_are = subst (λ (n : Naming). log_words n i.channels c.args.form.reading i.logs ≡ Ok start.0) names start.1 };
-      csv = c.in_ok-setting.ensures.2 ∙ c.is_csv.ensures;
+      style = c.in_ok-setting.ensures.2;
       begin = start.2.0;
       ready = record { names = names; playable = start.2.1 };
     }

@@ -13,15 +13,15 @@ returns-in_default-clause-printed g c = λ words last B.
 pub returns-clause-printed : goal.returns-clause-printed
 returns-clause-printed g c = λ words last B.
     let q = c.args.simulation.now.setting.proposal in
-    let csv = c.args.simulation.now.setting.csv in
+    let style = c.args.simulation.now.setting.style in
     let all = c.in_ok-sufficed.sufficed in
     let (bytes, printed, put) = c.in_ok-sufficed.ensures.put words last B in
-    let whole = (heading csv ++ bytes) ++ ending all in
-    let lines : Appends (append_known (g.O.Output.contents c.args.out.now) (heading csv)) (append_known (g.O.Output.contents c.put_lines.new.out) c.put_lines.new.lines.text.items) bytes =
+    let whole = (heading style ++ bytes) ++ ending all in
+    let lines : Appends (append_known (g.O.Output.contents c.args.out.now) (heading style)) (append_known (g.O.Output.contents c.put_lines.new.out) c.put_lines.new.lines.text.items) bytes =
     subst (λ (head : List ℕ). Appends (append_known (g.O.Output.contents c.args.out.now) head) (append_known (g.O.Output.contents c.put_lines.new.out) c.put_lines.new.lines.text.items) bytes) c.in-Ok.ensures.text put in
     both_ok c.finish.result _ _ (λ status is sent. (
       whole,
-      inl (subst (λ (n : ℕ). IsPrinting q words last csv n whole) (sym is) (printed_ended q words last csv all bytes printed)),
-      heading_first (g.O.Output.contents c.args.out.now) _ _ (heading csv) c.put_lines.new.lines.text.items bytes (ending all) lines (rw c.deref.ensures.value at sent),
+      inl (subst (λ (n : ℕ). IsPrinting q words last style n whole) (sym is) (printed_ended q words last style all bytes printed)),
+      heading_first (g.O.Output.contents c.args.out.now) _ _ (heading style) c.put_lines.new.lines.text.items bytes (ending all) lines (rw c.deref.ensures.value at sent),
     ))
     c.finish.ensures.status c.finish.ensures.put

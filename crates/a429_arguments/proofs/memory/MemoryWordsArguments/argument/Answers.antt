@@ -4,8 +4,8 @@ use Rattle.std.proofs.lemmas.Option.{slice_get-map, slice_get_read}
 use Rattle.std.specs.Borrow.{Bor}
 use Rattle.std.specs.Prelude.{option_map}
 use Rattle.a429_arguments.specs.Texts.{texts_of}
-use Rattle.a429_commands.specs.WordsInMemory.{IsWordAt}
-use Rattle.a429_commands.proofs.words.MemoryWordsArguments.argument.Goals as goal
+use Rattle.a429_arguments.specs.GivenWords.{IsWordAt}
+use Rattle.a429_arguments.proofs.memory.MemoryWordsArguments.argument.Goals as goal
 
 -- the word at a place was written to the front of the room
 written_word : (words : List (Bor (List ℕ))) (place : ℕ) (word : Bor (List ℕ)) (written rest : List ℕ) → place < length words → word ≡ get_or words place word → written ≡ word.now

@@ -1,0 +1,83 @@
+-- What each bus of a station carries: the rows of `buses`.
+use Rattle.std.specs.Prelude.{ℕ, ◌==◌, ◌^◌, List, [], ◌∷◌, ◌++◌, codes, if◌then◌else◌, filter, length, map, slice_get}
+use Rattle.std.specs.List.{flat_map, range_with_len}
+use Rattle.std.specs.Option.{option_map_or}
+use Rattle.a429_text.specs.Fields.{Field, Text, Number, Absent}
+use Rattle.a429_word.specs.Texts.{octal}
+use Rattle.a429_equipment.specs.TableRecord.{TableRecord}
+use Rattle.a429_equipment.specs.declared.rows.GroupRow.{GroupRow}
+use Rattle.a429_equipment.specs.declared.rows.ReceiverRow.{ReceiverRow}
+use Rattle.a429_equipment.specs.declared.rows.SourceRow.{SourceRow}
+use Rattle.a429_slots.specs.declared.group_plan.SlotPlace.{SlotPlace}
+use Rattle.a429_slots.specs.Tables.{SlotTable, PlanTable, buses_of, groups_of, outputs_of, placed_at}
+use Rattle.a429_documents.specs.Document.{sdi_field, slots_us}
+
+-- ---- the columns
+
+-- the bus: that of a receiver, or one of a group with its number and its bit rate in bit/s
+abbrev pub bus_columns : List (List ℕ)
+bus_columns = codes "direction" ∷ codes "name" ∷ codes "bus" ∷ codes "rate" ∷ []
+
+-- a word on it: the label, the SDI and the name of its source, and how often it goes out, in microseconds
+abbrev pub word_columns : List (List ℕ)
+word_columns = codes "label" ∷ codes "sdi" ∷ codes "source" ∷ codes "period_us" ∷ []
+
+abbrev pub buses_columns : List (List ℕ)
+buses_columns = bus_columns ++ word_columns
+
+-- ---- the row of a word
+
+abbrev pub word_fields : SourceRow → Field → List Field
+word_fields source period = Text (octal source.label) ∷ sdi_field source.sdi ∷ Text source.name ∷ period ∷ []
+
+-- a word that comes in at a receiver; the table does not say how often
+abbrev pub in_row : ReceiverRow → SourceRow → List Field
+in_row r source = Text (codes "in") ∷ Text r.name ∷ Absent ∷ Absent ∷ word_fields source Absent
+
+-- a word that a group sends, at its place; the period is in whole microseconds, rounded up
+abbrev pub out_row : GroupRow → SourceRow → SlotPlace → List Field
+out_row g source place =
+    Text (codes "out") ∷ Text g.name ∷ Number place.bus ∷ Number g.rate ∷ word_fields source (Number (slots_us g.rate (2 ^ place.period)))
+
+-- ---- the rows of a bus
+
+-- the words of the receiver with this number, in table order
+abbrev pub heard_rows : List SourceRow → ℕ → ReceiverRow → List (List Field)
+heard_rows sources n r = map (in_row r) (filter (λ source. source.receiver == n) sources)
+
+-- the row of the output with this number; empty if the table has no such source
+unfoldable pub output_row : List SourceRow → GroupRow → SlotTable → ℕ → List Field
+output_row sources g t o = option_map_or (λ source. out_row g source (placed_at t o).place) (slice_get sources (placed_at t o).source) []
+
+-- the same, if the output is on this bus
+abbrev pub rows_on : List SourceRow → GroupRow → SlotTable → ℕ → ℕ → List (List Field)
+rows_on sources g t bus o = if (placed_at t o).place.bus == bus then output_row sources g t o ∷ [] else []
+
+-- the words that a group sends on a bus, in table order
+abbrev pub sent_rows : List SourceRow → GroupRow → SlotTable → ℕ → List (List Field)
+sent_rows sources g t bus = flat_map (rows_on sources g t bus) (range_with_len 0 (length (outputs_of t)))
+
+-- ---- the rows of a station
+
+-- the words that come in at the receiver with this number
+abbrev pub receiver_rows : TableRecord → ℕ → List (List Field)
+receiver_rows e n = option_map_or (heard_rows e.sources n) (slice_get e.receivers n) []
+
+-- the words that a group sends, bus by bus
+abbrev pub rows_of_group : List SourceRow → GroupRow → SlotTable → List (List Field)
+rows_of_group sources g t = flat_map (sent_rows sources g t) (range_with_len 0 (buses_of t))
+
+-- the same of the group with this number
+abbrev pub group_rows : TableRecord → PlanTable → ℕ → List (List Field)
+group_rows e p n = option_map_or (λ g. option_map_or (rows_of_group e.sources g) (slice_get (groups_of p) n) []) (slice_get e.groups n) []
+
+-- the words that come in, receiver by receiver in table order
+abbrev pub in_rows : TableRecord → List (List Field)
+in_rows e = flat_map (receiver_rows e) (range_with_len 0 (length e.receivers))
+
+-- the words that go out, group by group in table order
+abbrev pub out_rows : TableRecord → PlanTable → List (List Field)
+out_rows e p = flat_map (group_rows e p) (range_with_len 0 (length (groups_of p)))
+
+abbrev pub buses_rows : TableRecord → PlanTable → List (List Field)
+buses_rows e p = in_rows e ++ out_rows e p
