@@ -7,6 +7,7 @@ use crate::parts::{find_file, keep_file, name_and_form, part_bytes};
 use crate::reported::Reported;
 use crate::spelling::number_before;
 use a429_cli::MemoryFiles;
+use a429_text::Gathered;
 use bstr::ByteSlice;
 use std::alloc::{AllocError, Global};
 use std::io::ErrorKind;
@@ -35,7 +36,7 @@ pub fn case_of<'a>(
     parts: &str,
 ) -> Option<Case<'a>> {
     let mut case = Case {
-        words: Vec::new(alloc),
+        words: words_of(alloc, line).ok()?,
         files: CaseFiles {
             files: MemoryFiles {
                 files: Vec::new(alloc),
@@ -50,37 +51,36 @@ pub fn case_of<'a>(
         least_calls: 0,
         is_err: false,
     };
-    push_words(&mut case.words, line).ok()?;
     for part in parts.split("\n--- ") {
         case.take(alloc, texts, part)?;
     }
     Some(case)
 }
 
-/// Appends the path of the program, and the arguments of a line. Text between quotes is one argument, which may have
-/// spaces or be empty.
-fn push_words<'a>(words: &mut Vec<&'a [u8]>, line: &'a [u8]) -> Result<(), AllocError> {
-    words.push(b"a429")?;
+/// The path of the program, and the arguments of a line. Text between quotes is one argument, which may have spaces or be
+/// empty.
+fn words_of(alloc: Global, line: &[u8]) -> Result<Vec<&[u8]>, AllocError> {
+    let mut words: Gathered<&[u8]> = Gathered::new(alloc);
+    words.push(b"a429");
     let mut is_quoted = false;
     for piece in line.split_str(b"\"") {
         if is_quoted {
-            words.push(piece)?;
+            words.push(piece);
         } else {
-            push_plain(words, piece)?;
+            gather_plain(&mut words, piece);
         }
         is_quoted = !is_quoted;
     }
-    Ok(())
+    words.into_vec()
 }
 
-/// Appends the arguments that spaces separate.
-fn push_plain<'a>(words: &mut Vec<&'a [u8]>, text: &'a [u8]) -> Result<(), AllocError> {
+/// Gathers the arguments that spaces separate.
+fn gather_plain<'a>(words: &mut Gathered<&'a [u8]>, text: &'a [u8]) {
     for word in text.split_str(b" ") {
         if !word.is_empty() {
-            words.push(word)?;
+            words.push(word);
         }
     }
-    Ok(())
 }
 
 impl Case<'_> {
@@ -88,34 +88,35 @@ impl Case<'_> {
     fn take(&mut self, alloc: Global, texts: &MemoryFiles, part: &str) -> Option<()> {
         let (name, form) = name_and_form(part)?;
         match name {
-            "out" => self.take_out(alloc, texts, form.strip_prefix(' ')?),
-            "fails" => self.take_failing(form.strip_prefix(' ')?),
-            "memory" => {
-                self.files.given = form.trim().parse::<usize>().ok()?;
-                Some(())
-            }
-            _ => self.keep(
-                alloc,
-                name.trim_matches('"'),
-                part_bytes(alloc, texts, form)?,
-            ),
+            "out" => self.take_out(alloc, texts, form),
+            "fails" => self.take_failing(form),
+            "memory" => self.take_memory(form),
+            _ => self.keep(alloc, texts, name.trim_matches('"'), form),
         }
     }
 
-    fn keep(&mut self, alloc: Global, name: &str, bytes: Vec<u8>) -> Option<()> {
+    /// Keeps the bytes of a part under this name.
+    fn keep(&mut self, alloc: Global, texts: &MemoryFiles, name: &str, form: &str) -> Option<()> {
+        let bytes = part_bytes(alloc, texts, form)?;
         keep_file(alloc, &mut self.files.files, name, bytes)
     }
 
-    /// Reads `STATUS FORM`.
+    /// Reads ` STATUS FORM`.
     fn take_out(&mut self, alloc: Global, texts: &MemoryFiles, part: &str) -> Option<()> {
-        let (status, form) = name_and_form(part)?;
+        let (status, form) = name_and_form(part.strip_prefix(' ')?)?;
         self.status = status.parse::<u8>().ok()?;
-        self.keep(alloc, "out", part_bytes(alloc, texts, form)?)
+        self.keep(alloc, texts, "out", form)
     }
 
-    /// Reads `OUTPUT PIECE CALLS`.
+    /// Reads ` READS`.
+    fn take_memory(&mut self, part: &str) -> Option<()> {
+        self.files.given = part.trim().parse::<usize>().ok()?;
+        Some(())
+    }
+
+    /// Reads ` OUTPUT PIECE CALLS`.
     fn take_failing(&mut self, part: &str) -> Option<()> {
-        let (output, numbers) = part.split_once(' ')?;
+        let (output, numbers) = part.trim().split_once(' ')?;
         let (piece, calls) = number_before(numbers, " ")?;
         self.is_err = output == "err";
         self.piece = piece;

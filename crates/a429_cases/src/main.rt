@@ -7,7 +7,6 @@
 //! `data/README.md` describes the form of a file of cases.
 #![tactic(auto)]
 
-mod arguments;
 mod case;
 mod files;
 mod outcome;

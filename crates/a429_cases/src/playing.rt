@@ -1,12 +1,11 @@
 //! Plays cases one by one, and reports those that fail.
 
-use crate::arguments::CaseWords;
 use crate::case::{Case, case_of};
 use crate::outcome::Outcome;
 use crate::parts::keep_file;
 use crate::sections::{Written, read_sections};
 use crate::spelling::{number_before, spelled};
-use a429_cli::{MemoryFiles, run_program};
+use a429_cli::{MemoryFiles, MemoryWords, run_program};
 use a429_hints::HintLines;
 use std::fs;
 use std::io::ErrorKind;
@@ -120,7 +119,7 @@ fn run<R: AllocGlobal + Threads + Wait>(
     let Case { words, files, .. } = case;
     *status = run_program(
         rt,
-        &CaseWords { words },
+        &MemoryWords { words },
         &HintLines,
         files,
         out,

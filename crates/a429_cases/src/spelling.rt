@@ -15,20 +15,7 @@ pub fn spelled(alloc: Global, text: &str) -> Result<Vec<u8>, AllocError> {
     let (count, part) = number_before(text, " of ").unwrap_or((1, text));
     let part = part.replace(alloc, ';', "\n")?;
     let bytes = Vec::unescape_bytes(alloc, part.as_str())?;
-    repeated(alloc, &bytes, count)
-}
-
-/// Bytes a number of times. A thousand times go first, so that a text of 16 MiB is not made byte by byte.
-fn repeated(alloc: Global, bytes: &[u8], count: usize) -> Result<Vec<u8>, AllocError> {
-    if count < 1000 {
-        return bytes.repeatn(alloc, count);
-    }
-    let mut all = bytes
-        .repeatn(alloc, 1000)?
-        .as_slice()
-        .repeatn(alloc, count / 1000)?;
-    all.extend_from_slice(&bytes.repeatn(alloc, count % 1000)?)?;
-    Ok(all)
+    bytes.as_slice().repeatn(alloc, count)
 }
 
 /// An edit of a text: the first OLD becomes NEW.

@@ -1,7 +1,10 @@
 //! Rows of comma-separated values, as a person sees them.
 
 use crate::hint::HintText;
-use a429_import::{CsvLine, Heading, ImportColumn, made_name, may_be_thousands};
+use a429_import::{
+    CsvLine, Heading, ImportColumn, RowNumbers, made_name, may_be_thousands, millis_in, row_numbers,
+};
+use a429_word::{Label, Sdi};
 use std::alloc::{AllocError, Global};
 
 /// The maximum length of a name.
@@ -55,13 +58,19 @@ impl<'a> FileRows<'a> {
         }
     }
 
-    /// The interval of a row, in microseconds; 0 if it is no number.
-    pub fn interval(self, row: &'a CsvLine, column: ImportColumn) -> u64 {
-        let text = self.text(row, column);
-        if self.is_in_millis(column) {
-            millis(text).unwrap_or(text.parse::<u64>().unwrap_or(0).saturating_mul(1000))
-        } else {
-            text.parse::<u64>().unwrap_or(0)
+    /// The label and the SDI of a row; the SDI is `None` if it is any. `None` if a number of the row has a wrong form.
+    pub fn word_of(self, row: &CsvLine) -> Option<(Label, Option<Sdi>)> {
+        match row_numbers(self.heading, row) {
+            Ok(RowNumbers { label, sdi, .. }) => Some((label, sdi)),
+            Err(_) => None,
+        }
+    }
+
+    /// The minimum and the maximum interval of a row, in microseconds. `None` if a number of the row has a wrong form.
+    pub fn interval_of(self, row: &CsvLine) -> Option<(u32, u32)> {
+        match row_numbers(self.heading, row) {
+            Ok(RowNumbers { min_us, max_us, .. }) => Some((min_us, max_us)),
+            Err(_) => None,
         }
     }
 
@@ -84,28 +93,30 @@ impl<'a> FileRows<'a> {
         found
     }
 
+    /// Whether the row at a place is the first with its text in a column.
+    pub fn is_first(self, place: usize, column: ImportColumn) -> bool {
+        let Some(row) = self.rows.get(place) else {
+            return false;
+        };
+        let text = self.field(row, column);
+        !self
+            .rows
+            .iter()
+            .take(place)
+            .any(|earlier| self.field(earlier, column) == text)
+    }
+
     /// The first row of the name with this number. The names of a column are numbered from 0, in the order of their first
-    /// rows; rows without a group are none of a group. `None` if there is no such name, or if an allocation failed.
-    pub fn first_row(
-        self,
-        column: ImportColumn,
-        number: usize,
-        hint: &HintText,
-    ) -> Option<&'a CsvLine> {
-        let mut names: Vec<&'a [u8]> = Vec::new(hint.alloc);
-        for row in self.rows {
-            let name = self.field(row, column);
-            if name.is_empty() && column == ImportColumn::Group {
-                continue;
-            }
-            if !names.contains(&name) {
-                if names.len() == number {
+    /// rows; rows without a group are none of a group. `None` if there is no such name.
+    pub fn first_row(self, column: ImportColumn, number: usize) -> Option<&'a CsvLine> {
+        let mut left = number;
+        for (place, row) in self.rows.iter().enumerate() {
+            let has_group = column != ImportColumn::Group || !self.field(row, column).is_empty();
+            if has_group && self.is_first(place, column) {
+                if left == 0 {
                     return Some(row);
                 }
-                if names.push(name).is_err() {
-                    hint.give_up();
-                    return None;
-                }
+                left -= 1;
             }
         }
         None
@@ -268,78 +279,56 @@ fn in_millis(column: ImportColumn) -> &'static str {
 fn say_remedy(file: FileRows, column: ImportColumn, text: &str, hint: &HintText) {
     match column {
         ImportColumn::MinUs | ImportColumn::MaxUs if !file.is_in_millis(column) => {
-            if let Some(us) = millis(text) {
-                hint.say_number("; if it is in ms, write ", us);
+            if let Some(us) = micros_in(text) {
+                hint.say_number("; if it is in ms, write ", u64::from(us));
                 hint.say_text(", or name the column ", in_millis(column));
             }
         }
-        ImportColumn::Group | ImportColumn::Source | ImportColumn::Receiver => match proposed_name(
-            file, column, text, hint.alloc,
-        ) {
-            Ok(Some(proposed)) => {
-                hint.say_text("; for example ", proposed.name.as_str());
-                if !proposed.is_numbered {
-                    hint.say("; --names makes such names");
-                }
+        ImportColumn::Group | ImportColumn::Source | ImportColumn::Receiver => {
+            if say_proposed_name(file, column, text, hint).is_err() {
+                hint.give_up();
             }
-            Ok(None) => {}
-            Err(_) => hint.give_up(),
-        },
+        }
         _ => {}
     }
 }
 
-/// The microseconds of a decimal number of milliseconds with one to three decimals. `None` for another text.
-fn millis(text: &str) -> Option<u64> {
-    let (whole, fraction) = text.split_once('.').or(text.split_once(','))?;
-    if whole.len() > 5 || fraction.is_empty() || fraction.len() > 3 {
-        return None;
+/// The microseconds in a number of milliseconds with decimals. `None` for another text.
+fn micros_in(text: &str) -> Option<u32> {
+    if text.contains('.') || text.contains(',') {
+        // both are marks if no byte separates fields
+        millis_in(0, text.as_bytes())
+    } else {
+        None
     }
-    let mut us = 0u64;
-    for digit in whole.bytes().chain(fraction.bytes()) {
-        if !digit.is_ascii_digit() {
-            return None;
-        }
-        us = us
-            .saturating_mul(10)
-            .saturating_add(u64::from(digit.saturating_sub(b'0')));
-    }
-    for _ in fraction.len()..3 {
-        us = us.saturating_mul(10);
-    }
-    Some(us)
 }
 
-/// A name that is proposed for a text.
-#[derive(Drop)]
-struct ProposedName {
-    name: String,
-    /// Whether it ends with a number, because an earlier text has the name without it.
-    is_numbered: bool,
-}
-
-/// The name for a text of a column: as `--names` makes it, and other than those for earlier texts of the column. `None` if
-/// nothing of the text is left.
-fn proposed_name(
+/// Says the name that `--names` makes of a text of a column. If an earlier text of the column has that name, a number follows.
+/// Nothing is said if the text is such a name.
+fn say_proposed_name(
     file: FileRows,
     column: ImportColumn,
     text: &str,
-    alloc: Global,
-) -> Result<Option<ProposedName>, AllocError> {
-    let made = made_name(alloc, text)?;
+    hint: &HintText,
+) -> Result<(), AllocError> {
+    let made = made_name(hint.alloc, text)?;
     if made.as_slice() == text.as_bytes() {
-        return Ok(None);
+        return Ok(());
     }
     let name = str::from_utf8(made.as_slice()).unwrap_or("");
-    let number = texts_before(file, column, text, name, alloc)?.saturating_add(1);
-    Ok(Some(ProposedName {
-        name: if number == 1 {
-            String::from_str(alloc, name)?
-        } else {
-            numbered_name(alloc, name, number)?
-        },
-        is_numbered: number > 1,
-    }))
+    match texts_before(file, column, text, name, hint.alloc)? {
+        0 => {
+            hint.say_text("; for example ", name);
+            hint.say("; --names makes such names");
+        }
+        before => say_numbered(name, before.saturating_add(1), hint),
+    }
+    Ok(())
+}
+
+/// Whether a text becomes this name.
+pub fn becomes(alloc: Global, text: &str, name: &[u8]) -> Result<bool, AllocError> {
+    Ok(made_name(alloc, text)?.as_slice() == name)
 }
 
 /// How many other texts of a column become a name, of those before the first row with this text.
@@ -350,28 +339,28 @@ fn texts_before(
     name: &str,
     alloc: Global,
 ) -> Result<usize, AllocError> {
-    let mut texts: Vec<&str> = Vec::new(alloc);
-    for row in file.rows {
+    let mut count: usize = 0;
+    for (place, row) in file.rows.iter().enumerate() {
         let earlier = file.text(row, column);
         if earlier == text {
             break;
         }
-        if !texts.contains(&earlier) && made_name(alloc, earlier)?.as_slice() == name.as_bytes() {
-            texts.push(earlier)?;
+        if becomes(alloc, earlier, name.as_bytes())? && file.is_first(place, column) {
+            count = count.saturating_add(1);
         }
     }
-    Ok(texts.len())
+    Ok(count)
 }
 
-/// A name with a number at its end, at most 16 characters.
-fn numbered_name(alloc: Global, name: &str, number: usize) -> Result<String, AllocError> {
-    let digits = format!(in alloc; "{number}")?;
-    let kept = NAME_LEN.saturating_sub(digits.len()).saturating_sub(1);
-    let mut numbered = String::new(alloc);
-    numbered.push_str(first_of(name, kept))?;
-    numbered.push('-')?;
-    numbered.push_str(digits.as_str())?;
-    Ok(numbered)
+/// Says a name with a number at its end, at most 16 characters.
+fn say_numbered(name: &str, number: usize, hint: &HintText) {
+    let letters = if number < 10 {
+        NAME_LEN - 2
+    } else {
+        NAME_LEN - 8
+    };
+    hint.say_text("; for example ", first_of(name, letters));
+    hint.say_count("-", number);
 }
 
 /// The first characters of a name, at most this many, without a `-` at their end.

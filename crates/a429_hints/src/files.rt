@@ -24,19 +24,53 @@ pub fn tell_trouble(trouble: FileTrouble, name: &str, hint: &HintText) {
     });
 }
 
+/// A kind of file: the bytes that it begins with, and what to do about it.
+#[derive(Clone, Copy)]
+struct FileKind {
+    start: &'static [u8],
+    advice: &'static str,
+}
+
+/// The form of a kind of file.
+macro_rules! kind {
+    ($start:literal, $advice:literal) => {
+        FileKind {
+            start: $start,
+            advice: $advice,
+        }
+    };
+}
+
+static KINDS: [FileKind; 6] = [
+    kind!(b"\xFF\xFE", "the file is UTF-16; save it as UTF-8"),
+    kind!(b"\xFE\xFF", "the file is UTF-16; save it as UTF-8"),
+    kind!(
+        b"\x1F\x8B",
+        "the file is compressed (gzip); unpack it first"
+    ),
+    kind!(
+        b"\xD4\xC3\xB2\xA1",
+        "this is a capture file (pcap); export it as text"
+    ),
+    kind!(
+        b"\xA1\xB2\xC3\xD4",
+        "this is a capture file (pcap); export it as text"
+    ),
+    kind!(
+        b"PK\x03\x04",
+        "this is a workbook or an archive; save it as comma-separated values"
+    ),
+];
+
 /// What kind of file begins with these bytes, if it is none of text in UTF-8.
 pub fn other_file(bytes: &[u8]) -> Option<&'static str> {
-    match bytes {
-        [0xFF, 0xFE, ..] | [0xFE, 0xFF, ..] | [_, 0, ..] => {
-            Some("the file is UTF-16; save it as UTF-8")
+    for kind in &KINDS {
+        if bytes.starts_with(kind.start) {
+            return Some(kind.advice);
         }
-        [0x1F, 0x8B, ..] => Some("the file is compressed (gzip); unpack it first"),
-        [0xD4, 0xC3, 0xB2, 0xA1, ..] | [0xA1, 0xB2, 0xC3, 0xD4, ..] => {
-            Some("this is a capture file (pcap); export it as text")
-        }
-        [b'P', b'K', 3, 4, ..] => {
-            Some("this is a workbook or an archive; save it as comma-separated values")
-        }
+    }
+    match bytes.get(1) {
+        Some(0) => Some("the file is UTF-16; save it as UTF-8"),
         _ => None,
     }
 }

@@ -13,7 +13,7 @@ pub fn tell_imported(file: FileRows, kind: FaultKind, place: TablePlace, hint: &
     if kind == FaultKind::TooMany {
         return tell_too_many(file, place, hint);
     }
-    let Some(row) = row_of(file, place, hint) else {
+    let Some(row) = row_of(file, place) else {
         return;
     };
     match kind {
@@ -24,15 +24,15 @@ pub fn tell_imported(file: FileRows, kind: FaultKind, place: TablePlace, hint: &
     }
 }
 
-/// The first row about a place of the table. `None` if there is none, or if an allocation failed.
-fn row_of<'a>(file: FileRows<'a>, place: TablePlace, hint: &HintText) -> Option<&'a CsvLine> {
+/// The first row about a place of the table. `None` if there is none.
+fn row_of<'a>(file: FileRows<'a>, place: TablePlace) -> Option<&'a CsvLine> {
     match place {
         TablePlace::Root => None,
-        TablePlace::Receiver(number) => file.first_row(ImportColumn::Receiver, number, hint),
-        TablePlace::Source(number) => file.first_row(ImportColumn::Source, number, hint),
-        TablePlace::Group(number) => file.first_row(ImportColumn::Group, number, hint),
+        TablePlace::Receiver(number) => file.first_row(ImportColumn::Receiver, number),
+        TablePlace::Source(number) => file.first_row(ImportColumn::Source, number),
+        TablePlace::Group(number) => file.first_row(ImportColumn::Group, number),
         TablePlace::Output(group, number) => {
-            let row = file.first_row(ImportColumn::Group, group, hint)?;
+            let row = file.first_row(ImportColumn::Group, group)?;
             file.output_row(file.field(row, ImportColumn::Group), number)
         }
     }
@@ -62,36 +62,11 @@ fn tell_column(file: FileRows, row: &CsvLine, column: ImportColumn, hint: &HintT
     tell_field(file, row, column, file.text(row, column), hint);
 }
 
-/// The text that a spreadsheet wrote as `="TEXT"`.
-fn bare(text: &str) -> &str {
-    match text.strip_prefix("=\"") {
-        Some(rest) => rest.strip_suffix("\"").unwrap_or(text),
-        None => text,
-    }
-}
-
-/// The digits of a row's label, as a decimal number.
-fn label_in(file: FileRows, row: &CsvLine) -> u64 {
-    bare(file.text(row, ImportColumn::Label))
-        .parse::<u64>()
-        .unwrap_or(0)
-}
-
-/// The SDI of a row. `None` if it is any.
-fn sdi_in(file: FileRows, row: &CsvLine) -> Option<u8> {
-    match bare(file.text(row, ImportColumn::Sdi)) {
-        "0" | "00" => Some(0),
-        "1" | "01" => Some(1),
-        "2" | "10" => Some(2),
-        "3" | "11" => Some(3),
-        _ => None,
-    }
-}
-
 /// Says which end of an interval has a fault.
 fn tell_interval(file: FileRows, row: &CsvLine, hint: &HintText) {
-    let min_us = file.interval(row, ImportColumn::MinUs);
-    let max_us = file.interval(row, ImportColumn::MaxUs);
+    let Some((min_us, max_us)) = file.interval_of(row) else {
+        return;
+    };
     if min_us < 1 {
         tell_column(file, row, ImportColumn::MinUs, hint);
     }
@@ -109,17 +84,24 @@ fn tell_interval(file: FileRows, row: &CsvLine, hint: &HintText) {
     }
 }
 
-/// Whether two rows have the same label. A spreadsheet may have removed its leading zeros.
-fn have_same_label(file: FileRows, a: &CsvLine, b: &CsvLine) -> bool {
-    label_in(file, a) == label_in(file, b)
-}
-
 /// Whether the sources of two rows have the same receiver and label, and overlapping SDIs.
 fn meet(file: FileRows, a: &CsvLine, b: &CsvLine) -> bool {
-    let (one, other) = (sdi_in(file, a), sdi_in(file, b));
+    let (Some((label, sdi)), Some((other, other_sdi))) = (file.word_of(a), file.word_of(b)) else {
+        return false;
+    };
     file.field(a, ImportColumn::Receiver) == file.field(b, ImportColumn::Receiver)
-        && have_same_label(file, a, b)
-        && (one == other || one.is_none() || other.is_none())
+        && label == other
+        && (sdi == other_sdi || sdi.is_none() || other_sdi.is_none())
+}
+
+/// Whether two rows send the same label and SDI in one group.
+fn send_same(file: FileRows, a: &CsvLine, b: &CsvLine) -> bool {
+    let (Some((label, sdi)), Some((other, other_sdi))) = (file.word_of(a), file.word_of(b)) else {
+        return false;
+    };
+    file.field(a, ImportColumn::Group) == file.field(b, ImportColumn::Group)
+        && label == other
+        && sdi == other_sdi
 }
 
 /// Says with which earlier source the source of a row clashes.
@@ -140,11 +122,7 @@ fn tell_twin_source(file: FileRows, row: &CsvLine, hint: &HintText) {
 /// Says which earlier row of the same group has the same label and SDI.
 fn tell_twin_output(file: FileRows, row: &CsvLine, hint: &HintText) {
     for earlier in file.rows {
-        if earlier.number != row.number
-            && file.field(earlier, ImportColumn::Group) == file.field(row, ImportColumn::Group)
-            && have_same_label(file, earlier, row)
-            && sdi_in(file, earlier) == sdi_in(file, row)
-        {
+        if earlier.number != row.number && send_same(file, earlier, row) {
             begin_row(row, ": this row and line ", hint);
             hint.say_number("", earlier.number);
             return hint.end(" have the same group, label and SDI");
@@ -161,7 +139,7 @@ fn tell_too_many(file: FileRows, place: TablePlace, hint: &HintText) {
             tell_more(file, ImportColumn::Group, GROUPS, hint);
         }
         TablePlace::Receiver(_) => {
-            if let Some(row) = row_of(file, place, hint) {
+            if let Some(row) = row_of(file, place) {
                 tell_filters(file, row, hint);
             }
         }
@@ -172,7 +150,7 @@ fn tell_too_many(file: FileRows, place: TablePlace, hint: &HintText) {
 
 /// Says which row has one output too many for its group, if there is one.
 fn tell_more_outputs(file: FileRows, group: usize, hint: &HintText) {
-    if let Some(row) = row_of(file, TablePlace::Output(group, OUTPUTS), hint) {
+    if let Some(row) = row_of(file, TablePlace::Output(group, OUTPUTS)) {
         begin_row(row, ": this is output number ", hint);
         hint.say_count("", OUTPUTS + 1);
         hint.say_count(" of its group; a group can have at most ", OUTPUTS);
@@ -182,7 +160,7 @@ fn tell_more_outputs(file: FileRows, group: usize, hint: &HintText) {
 
 /// Says which row has one receiver, source or group too many, if there is one.
 fn tell_more(file: FileRows, column: ImportColumn, most: usize, hint: &HintText) {
-    if let Some(row) = file.first_row(column, most, hint) {
+    if let Some(row) = file.first_row(column, most) {
         begin_column(file, row, column, hint);
         hint.say_count("this is number ", most.saturating_add(1));
         hint.say_count("; a table can have at most ", most);

@@ -1,7 +1,8 @@
 //! Hints about rows of comma-separated values that `import` refuses.
 
 use crate::file_rows::{
-    FileRows, begin_column, begin_row, is_of_names, is_of_output, tell_field, tell_no_group,
+    FileRows, becomes, begin_column, begin_row, is_of_names, is_of_output, tell_field,
+    tell_no_group,
 };
 use crate::files::{REFUSED_OUTPUT, other_file};
 use crate::headings::tell_heading;
@@ -265,9 +266,9 @@ fn first_of_name<'a>(
     hint: &HintText,
 ) -> Option<&'a CsvLine> {
     for row in file.rows {
-        match made_name(hint.alloc, file.text(row, column)) {
-            Ok(made) if made.as_slice() == name => return Some(row),
-            Ok(_) => {}
+        match becomes(hint.alloc, file.text(row, column), name) {
+            Ok(true) => return Some(row),
+            Ok(false) => {}
             Err(_) => hint.give_up(),
         }
     }

@@ -4,15 +4,11 @@ use crate::hint::HintText;
 use crate::nearest::Nearest;
 use crate::rows::short_text;
 use a429_arguments::forms::commands;
-use std::alloc::{AllocError, Global};
 
 /// Says which command or which option is nearest to an unknown one.
 pub fn tell_nearest_word(words: &[&str], hint: &HintText) {
-    let (Ok(commands), Ok(options)) = (command_names(hint.alloc), option_names(hint.alloc)) else {
-        return hint.give_up();
-    };
     if let Some(first) = words.first() {
-        tell_nearest("a command", &commands, first, hint);
+        tell_nearest_command(first, hint);
     }
     for word in words {
         if *word == "--" {
@@ -20,7 +16,7 @@ pub fn tell_nearest_word(words: &[&str], hint: &HintText) {
         }
         if word.starts_with("--") {
             let (name, _) = word.split_once('=').unwrap_or((word, ""));
-            tell_nearest("an option", &options, name, hint);
+            tell_nearest_option(name, hint);
         }
     }
 }
@@ -44,47 +40,42 @@ pub fn tell_habits(words: &[&str], hint: &HintText) {
     }
 }
 
-/// The names of the commands, separated by spaces. If two are equally near, the hint names the first. So `word`,
-/// `encode` and `lines`, the first three commands, come last: they are meant least often.
-fn command_names(alloc: Global) -> Result<String, AllocError> {
-    let mut names = String::new(alloc);
-    for form in commands().iter().skip(3) {
-        add_name("", form.name, &mut names)?;
+/// Says which command is nearest to an argument that is none. If two are equally near, it is the first. So `word`, `encode`
+/// and `lines`, the first three commands, come last: they are meant least often.
+fn tell_nearest_command(word: &str, hint: &HintText) {
+    let shown = short_text(word);
+    let (rare, others) = commands().split_at(3);
+    let mut nearest = Nearest::to(shown.as_str());
+    for form in others {
+        nearest = nearest.or(hint.alloc, form.name);
     }
-    for form in commands().iter().take(3) {
-        add_name("", form.name, &mut names)?;
+    for form in rare {
+        nearest = nearest.or(hint.alloc, form.name);
     }
-    names.push_str("help")?;
-    Ok(names)
+    match nearest.or(hint.alloc, "help").name() {
+        Some(name) if name != shown.as_str() => {
+            hint.say_quoted("a429: ", shown.as_str());
+            hint.end_text(" is not a command; the nearest is ", name);
+        }
+        _ => {}
+    }
 }
 
-/// The options, separated by spaces.
-fn option_names(alloc: Global) -> Result<String, AllocError> {
-    let mut names = String::new(alloc);
+/// Says which option is nearest to one that is none.
+fn tell_nearest_option(word: &str, hint: &HintText) {
+    let shown = short_text(word);
+    let text = shown.as_str().strip_prefix("--").unwrap_or("");
+    let mut nearest = Nearest::after(2, text);
     for form in commands() {
         for option in form.options {
-            add_name("--", option.id, &mut names)?;
+            nearest = nearest.or(hint.alloc, option.id);
         }
     }
-    names.push_str("--help --version")?;
-    Ok(names)
-}
-
-fn add_name(hyphens: &str, name: &str, names: &mut String) -> Result<(), AllocError> {
-    names.push_str(hyphens)?;
-    names.push_str(name)?;
-    names.push(' ')
-}
-
-/// Says which name of this kind is nearest to an argument, if the argument is not such a name.
-fn tell_nearest(kind: &str, names: &str, word: &str, hint: &HintText) {
-    let shown = short_text(word);
-    let shown = shown.as_str();
-    match Nearest::among(hint.alloc, shown, names).name() {
-        Some(name) if name != shown => {
-            hint.say_quoted("a429: ", shown);
-            hint.say_text(" is not ", kind);
-            hint.end_text("; the nearest is ", name);
+    let nearest = nearest.or(hint.alloc, "help").or(hint.alloc, "version");
+    match nearest.name() {
+        Some(name) if name != text => {
+            hint.say_quoted("a429: ", shown.as_str());
+            hint.end_text(" is not an option; the nearest is --", name);
         }
         _ => {}
     }

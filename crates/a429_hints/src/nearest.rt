@@ -7,13 +7,24 @@ use strsim::levenshtein;
 #[derive(Clone, Copy)]
 pub struct Nearest<'a> {
     text: &'a str,
+    /// How many letters the text and all names have before these.
+    common: usize,
     best: Option<(usize, &'a str)>,
 }
 
 impl<'a> Nearest<'a> {
     /// The name nearest to a text, before any name was compared.
     pub fn to(text: &'a str) -> Nearest<'a> {
-        Nearest { text, best: None }
+        Nearest::after(0, text)
+    }
+
+    /// The same, if the text and all names have this number of letters before these.
+    pub fn after(common: usize, text: &'a str) -> Nearest<'a> {
+        Nearest {
+            text,
+            common,
+            best: None,
+        }
     }
 
     /// Among names that are separated by spaces.
@@ -34,6 +45,7 @@ impl<'a> Nearest<'a> {
             Some((fewest, _)) if fewest <= edits => self,
             _ => Nearest {
                 text: self.text,
+                common: self.common,
                 best: Some((edits, name)),
             },
         }
@@ -42,7 +54,9 @@ impl<'a> Nearest<'a> {
     /// The nearest name, if at most half of its letters differ.
     pub fn name(self) -> Option<&'a str> {
         match self.best {
-            Some((edits, name)) if edits <= name.len() / 2 => Some(name),
+            Some((edits, name)) if edits <= name.len().saturating_add(self.common) / 2 => {
+                Some(name)
+            }
             _ => None,
         }
     }

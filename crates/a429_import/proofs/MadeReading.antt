@@ -1,6 +1,5 @@
 -- What is known of lines with made names, after one more line.
 use Rattle.std.proofs.Common.{◌≡◌, ◌∙◌, Bool, true, false, List, [], ◌∷◌, ◌++◌, Option, None, Some, ap, refl, subst, sym}
-use Rattle.std.specs.List.{AllZip}
 use Rattle.a429_import.specs.declared.columns.Heading.{Heading}
 use Rattle.a429_import.specs.declared.lines.CsvLine.{CsvLine}
 use Rattle.a429_import.specs.declared.made_reading.NamesRead.{NamesRead}

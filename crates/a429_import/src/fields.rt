@@ -148,7 +148,7 @@ pub fn may_be_thousands(separator: u8, field: &[u8]) -> bool
 /// separate fields. `None` for any other field, if it states a part of a microsecond, and if it may be a thousand times as
 /// much.
 #[tactic(auto, unfolding(crate::specs::ImportFields::millis_in))]
-fn millis_in(separator: u8, field: &[u8]) -> Option<u32>
+pub fn millis_in(separator: u8, field: &[u8]) -> Option<u32>
     ensures { result ≡ millis_in separator field.now }
 {
     if may_be_thousands(separator, field) {

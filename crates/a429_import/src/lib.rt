@@ -54,9 +54,9 @@ mod words;
 
 pub use columns::{COLUMNS as IMPORT_COLUMNS, Heading, is_column, is_named as is_column_named};
 pub use fault::{CsvFaultKind, ImportColumn, ImportFault};
-pub use fields::may_be_thousands;
+pub use fields::{may_be_thousands, millis_in};
 pub use import::import_table;
 pub use lines::{CsvLine, LineCount, csv_lines};
 pub use made_names::made_name;
 pub use maps::{column_in, is_met, named_by};
-pub use rows::form_fault;
+pub use rows::{RowNumbers, form_fault, row_numbers};

@@ -168,7 +168,7 @@ fn filters_at<'a>(heading: &Heading, line: &'a CsvLine) -> Result<&'a str, Impor
 
 /// The numbers of a row. Error: the first column with a wrong form.
 #[tactic(auto, unfolding(crate::specs::ImportRows::numbers_of))]
-fn row_numbers(heading: &Heading, line: &CsvLine) -> Result<RowNumbers, ImportColumn>
+pub fn row_numbers(heading: &Heading, line: &CsvLine) -> Result<RowNumbers, ImportColumn>
     ensures { result ≡ numbers_of line.now.separator (fields_of heading.now.line.fields) (fields_of line.now.fields) }
 {
     let rate = rate_at(heading, line)?;

@@ -1,4 +1,4 @@
-use Rattle.std.proofs.Common.{◌∙◌, Err, Some, Vec, Global, ℕ, refl, subst, sym}
+use Rattle.std.proofs.Common.{◌∙◌, Err, Some, refl, subst, sym}
 use Rattle.a429_import.specs.declared.fault.CsvFaultKind.TheVariants.{Differs}
 use Rattle.a429_import.specs.declared.fault.ImportFault.TheVariants.{Csv}
 use Rattle.a429_import.specs.Imports.{IsImportUnless}

@@ -1,4 +1,4 @@
-use Rattle.std.proofs.Common.{◌≡◌, ◌≤◌, ◌∙◌, ◌++◌, List, ℕ, [], ap, arith, drop, length, sym, take}
+use Rattle.std.proofs.Common.{◌≡◌, ◌∙◌, ◌++◌, List, ℕ, [], ap, arith, drop, sym, take}
 use Rattle.std.proofs.lemmas.List.{append-nil, drop_all, take_all}
 use Rattle.a429_import.specs.MadeNames.{dashed}
 use Rattle.a429_import.proofs.made_names.push_dashed.Goals as goal

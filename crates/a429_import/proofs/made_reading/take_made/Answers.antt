@@ -1,4 +1,4 @@
-use Rattle.std.proofs.Common.{◌≡◌, ◌∷◌, [], List, None, Some, refl, subst, sym}
+use Rattle.std.proofs.Common.{◌∷◌, [], List, refl, subst, sym}
 use Rattle.a429_import.specs.declared.lines.CsvLine.{CsvLine}
 use Rattle.a429_import.specs.declared.made_reading.NamesRead.{NamesRead}
 use Rattle.a429_import.specs.ImportReading.{IsHeadingOf}

@@ -1,4 +1,4 @@
-use Rattle.std.proofs.Common.{◌≡◌, ◌+◌, List, ℕ, refl, true}
+use Rattle.std.proofs.Common.{◌≡◌, ◌+◌, List, refl, true}
 use Rattle.a429_equipment.specs.declared.rows.OutputRow.{OutputRow}
 use Rattle.a429_equipment.specs.SameStation.{all_agree}
 use Rattle.a429_import.specs.SameTables.{same_output}

@@ -1,7 +1,7 @@
-use Rattle.std.proofs.Common.{◌≡◌, ◌∙◌, [], Bool, List, ℕ, Option, ap, ap₂, sym}
+use Rattle.std.proofs.Common.{◌≡◌, ◌∙◌, [], Bool, ℕ, Option, ap, ap₂, sym}
 use Rattle.std.specs.Option.{option_or}
 use Rattle.a429_import.specs.declared.fault.ImportColumn.{ImportColumn}
-use Rattle.a429_import.specs.declared.fault.ImportColumn.TheVariants.{Group, Source, Receiver}
+use Rattle.a429_import.specs.declared.fault.ImportColumn.TheVariants.{Group, Source}
 use Rattle.a429_import.specs.declared.lines.CsvLine.{CsvLine}
 use Rattle.a429_import.specs.MadeLines.{column_by, first_column, on_line}
 use Rattle.a429_import.specs.MadeReading.{has_other}
