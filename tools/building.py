@@ -24,6 +24,9 @@ from concurrent.futures import FIRST_COMPLETED, ThreadPoolExecutor, wait
 import repository
 from repository import ROOT, below, crates, kit, kit_line, rattle, rattle_words, stamp
 
+# A library with fewer lines of code is small.
+SMALL_LIBRARY = 1000
+
 # What one check takes of memory, at most, in kB.
 MEMORY_OF_A_CHECK = 4_500_000
 
@@ -146,11 +149,13 @@ def chains(names):
 def division(ready, chain, longest, idle):
     """Divides idle processors among the libraries that are ready, which come with the longest chain first: pairs of a library and
     its processors. A second processor shortens a proof by two fifths and costs a sixth more in all, and a third more in a
-    small library. So a library gets one only if nothing else could use it, and if the end of the build waits for its chain."""
+    small library. So a library gets one only if it is not small, if nothing else could use it, and if the end of the build
+    waits for its chain."""
     given = ready[:idle]
     spare, found = idle - len(given), []
     for name in given:
-        has_second = spare > 0 and 10 * chain[name] >= 8 * longest
+        is_small = crates()[name].lines_of_code() < SMALL_LIBRARY
+        has_second = spare > 0 and 10 * chain[name] >= 8 * longest and not is_small
         spare -= has_second
         found.append((name, 1 + has_second))
     return found

@@ -3,6 +3,7 @@ ghost use Rattle.std.specs.Prelude.{◌≡◌, ◌≤◌, IfOk, MatchResult};
 ghost use Rattle.a429_console.specs.Readings.{HasRead};
 ghost use Rattle.a429_console.specs.RefusalText.{OrMemory};
 ghost use Rattle.a429_console.specs.Tables.{IsProposedBy, IsTableRefusal};
+ghost use Rattle.a429_documents.specs.Diff.{diff_columns, diff_rows};
 ghost use Rattle.a429_cli.specs.Findings.{AnswersDiff, IsDiffBetween, IsFound, IsLint, IsLinted, IsNoDiffBetween, IsNoLint, found_status, names_of};
 ghost use Rattle.a429_cli.specs.WholeReplies.{Replies};
 
@@ -74,6 +75,20 @@ fn propose_second(alloc: Global, table: &[u8]) -> Result<Proposal<OUTPUTS>, Refu
     }
 }
 
+/// What changes from one plan to another. Error: an allocation failed.
+fn diff_of(
+    alloc: Global,
+    first: &Proposal<OUTPUTS>,
+    second: &Proposal<OUTPUTS>,
+    all: bool,
+    form: SheetForm,
+) -> Result<Reply, AllocError>
+    ensures { IfOk result (λ reply. IsFound form diff_columns (diff_rows first.now second.now all) reply.status reply.bytes.items) }
+{
+    let sheet = diff_sheet(alloc, first, second, all);
+    found_reply(alloc, &sheet, form)
+}
+
 /// What changes from the plan of a table to that of another. The first table is refused first, then its plan, then the
 /// second table, then its plan.
 fn diff_between(
@@ -87,8 +102,7 @@ fn diff_between(
 {
     let first = propose(alloc, table)?;
     let second = propose_second(alloc, other)?;
-    let sheet = diff_sheet(alloc, &first, &second, all);
-    Ok(found_reply(alloc, &sheet, form)?)
+    Ok(diff_of(alloc, &first, &second, all, form)?)
 }
 
 /// What changes from the plan of the table in a file to that of the table in another, a row for each thing that differs. With

@@ -10,6 +10,27 @@ use std::alloc::{AllocError, Global};
 /// The maximum length of a name.
 const NAME_LEN: usize = 16;
 
+/// The label and the SDI of a row.
+#[derive(Clone, Copy)]
+pub struct RowWord {
+    label: Label,
+    /// `None` if it is any.
+    sdi: Option<Sdi>,
+}
+
+impl RowWord {
+    /// Whether both have the same label and SDI.
+    pub fn is_same(self, other: RowWord) -> bool {
+        self.label == other.label && self.sdi == other.sdi
+    }
+
+    /// Whether both have the same label, and overlapping SDIs.
+    pub fn meets(self, other: RowWord) -> bool {
+        self.label == other.label
+            && (self.sdi == other.sdi || self.sdi.is_none() || other.sdi.is_none())
+    }
+}
+
 /// The rows of a file below their heading.
 #[derive(Clone, Copy)]
 pub struct FileRows<'a> {
@@ -58,10 +79,10 @@ impl<'a> FileRows<'a> {
         }
     }
 
-    /// The label and the SDI of a row; the SDI is `None` if it is any. `None` if a number of the row has a wrong form.
-    pub fn word_of(self, row: &CsvLine) -> Option<(Label, Option<Sdi>)> {
+    /// The label and the SDI of a row. `None` if a number of the row has a wrong form.
+    pub fn word_of(self, row: &CsvLine) -> Option<RowWord> {
         match row_numbers(self.heading, row) {
-            Ok(RowNumbers { label, sdi, .. }) => Some((label, sdi)),
+            Ok(RowNumbers { label, sdi, .. }) => Some(RowWord { label, sdi }),
             Err(_) => None,
         }
     }

@@ -86,22 +86,24 @@ fn tell_interval(file: FileRows, row: &CsvLine, hint: &HintText) {
 
 /// Whether the sources of two rows have the same receiver and label, and overlapping SDIs.
 fn meet(file: FileRows, a: &CsvLine, b: &CsvLine) -> bool {
-    let (Some((label, sdi)), Some((other, other_sdi))) = (file.word_of(a), file.word_of(b)) else {
-        return false;
-    };
-    file.field(a, ImportColumn::Receiver) == file.field(b, ImportColumn::Receiver)
-        && label == other
-        && (sdi == other_sdi || sdi.is_none() || other_sdi.is_none())
+    match (file.word_of(a), file.word_of(b)) {
+        (Some(one), Some(other)) => {
+            file.field(a, ImportColumn::Receiver) == file.field(b, ImportColumn::Receiver)
+                && one.meets(other)
+        }
+        _ => false,
+    }
 }
 
 /// Whether two rows send the same label and SDI in one group.
 fn send_same(file: FileRows, a: &CsvLine, b: &CsvLine) -> bool {
-    let (Some((label, sdi)), Some((other, other_sdi))) = (file.word_of(a), file.word_of(b)) else {
-        return false;
-    };
-    file.field(a, ImportColumn::Group) == file.field(b, ImportColumn::Group)
-        && label == other
-        && sdi == other_sdi
+    match (file.word_of(a), file.word_of(b)) {
+        (Some(one), Some(other)) => {
+            file.field(a, ImportColumn::Group) == file.field(b, ImportColumn::Group)
+                && one.is_same(other)
+        }
+        _ => false,
+    }
 }
 
 /// Says with which earlier source the source of a row clashes.

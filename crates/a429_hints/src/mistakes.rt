@@ -3,7 +3,8 @@
 use crate::hint::HintText;
 use crate::nearest::Nearest;
 use crate::rows::short_text;
-use a429_arguments::forms::commands;
+use a429_arguments::forms::{OptionForm, commands};
+use std::alloc::Global;
 
 /// Says which command or which option is nearest to an unknown one.
 pub fn tell_nearest_word(words: &[&str], hint: &HintText) {
@@ -14,10 +15,16 @@ pub fn tell_nearest_word(words: &[&str], hint: &HintText) {
         if *word == "--" {
             return;
         }
-        if word.starts_with("--") {
-            let (name, _) = word.split_once('=').unwrap_or((word, ""));
-            tell_nearest_option(name, hint);
-        }
+        tell_if_option(word, hint);
+    }
+}
+
+/// Says which option is nearest to an argument, if that is an unknown option.
+fn tell_if_option(word: &str, hint: &HintText) {
+    if word.starts_with("--") {
+        let (name, _) = word.split_once('=').unwrap_or((word, ""));
+        let shown = short_text(name);
+        tell_nearest_option(shown.as_str(), hint);
     }
 }
 
@@ -52,31 +59,35 @@ fn tell_nearest_command(word: &str, hint: &HintText) {
     for form in rare {
         nearest = nearest.or(hint.alloc, form.name);
     }
-    match nearest.or(hint.alloc, "help").name() {
-        Some(name) if name != shown.as_str() => {
-            hint.say_quoted("a429: ", shown.as_str());
-            hint.end_text(" is not a command; the nearest is ", name);
-        }
-        _ => {}
-    }
+    let nearest = nearest.or(hint.alloc, "help");
+    tell_nearest(shown.as_str(), "a command", "", nearest, hint);
 }
 
-/// Says which option is nearest to one that is none.
+/// Says which option is nearest to one that is none. Its two hyphens are left out of the comparison.
 fn tell_nearest_option(word: &str, hint: &HintText) {
-    let shown = short_text(word);
-    let text = shown.as_str().strip_prefix("--").unwrap_or("");
-    let mut nearest = Nearest::after(2, text);
+    let mut nearest = Nearest::after(2, word.strip_prefix("--").unwrap_or(""));
     for form in commands() {
-        for option in form.options {
-            nearest = nearest.or(hint.alloc, option.id);
-        }
+        nearest = or_options(hint.alloc, nearest, form.options);
     }
     let nearest = nearest.or(hint.alloc, "help").or(hint.alloc, "version");
-    match nearest.name() {
-        Some(name) if name != text => {
-            hint.say_quoted("a429: ", shown.as_str());
-            hint.end_text(" is not an option; the nearest is --", name);
-        }
-        _ => {}
+    tell_nearest(word, "an option", "--", nearest, hint);
+}
+
+/// Compares the names of options too.
+fn or_options<'a>(alloc: Global, nearest: Nearest<'a>, options: &'a [OptionForm]) -> Nearest<'a> {
+    let mut nearest = nearest;
+    for option in options {
+        nearest = nearest.or(alloc, option.id);
+    }
+    nearest
+}
+
+/// Says which name of this kind is nearest to an argument, if it is another one.
+fn tell_nearest(word: &str, kind: &str, hyphens: &str, nearest: Nearest<'_>, hint: &HintText) {
+    if let Some(name) = nearest.other_name() {
+        hint.say_quoted("a429: ", word);
+        hint.say_text(" is not ", kind);
+        hint.say_text("; the nearest is ", hyphens);
+        hint.end(name);
     }
 }

@@ -51,6 +51,14 @@ impl<'a> Nearest<'a> {
         }
     }
 
+    /// The nearest name, if it is not the text itself and at most half of its letters differ.
+    pub fn other_name(self) -> Option<&'a str> {
+        match self.best {
+            Some((0, _)) => None,
+            _ => self.name(),
+        }
+    }
+
     /// The nearest name, if at most half of its letters differ.
     pub fn name(self) -> Option<&'a str> {
         match self.best {

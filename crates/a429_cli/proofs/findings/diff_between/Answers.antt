@@ -24,14 +24,13 @@ returns-in_err-second c =
     failed c.from_residual-in_err-second.result _ (OrMemory none) e (p.1 ∙ ap Err p.2)
     (or_memory_weaker (IsTableRefusal c.args.other.now) none e (λ one. inr (c.in_ok-first.first, c.in_ok-first.ensures, one)) c.in_err-second.ensures)
 
-pub returns-in_err-found_reply : goal.returns-in_err-found_reply
-returns-in_err-found_reply c =
-    let p = err_from_is_err_and c.from_residual-in_err-found_reply.result c.from_residual-in_err-found_reply.ensures.1 in
-    failed c.from_residual-in_err-found_reply.result _ (OrMemory (IsNoDiffBetween c.args.table.now c.args.other.now)) refused.Memory (p.1 ∙ ap Err p.2) tt
+pub returns-in_err-diff_of : goal.returns-in_err-diff_of
+returns-in_err-diff_of c =
+    let p = err_from_is_err_and c.from_residual-in_err-diff_of.result c.from_residual-in_err-diff_of.ensures.1 in
+    failed c.from_residual-in_err-diff_of.result _ (OrMemory (IsNoDiffBetween c.args.table.now c.args.other.now)) refused.Memory (p.1 ∙ ap Err p.2) tt
 
 pub returns : goal.returns
 returns c =
     let a = c.in_ok-first.first in
     let b = c.in_ok-second.second in
-    let found = rw (c.diff_sheet-sheet.ensures.columns, c.diff_sheet-sheet.ensures.rows) at c.in_ok-found_reply.ensures in
-    (a, b, c.in_ok-first.ensures, c.in_ok-second.ensures, found)
+    (a, b, c.in_ok-first.ensures, c.in_ok-second.ensures, c.in_ok-diff_of.ensures)
