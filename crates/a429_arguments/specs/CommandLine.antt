@@ -5,6 +5,8 @@ use Rattle.clap.specs.declared.builder.arg.Arg.{Arg}
 use Rattle.clap.specs.declared.builder.action.ArgAction.TheVariants.{Append, SetTrue}
 use Rattle.clap.specs.declared.builder.value_parser.ValueParser.TheVariants as reads
 use Rattle.a429_equipment.specs.Limits.{most_frames}
+use Rattle.a429_arguments.specs.declared.command_line.Given.{Given}
+use Rattle.a429_arguments.specs.declared.command_line.Given.TheVariants as thing
 use Rattle.a429_arguments.specs.declared.forms.CommandForm.{CommandForm}
 use Rattle.a429_arguments.specs.declared.forms.NameForm.{NameForm}
 use Rattle.a429_arguments.specs.declared.forms.NumberForm.{NumberForm}
@@ -247,6 +249,12 @@ command_line = with_commands bare_line (map row_of verbs)
 -- an argument of this rule, for one command alone
 abbrev pub HasRule : Arg → Rule → Type 0
 HasRule a rule = (rule_of a ≡ rule) × (a.global ≡ false)
+
+-- what a command is given that is no option
+abbrev pub given_rule : Given → Rule
+given_rule (thing.Name form) = required_rule form.id.now
+given_rule (thing.Number form) = number_rule (form.id.now, form.most)
+given_rule (thing.Names form) = many_rule form.id.now
 
 abbrev pub kind_rule : Text → OptionKind → Rule
 kind_rule id given.Flag = flag_rule id

@@ -1,10 +1,10 @@
 //! Choices by the arguments, by rules that `clap` does not state.
-ghost use Rattle.std.specs.Prelude.{◌≡◌, None, Some, codes, false, true, is_some, map, IfErr, IfOk};
+ghost use Rattle.std.specs.Prelude.{◌≡◌, ◌||◌, None, Some, codes, false, not, true, is_some, map, IfErr, IfOk};
 ghost use Rattle.std.specs.List.{list_all};
 ghost use Rattle.a429_arguments.specs.Requests.{is_one_alone};
 ghost use Rattle.a429_text.specs.Renames.{is_rename};
 ghost use Rattle.clap.specs.Words.{first_of, found_of, one_of, rows_of};
-ghost use Rattle.a429_arguments.specs.RequestRows.{are_refused, are_renames, choices_given, form_given, form_of, has_other_form, has_wrong_renames, is_set, is_value_given, lacks_csv, lacks_option, has_wrong_rename, lacks_rows, lacks_value, width_given};
+ghost use Rattle.a429_arguments.specs.RequestRows.{are_refused, are_renames, choices_given, form_given, form_of, has_other_form, has_wrong_renames, is_set, is_value_given, lacks_csv, lacks_rows, lacks_value, width_given};
 
 use crate::options::{
     BCD, BITS, BNR, CHANNEL, CODE, CSV, DATA, JSON, MAP, ROWS, SENT, SLACK, SUMMARY, TEXT, WIDTH,
@@ -119,41 +119,61 @@ fn is_one_alone(first: bool, second: bool, third: bool) -> bool
     }
 }
 
-/// Whether the data of a word are given in one way. The error says what is wrong.
-fn value_given(found: &ArgMatches<'_>) -> Result<(), &'static str>
-    ensures given { IfOk result (λ _. is_value_given (rows_of (found_of found.now)) ≡ true) }
-    ensures none { IfErr result (λ _. is_value_given (rows_of (found_of found.now)) ≡ false) }
+/// The first of two faults, if there is one.
+fn first_fault(a: Option<&'static str>, b: Option<&'static str>) -> Option<&'static str>
+    ensures { is_some result ≡ (is_some a.entry || is_some b.entry) }
+{
+    match a {
+        Some(_) => a,
+        None => b,
+    }
+}
+
+/// What is wrong, if the data of a word are not given in one way.
+fn value_fault(found: &ArgMatches<'_>) -> Option<&'static str>
+    ensures { is_some result ≡ not (is_value_given (rows_of (found_of found.now))) }
 {
     let is_bnr = has_text(found, BNR.id);
     if !is_one_alone(has_text(found, DATA.id), is_bnr, has_text(found, BCD.id)) {
-        return Err("give exactly one of '--data', '--bnr' and '--bcd'");
+        return Some("give exactly one of '--data', '--bnr' and '--bcd'");
     }
     if has_text(found, BITS.id) && !is_bnr {
-        return Err("'--bits' needs '--bnr'");
+        return Some("'--bits' needs '--bnr'");
     }
-    Ok(())
+    None
 }
 
-/// Whether intervals are widened only of rows that are asked for. The error says what is wrong.
-fn slack_given(found: &ArgMatches<'_>) -> Result<(), &'static str>
-    ensures given { IfOk result (λ _. lacks_rows (rows_of (found_of found.now)) ≡ false) }
-    ensures none { IfErr result (λ _. lacks_rows (rows_of (found_of found.now)) ≡ true) }
+/// The same, if the command of this name makes a word.
+fn value_fault_of(name: &str, found: &ArgMatches<'_>) -> Option<&'static str>
+    ensures { is_some result ≡ lacks_value name.now (rows_of (found_of found.now)) }
+{
+    if name == ENCODE {
+        value_fault(found)
+    } else {
+        None
+    }
+}
+
+/// What is wrong, if intervals are widened but no rows are asked for.
+fn slack_fault(found: &ArgMatches<'_>) -> Option<&'static str>
+    ensures { is_some result ≡ lacks_rows (rows_of (found_of found.now)) }
 {
     if has_text(found, SLACK.id) && !is_given(found, ROWS.id) {
-        return Err("'--slack' needs '--rows'");
+        Some("'--slack' needs '--rows'")
+    } else {
+        None
     }
-    Ok(())
 }
 
-/// Whether labels as texts are asked for only in comma-separated values. The error says what is wrong.
-fn text_given(found: &ArgMatches<'_>) -> Result<(), &'static str>
-    ensures given { IfOk result (λ _. lacks_csv (rows_of (found_of found.now)) ≡ false) }
-    ensures none { IfErr result (λ _. lacks_csv (rows_of (found_of found.now)) ≡ true) }
+/// What is wrong, if labels as texts are asked for in another form than comma-separated values.
+fn text_fault(found: &ArgMatches<'_>) -> Option<&'static str>
+    ensures { is_some result ≡ lacks_csv (rows_of (found_of found.now)) }
 {
     if is_given(found, TEXT.id) && !is_given(found, CSV.id) {
-        return Err("'--text' needs '--csv'");
+        Some("'--text' needs '--csv'")
+    } else {
+        None
     }
-    Ok(())
 }
 
 /// Whether all these texts have the form FROM=TO.
@@ -168,110 +188,75 @@ fn have_form(texts: &[&str]) -> bool
     true
 }
 
-/// Whether texts give names other names: each has the form FROM=TO, and no two the same FROM. The error is
-/// `form` or `twice`.
-fn renames_in(texts: &[&str], form: &'static str, twice: &'static str) -> Result<(), &'static str>
-    ensures given { IfOk result (λ _. are_renames (map (λ text. text.now) texts.now) ≡ true) }
-    ensures none { IfErr result (λ _. are_renames (map (λ text. text.now) texts.now) ≡ false) }
+/// What is wrong, if these texts do not give names other names: `form` if one has not the form FROM=TO, `twice` if two have
+/// the same FROM.
+fn fault_in(texts: &[&str], form: &'static str, twice: &'static str) -> Option<&'static str>
+    ensures { is_some result ≡ not (are_renames (map (λ text. text.now) texts.now)) }
 {
     if !have_form(texts) {
-        return Err(form);
+        Some(form)
+    } else if has_one_from_twice(texts) {
+        Some(twice)
+    } else {
+        None
     }
-    if has_one_from_twice(texts) {
-        return Err(twice);
-    }
-    Ok(())
 }
 
 /// The same of the texts of an option, if it is given.
-fn renames_of(
+fn renames_fault(
     found: &ArgMatches<'_>,
     id: &str,
     form: &'static str,
     twice: &'static str,
-) -> Result<(), &'static str>
-    ensures given { IfOk result (λ _. has_wrong_renames id.now (rows_of (found_of found.now)) ≡ false) }
-    ensures none { IfErr result (λ _. has_wrong_renames id.now (rows_of (found_of found.now)) ≡ true) }
+) -> Option<&'static str>
+    ensures { is_some result ≡ has_wrong_renames id.now (rows_of (found_of found.now)) }
 {
     match found.get_strs(id) {
-        Some(texts) => renames_in(texts, form, twice),
-        None => Ok(()),
+        Some(texts) => fault_in(texts, form, twice),
+        None => None,
     }
 }
 
-/// Whether the texts of `--channel` give channels names. The error says what is wrong.
-fn channels_given(found: &ArgMatches<'_>) -> Result<(), &'static str>
-    ensures given { IfOk result (λ _. has_wrong_renames (codes "channel") (rows_of (found_of found.now)) ≡ false) }
-    ensures none { IfErr result (λ _. has_wrong_renames (codes "channel") (rows_of (found_of found.now)) ≡ true) }
+/// What is wrong with the texts of `--channel`.
+fn channel_fault(found: &ArgMatches<'_>) -> Option<&'static str>
+    ensures { is_some result ≡ has_wrong_renames (codes "channel") (rows_of (found_of found.now)) }
 {
     let form = "'--channel <FROM=TO>' takes a channel, '=' and a name, such as 3=adc-1";
     let twice = "'--channel <FROM=TO>' is given twice for one channel";
-    renames_of(found, CHANNEL.id, form, twice)
+    renames_fault(found, CHANNEL.id, form, twice)
 }
 
-/// The same of `--map`.
-fn maps_given(found: &ArgMatches<'_>) -> Result<(), &'static str>
-    ensures given { IfOk result (λ _. has_wrong_renames (codes "map") (rows_of (found_of found.now)) ≡ false) }
-    ensures none { IfErr result (λ _. has_wrong_renames (codes "map") (rows_of (found_of found.now)) ≡ true) }
+/// What is wrong with the texts of `--map`.
+fn map_fault(found: &ArgMatches<'_>) -> Option<&'static str>
+    ensures { is_some result ≡ has_wrong_renames (codes "map") (rows_of (found_of found.now)) }
 {
     let form =
         "'--map <HEADING=COLUMN>' takes a heading, '=' and a column, such as Equipment=receiver";
     let twice = "'--map <HEADING=COLUMN>' is given twice for one heading";
-    renames_of(found, MAP.id, form, twice)
+    renames_fault(found, MAP.id, form, twice)
 }
 
-/// The same, if the command of this name makes a word.
-fn value_if_made(name: &str, found: &ArgMatches<'_>) -> Result<(), &'static str>
-    ensures given { IfOk result (λ _. lacks_value name.now (rows_of (found_of found.now)) ≡ false) }
-    ensures none { IfErr result (λ _. lacks_value name.now (rows_of (found_of found.now)) ≡ true) }
-{
-    if name == ENCODE {
-        value_given(found)
-    } else {
-        Ok(())
-    }
-}
-
-/// Whether `--slack` and `--text` have the options that they need. The error says what is wrong.
-fn needed_given(found: &ArgMatches<'_>) -> Result<(), &'static str>
-    ensures given { IfOk result (λ _. lacks_option (rows_of (found_of found.now)) ≡ false) }
-    ensures none { IfErr result (λ _. lacks_option (rows_of (found_of found.now)) ≡ true) }
-{
-    slack_given(found)?;
-    text_given(found)
-}
-
-/// Whether the texts FROM=TO of all options give names other names. The error says what is wrong.
-fn renames_given(found: &ArgMatches<'_>) -> Result<(), &'static str>
-    ensures given { IfOk result (λ _. has_wrong_rename (rows_of (found_of found.now)) ≡ false) }
-    ensures none { IfErr result (λ _. has_wrong_rename (rows_of (found_of found.now)) ≡ true) }
-{
-    channels_given(found)?;
-    maps_given(found)
-}
-
-/// Whether a log of sent words is asked for in no other form, and without a summary. The error says what is wrong.
-fn sent_given(found: &ArgMatches<'_>) -> Result<(), &'static str>
-    ensures given { IfOk result (λ _. has_other_form (rows_of (found_of found.now)) ≡ false) }
-    ensures none { IfErr result (λ _. has_other_form (rows_of (found_of found.now)) ≡ true) }
+/// What is wrong, if a log of sent words is asked for in another form, or with a summary.
+fn sent_fault(found: &ArgMatches<'_>) -> Option<&'static str>
+    ensures { is_some result ≡ has_other_form (rows_of (found_of found.now)) }
 {
     if is_given(found, SENT.id)
         && (is_given(found, CSV.id) || is_given(found, JSON.id) || is_given(found, SUMMARY.id))
     {
-        return Err("'--sent' cannot be used with '--csv', '--json' or '--summary'");
+        Some("'--sent' cannot be used with '--csv', '--json' or '--summary'")
+    } else {
+        None
     }
-    Ok(())
 }
 
-/// Whether all that is given goes together, and each text FROM=TO has its form. The error says what is wrong.
-fn all_given(name: &str, found: &ArgMatches<'_>) -> Result<(), &'static str>
-    ensures given { IfOk result (λ _. are_refused name.now (rows_of (found_of found.now)) ≡ false) }
-    ensures none { IfErr result (λ _. are_refused name.now (rows_of (found_of found.now)) ≡ true) }
+/// What is wrong, if what is given to the command of this name does not go together, or a text FROM=TO is wrong.
+fn fault_of(name: &str, found: &ArgMatches<'_>) -> Option<&'static str>
+    ensures { is_some result ≡ are_refused name.now (rows_of (found_of found.now)) }
 {
-    value_if_made(name, found)?;
-    needed_given(found)?;
-    renames_given(found)?;
-    sent_given(found)
+    let needed = first_fault(slack_fault(found), text_fault(found));
+    let renames = first_fault(channel_fault(found), map_fault(found));
+    let others = first_fault(needed, first_fault(renames, sent_fault(found)));
+    first_fault(value_fault_of(name, found), others)
 }
 
 /// What is chosen of the command of this name. The error says what is wrong.
@@ -280,7 +265,9 @@ pub fn choices_in(name: &str, found: &ArgMatches<'_>) -> Result<Choices, &'stati
     ensures chosen { IfOk result (λ choices. choices_given name.now (rows_of (found_of found.now)) ≡ Some choices) }
     ensures none { IfErr result (λ _. choices_given name.now (rows_of (found_of found.now)) ≡ None) }
 {
-    all_given(name, found)?;
+    if let Some(fault) = fault_of(name, found) {
+        return Err(fault);
+    }
     let Some(width) = width_given(found) else {
         return Err("'--width <N>' must be 64, 128 or 256");
     };

@@ -1,7 +1,7 @@
 //! The command line: its commands.
-ghost use Rattle.std.specs.Prelude.{◌≡◌, ◌∷◌, [], IfOk, map, option_map};
-ghost use Rattle.clap.specs.Words.{HasKind, app_of, kind_of, new_app, with_subcommand};
-ghost use Rattle.a429_arguments.specs.CommandLine.{HasRule, bare_line, command_line, form_row, form_rule, many_rule, number_rule, required_rule, row_app, with_any, with_commands, with_names, with_texts};
+ghost use Rattle.std.specs.Prelude.{◌≡◌, ◌∷◌, [], IfOk, Some, fold, map};
+ghost use Rattle.clap.specs.Words.{App, HasKind, app_of, kind_of, new_app, new_rule, with_subcommand};
+ghost use Rattle.a429_arguments.specs.CommandLine.{HasRule, bare_line, command_line, form_row, form_rule, given_rule, many_rule, name_id, number_id, number_rule, required_rule, row_app, with_any, with_commands, with_names};
 
 use crate::forms::{CommandForm, NameForm, NumberForm, OptionForm, OptionKind, commands};
 use crate::help::{CommandHelp, PROGRAM, PROGRAM_END, VERSION, help_of};
@@ -14,14 +14,121 @@ use std::alloc::{AllocError, Global};
 fn name_argument<'a>(alloc: Global, form: NameForm) -> Arg<'a>
     ensures { HasRule result (required_rule form.id.now) }
 {
-    Arg::new(alloc, form.id).help(form.help).required(true)
+    Arg::new(alloc, form.id)
+        .help(form.help.text())
+        .required(true)
+}
+
+/// The argument of a number, which must be given.
+fn number_argument<'a>(alloc: Global, form: NumberForm) -> Arg<'a>
+    ensures { HasRule result (number_rule (form.id.now, form.most)) }
+{
+    Arg::new(alloc, form.id)
+        .help(form.help.text())
+        .required(true)
+        .value_parser(ValueParser::unsigned(0, u64::from(form.most)))
+}
+
+/// The argument of names that are given as often as one likes.
+fn names_argument<'a>(alloc: Global, form: NameForm) -> Arg<'a>
+    ensures { HasRule result (many_rule form.id.now) }
+{
+    Arg::new(alloc, form.id)
+        .help(form.help.text())
+        .action(ArgAction::Append)
+}
+
+/// What a command is given that is no option.
+#[derive(Clone, Copy)]
+pub enum Given {
+    Name(NameForm),
+    Number(NumberForm),
+    /// As many names as one likes.
+    Names(NameForm),
+}
+
+/// The argument of what is given.
+fn given_argument<'a>(alloc: Global, given: Given) -> Arg<'a>
+    ensures { HasRule result (given_rule given) }
+{
+    match given {
+        Given::Name(form) => name_argument(alloc, form),
+        Given::Number(form) => number_argument(alloc, form),
+        Given::Names(form) => names_argument(alloc, form),
+    }
+}
+
+/// A further name, if there is one.
+fn name_given(form: Option<NameForm>) -> Option<Given>
+    ensures { (app : App) → with_any given_rule app result ≡ with_any required_rule app (name_id form) }
+{
+    match form {
+        Some(form) => Some(Given::Name(form)),
+        None => None,
+    }
+}
+
+/// The number, if there is one.
+fn number_given(form: Option<NumberForm>) -> Option<Given>
+    ensures { (app : App) → with_any given_rule app result ≡ with_any number_rule app (number_id form) }
+{
+    match form {
+        Some(form) => Some(Given::Number(form)),
+        None => None,
+    }
+}
+
+/// The names that are given as often as one likes, if there are any.
+fn names_given(form: Option<NameForm>) -> Option<Given>
+    ensures { (app : App) → with_any given_rule app result ≡ with_any many_rule app (name_id form) }
+{
+    match form {
+        Some(form) => Some(Given::Names(form)),
+        None => None,
+    }
+}
+
+/// All that a command is given that is no option, in order.
+fn all_given(form: &CommandForm) -> [Option<Given>; 5]
+    ensures { (app : App) → fold (with_any given_rule) app result ≡ with_names app (form_row form.now) }
+{
+    [
+        Some(Given::Name(form.first)),
+        name_given(form.second),
+        name_given(form.third),
+        number_given(form.number),
+        names_given(form.more),
+    ]
+}
+
+/// A command with one thing more that it is given, if there is one.
+fn with_given<'a>(
+    alloc: Global,
+    command: Command<'a>,
+    given: Option<Given>,
+) -> Result<Command<'a>, AllocError>
+    ensures { IfOk result (λ c. app_of c ≡ with_any given_rule (app_of command.entry) given) }
+{
+    match given {
+        Some(given) => command.arg(given_argument(alloc, given)),
+        None => Ok(command),
+    }
+}
+
+/// An option without what is given with it.
+fn named_option<'a>(alloc: Global, form: &OptionForm) -> Arg<'a>
+    ensures { HasRule result (record (new_rule form.now.id.now) { long = Some form.now.id.now }) }
+{
+    Arg::new(alloc, form.id)
+        .help(form.help.text())
+        .long(form.id)
 }
 
 /// The argument of an option.
 fn option_argument<'a>(alloc: Global, form: &OptionForm) -> Arg<'a>
     ensures { HasRule result (form_rule form.now) }
 {
-    let option = Arg::new(alloc, form.id).help(form.help).long(form.id);
+    let option = named_option(alloc, form);
     match form.kind {
         OptionKind::Flag => option.action(ArgAction::SetTrue),
         OptionKind::Text { value } => option.value_name(value),
@@ -32,51 +139,6 @@ fn option_argument<'a>(alloc: Global, form: &OptionForm) -> Arg<'a>
     }
 }
 
-/// A command with a further name that it is given, if there is one.
-fn with_name<'a>(
-    alloc: Global,
-    command: Command<'a>,
-    form: Option<NameForm>,
-) -> Result<Command<'a>, AllocError>
-    ensures { IfOk result (λ c. app_of c ≡ with_any required_rule (app_of command.entry) (option_map (λ n. n.id.now) form)) }
-{
-    match form {
-        Some(form) => command.arg(name_argument(alloc, form)),
-        None => Ok(command),
-    }
-}
-
-/// A command with the number that it is given, if there is one.
-fn with_number<'a>(
-    alloc: Global,
-    command: Command<'a>,
-    form: Option<NumberForm>,
-) -> Result<Command<'a>, AllocError>
-    ensures { IfOk result (λ c. app_of c ≡ with_any number_rule (app_of command.entry) (option_map (λ n. (n.id.now, n.most)) form)) }
-{
-    let Some(form) = form else {
-        return Ok(command);
-    };
-    let number = Arg::new(alloc, form.id).help(form.help).required(true);
-    let parser = ValueParser::unsigned(0, u64::from(form.most));
-    command.arg(number.value_parser(parser))
-}
-
-/// A command with the names that it is given as often as one likes, if there are any.
-fn with_more<'a>(
-    alloc: Global,
-    command: Command<'a>,
-    form: Option<NameForm>,
-) -> Result<Command<'a>, AllocError>
-    ensures { IfOk result (λ c. app_of c ≡ with_any many_rule (app_of command.entry) (option_map (λ n. n.id.now) form)) }
-{
-    let Some(form) = form else {
-        return Ok(command);
-    };
-    let more = Arg::new(alloc, form.id).help(form.help);
-    command.arg(more.action(ArgAction::Append))
-}
-
 /// A command of this name without arguments. Its help begins with `about`, and ends with an example.
 fn named_command<'a>(alloc: Global, name: &'a str, about: &'a str, end: &'a str) -> Command<'a>
     ensures { app_of result ≡ new_app name.entry.now }
@@ -84,30 +146,19 @@ fn named_command<'a>(alloc: Global, name: &'a str, about: &'a str, end: &'a str)
     Command::new(alloc, name).about(about).after_help(end)
 }
 
-/// A command with the names that it is given once each.
-fn with_texts<'a>(
-    alloc: Global,
-    command: Command<'a>,
-    form: &CommandForm,
-) -> Result<Command<'a>, AllocError>
-    ensures { IfOk result (λ c. app_of c ≡ with_texts (app_of command.entry) (form_row form.now)) }
-{
-    let command = command.arg(name_argument(alloc, form.first))?;
-    let command = with_name(alloc, command, form.second)?;
-    with_name(alloc, command, form.third)
-}
-
 /// A command with all that it is given apart from options.
 fn with_names<'a>(
     alloc: Global,
-    command: Command<'a>,
+    mut command: Command<'a>,
     form: &CommandForm,
 ) -> Result<Command<'a>, AllocError>
     ensures { IfOk result (λ c. app_of c ≡ with_names (app_of command.entry) (form_row form.now)) }
 {
-    let command = with_texts(alloc, command, form)?;
-    let command = with_number(alloc, command, form.number)?;
-    with_more(alloc, command, form.more)
+    let all = all_given(form);
+    for given in &all {
+        command = with_given(alloc, command, *given)?;
+    }
+    Ok(command)
 }
 
 /// The command of this form.

@@ -4,7 +4,7 @@ ghost use Rattle.std.specs.Prelude.{◌≡◌, IfSome, map};
 ghost use Rattle.std.specs.List.{AllByRecursion};
 ghost use Rattle.a429_arguments.specs.CommandLine.{IsRow, form_row, row_of, verbs};
 
-use crate::help;
+use crate::help::{NameHelp, OptionHelp};
 use crate::options::{
     ALL, ALL_CELLS, BCD, BITS, BNR, CHANNEL, CODE, CSV, DATA, EVENTS, FROM, GROUP, HTML, IN, JSON,
     LIMIT, MAP, NAMES, RATE, ROWS, SDI, SENT, SLACK, SLOTS, SSM, SUMMARY, SUMMARY_JSON, TEXT, TIME,
@@ -40,7 +40,7 @@ pub enum Verb {
 #[derive(Clone, Copy)]
 pub struct NameForm {
     pub id: &'static str,
-    pub help: &'static str,
+    pub help: NameHelp,
 }
 
 /// A whole number that a command is given, up to a maximum.
@@ -48,7 +48,7 @@ pub struct NameForm {
 pub struct NumberForm {
     pub id: &'static str,
     pub most: u32,
-    pub help: &'static str,
+    pub help: NameHelp,
 }
 
 /// What is given with an option.
@@ -77,7 +77,7 @@ pub enum OptionKind {
 pub struct OptionForm {
     pub id: &'static str,
     pub kind: OptionKind,
-    pub help: &'static str,
+    pub help: OptionHelp,
 }
 
 /// A command: its name, and what it is given: one to three names, perhaps a number, perhaps any number of further names,
@@ -107,14 +107,14 @@ macro_rules! name {
 const FRAME_COUNT: NumberForm = NumberForm {
     id: "FRAMES",
     most: FRAMES,
-    help: help::FRAMES,
+    help: NameHelp::Frames,
 };
 
 /// A command that is given the name of a table and nothing else. The rows below say what is different.
 const OF_TABLE: CommandForm = CommandForm {
     verb: Verb::Plan,
     name: "plan",
-    first: name!("TABLE", help::TABLE),
+    first: name!("TABLE", NameHelp::Table),
     second: None,
     third: None,
     number: None,
@@ -126,27 +126,27 @@ static COMMANDS: [CommandForm; 19] = [
     CommandForm {
         verb: Verb::Word,
         name: "word",
-        first: name!("HEX", help::HEX),
+        first: name!("HEX", NameHelp::Hex),
         ..OF_TABLE
     },
     CommandForm {
         verb: Verb::Encode,
         name: "encode",
-        first: name!("LABEL", help::LABEL),
+        first: name!("LABEL", NameHelp::Label),
         options: &[SDI, SSM, DATA, BNR, BITS, BCD],
         ..OF_TABLE
     },
     CommandForm {
         verb: Verb::Lines,
         name: "lines",
-        first: name!("FILE", help::FILE),
-        more: Some(name!("FILTER", help::FILTER)),
+        first: name!("FILE", NameHelp::File),
+        more: Some(name!("FILTER", NameHelp::Filter)),
         ..OF_TABLE
     },
     CommandForm {
         verb: Verb::Import,
         name: "import",
-        first: name!("FILE", help::ROWS),
+        first: name!("FILE", NameHelp::Rows),
         options: &[MAP, NAMES],
         ..OF_TABLE
     },
@@ -158,7 +158,7 @@ static COMMANDS: [CommandForm; 19] = [
     CommandForm {
         verb: Verb::Check,
         name: "check",
-        second: Some(name!("PLAN", help::TEXT)),
+        second: Some(name!("PLAN", NameHelp::Text)),
         ..OF_TABLE
     },
     CommandForm {
@@ -200,7 +200,7 @@ static COMMANDS: [CommandForm; 19] = [
     CommandForm {
         verb: Verb::Diff,
         name: "diff",
-        second: Some(name!("OTHER", help::OTHER)),
+        second: Some(name!("OTHER", NameHelp::Other)),
         options: &[ALL, CSV, JSON],
         ..OF_TABLE
     },
@@ -213,41 +213,41 @@ static COMMANDS: [CommandForm; 19] = [
     CommandForm {
         verb: Verb::Replay,
         name: "replay",
-        second: Some(name!("SCRIPT", help::SCRIPT)),
-        more: Some(name!("FURTHER", help::FURTHER)),
+        second: Some(name!("SCRIPT", NameHelp::Script)),
+        more: Some(name!("FURTHER", NameHelp::Further)),
         ..OF_TABLE
     },
     CommandForm {
         verb: Verb::Simulate,
         name: "simulate",
-        second: Some(name!("LOG", help::LOG)),
-        more: Some(name!("LOGS", help::LOGS)),
+        second: Some(name!("LOG", NameHelp::Log)),
+        more: Some(name!("LOGS", NameHelp::Logs)),
         options: &[TIME, FROM, CHANNEL, UNTIL, SENT, SUMMARY, CSV, SUMMARY_JSON],
         ..OF_TABLE
     },
     CommandForm {
         verb: Verb::Survey,
         name: "survey",
-        first: name!("LOG", help::LOG),
-        more: Some(name!("LOGS", help::LOGS)),
+        first: name!("LOG", NameHelp::Log),
+        more: Some(name!("LOGS", NameHelp::Logs)),
         options: &[TIME, FROM, CHANNEL, RATE, ROWS, SLACK, CSV, JSON],
         ..OF_TABLE
     },
     CommandForm {
         verb: Verb::Judge,
         name: "judge",
-        second: Some(name!("IN", help::HEARD_LOG)),
-        third: Some(name!("OUT", help::SENT_LOG)),
-        more: Some(name!("OUTS", help::SENT_LOGS)),
+        second: Some(name!("IN", NameHelp::HeardLog)),
+        third: Some(name!("OUT", NameHelp::SentLog)),
+        more: Some(name!("OUTS", NameHelp::SentLogs)),
         options: &[IN, TOLERANCE, EVENTS, TIME, FROM, CHANNEL, CSV, JSON],
         ..OF_TABLE
     },
     CommandForm {
         verb: Verb::Live,
         name: "live",
-        second: Some(name!("WORDS", help::WORDS)),
+        second: Some(name!("WORDS", NameHelp::Words)),
         number: Some(FRAME_COUNT),
-        more: Some(name!("FURTHER", help::RESUBMITTED)),
+        more: Some(name!("FURTHER", NameHelp::Resubmitted)),
         ..OF_TABLE
     },
 ];

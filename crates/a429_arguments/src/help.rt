@@ -1,4 +1,5 @@
-//! The texts of help: what each command and each of its arguments does, and an example.
+//! The texts of help: what each command and each of its arguments does, and an example. The forms of commands name their
+//! texts instead of having them: the proof reads the value of all forms at once.
 
 use crate::forms::Verb;
 
@@ -33,6 +34,132 @@ pub fn help_of(verb: Verb) -> CommandHelp {
         Verb::Live => (LIVE, LIVE_END),
     };
     CommandHelp { about, end }
+}
+
+/// The help of a name that a command is given, or of its number.
+#[derive(Clone, Copy)]
+pub enum NameHelp {
+    Frames,
+    Table,
+    Hex,
+    Label,
+    File,
+    Filter,
+    Rows,
+    Text,
+    Other,
+    Script,
+    Further,
+    Log,
+    Logs,
+    HeardLog,
+    SentLog,
+    SentLogs,
+    Words,
+    Resubmitted,
+}
+
+impl NameHelp {
+    /// Its text.
+    pub fn text(self) -> &'static str {
+        match self {
+            NameHelp::Frames => FRAMES,
+            NameHelp::Table => TABLE,
+            NameHelp::Hex => HEX,
+            NameHelp::Label => LABEL,
+            NameHelp::File => FILE,
+            NameHelp::Filter => FILTER,
+            NameHelp::Rows => ROWS,
+            NameHelp::Text => TEXT,
+            NameHelp::Other => OTHER,
+            NameHelp::Script => SCRIPT,
+            NameHelp::Further => FURTHER,
+            NameHelp::Log => LOG,
+            NameHelp::Logs => LOGS,
+            NameHelp::HeardLog => HEARD_LOG,
+            NameHelp::SentLog => SENT_LOG,
+            NameHelp::SentLogs => SENT_LOGS,
+            NameHelp::Words => WORDS,
+            NameHelp::Resubmitted => RESUBMITTED,
+        }
+    }
+}
+
+/// The help of an option.
+#[derive(Clone, Copy)]
+pub enum OptionHelp {
+    Csv,
+    Json,
+    SummaryJson,
+    TextLabels,
+    Map,
+    Names,
+    All,
+    Group,
+    DrawnSlots,
+    Width,
+    Html,
+    Time,
+    From,
+    Channel,
+    Until,
+    Sent,
+    Summary,
+    AllCells,
+    Code,
+    Limit,
+    Rate,
+    ImportRows,
+    Slack,
+    HeardLogs,
+    Tolerance,
+    Events,
+    Sdi,
+    Ssm,
+    Data,
+    Bnr,
+    Bits,
+    Bcd,
+}
+
+impl OptionHelp {
+    /// Its text.
+    pub fn text(self) -> &'static str {
+        match self {
+            OptionHelp::Csv => CSV,
+            OptionHelp::Json => JSON,
+            OptionHelp::SummaryJson => SUMMARY_JSON,
+            OptionHelp::TextLabels => TEXT_LABELS,
+            OptionHelp::Map => MAP,
+            OptionHelp::Names => NAMES,
+            OptionHelp::All => ALL,
+            OptionHelp::Group => GROUP,
+            OptionHelp::DrawnSlots => DRAWN_SLOTS,
+            OptionHelp::Width => WIDTH,
+            OptionHelp::Html => HTML,
+            OptionHelp::Time => TIME,
+            OptionHelp::From => FROM,
+            OptionHelp::Channel => CHANNEL,
+            OptionHelp::Until => UNTIL,
+            OptionHelp::Sent => SENT,
+            OptionHelp::Summary => SUMMARY,
+            OptionHelp::AllCells => ALL_CELLS,
+            OptionHelp::Code => CODE,
+            OptionHelp::Limit => LIMIT,
+            OptionHelp::Rate => RATE,
+            OptionHelp::ImportRows => IMPORT_ROWS,
+            OptionHelp::Slack => SLACK,
+            OptionHelp::HeardLogs => HEARD_LOGS,
+            OptionHelp::Tolerance => TOLERANCE,
+            OptionHelp::Events => EVENTS,
+            OptionHelp::Sdi => SDI,
+            OptionHelp::Ssm => SSM,
+            OptionHelp::Data => DATA,
+            OptionHelp::Bnr => BNR,
+            OptionHelp::Bits => BITS,
+            OptionHelp::Bcd => BCD,
+        }
+    }
 }
 
 pub const PROGRAM: &str =

@@ -1,7 +1,7 @@
 //! The options of all commands.
 
 use crate::forms::{OptionForm, OptionKind};
-use crate::help;
+use crate::help::OptionHelp;
 
 /// How many slots of a bus may be asked for (profile).
 const MOST_SLOTS: u64 = 8192;
@@ -78,103 +78,109 @@ macro_rules! number {
 }
 
 /// `--csv`
-pub const CSV: OptionForm = flag!("csv", help::CSV);
+pub const CSV: OptionForm = flag!("csv", OptionHelp::Csv);
 
 /// `--json`
-pub const JSON: OptionForm = flag!("json", help::JSON);
+pub const JSON: OptionForm = flag!("json", OptionHelp::Json);
 
 /// `--json` of a command whose lines have no such form: only its summary has.
 pub const SUMMARY_JSON: OptionForm = OptionForm {
-    help: help::SUMMARY_JSON,
+    help: OptionHelp::SummaryJson,
     ..JSON
 };
 
 /// `--text`
-pub const TEXT: OptionForm = flag!("text", help::TEXT_LABELS);
+pub const TEXT: OptionForm = flag!("text", OptionHelp::TextLabels);
 
 /// `--map`
-pub const MAP: OptionForm = texts!("map", "HEADING=COLUMN", help::MAP);
+pub const MAP: OptionForm = texts!("map", "HEADING=COLUMN", OptionHelp::Map);
 
 /// `--names`
-pub const NAMES: OptionForm = flag!("names", help::NAMES);
+pub const NAMES: OptionForm = flag!("names", OptionHelp::Names);
 
 /// `--all`
-pub const ALL: OptionForm = flag!("all", help::ALL);
+pub const ALL: OptionForm = flag!("all", OptionHelp::All);
 
 /// `--group`
-pub const GROUP: OptionForm = text!("group", "NAME", help::GROUP);
+pub const GROUP: OptionForm = text!("group", "NAME", OptionHelp::Group);
 
 /// `--slots`
-pub const SLOTS: OptionForm = number!("slots", "N", 1, MOST_SLOTS, help::DRAWN_SLOTS);
+pub const SLOTS: OptionForm = number!("slots", "N", 1, MOST_SLOTS, OptionHelp::DrawnSlots);
 
 /// `--width`
-pub const WIDTH: OptionForm = text!("width", "N", help::WIDTH);
+pub const WIDTH: OptionForm = text!("width", "N", OptionHelp::Width);
 
 /// `--html`
-pub const HTML: OptionForm = flag!("html", help::HTML);
+pub const HTML: OptionForm = flag!("html", OptionHelp::Html);
 
 /// `--time`
-pub const TIME: OptionForm = text!("time", "UNIT", help::TIME);
+pub const TIME: OptionForm = text!("time", "UNIT", OptionHelp::Time);
 
 /// `--from`
-pub const FROM: OptionForm = text!("from", "TIME", help::FROM);
+pub const FROM: OptionForm = text!("from", "TIME", OptionHelp::From);
 
 /// `--channel`
-pub const CHANNEL: OptionForm = texts!("channel", "FROM=TO", help::CHANNEL);
+pub const CHANNEL: OptionForm = texts!("channel", "FROM=TO", OptionHelp::Channel);
 
 /// `--until`
-pub const UNTIL: OptionForm = number!("until", "US", 0, LAST_TIME, help::UNTIL);
+pub const UNTIL: OptionForm = number!("until", "US", 0, LAST_TIME, OptionHelp::Until);
 
 /// `--sent`
-pub const SENT: OptionForm = flag!("sent", help::SENT);
+pub const SENT: OptionForm = flag!("sent", OptionHelp::Sent);
 
 /// `--summary`
-pub const SUMMARY: OptionForm = flag!("summary", help::SUMMARY);
+pub const SUMMARY: OptionForm = flag!("summary", OptionHelp::Summary);
 
 /// `--all` of a command that prints cells.
 pub const ALL_CELLS: OptionForm = OptionForm {
-    help: help::ALL_CELLS,
+    help: OptionHelp::AllCells,
     ..ALL
 };
 
 /// `--c`
-pub const CODE: OptionForm = flag!("c", help::CODE);
+pub const CODE: OptionForm = flag!("c", OptionHelp::Code);
 
 /// `--limit`
-pub const LIMIT: OptionForm = number!("limit", "PERCENT", 1, MOST_PERCENT, help::LIMIT);
+pub const LIMIT: OptionForm = number!("limit", "PERCENT", 1, MOST_PERCENT, OptionHelp::Limit);
 
 /// `--rate`
-pub const RATE: OptionForm = number!("rate", "RATE", LEAST_RATE, MOST_RATE, help::RATE);
+pub const RATE: OptionForm = number!("rate", "RATE", LEAST_RATE, MOST_RATE, OptionHelp::Rate);
 
 /// `--rows`
-pub const ROWS: OptionForm = flag!("rows", help::IMPORT_ROWS);
+pub const ROWS: OptionForm = flag!("rows", OptionHelp::ImportRows);
 
 /// `--slack`
-pub const SLACK: OptionForm = number!("slack", "PERCENT", 0, MOST_SLACK, help::SLACK);
+pub const SLACK: OptionForm = number!("slack", "PERCENT", 0, MOST_SLACK, OptionHelp::Slack);
 
 /// `--in`
-pub const IN: OptionForm = texts!("in", "LOG", help::HEARD_LOGS);
+pub const IN: OptionForm = texts!("in", "LOG", OptionHelp::HeardLogs);
 
 /// `--tolerance`
-pub const TOLERANCE: OptionForm = number!("tolerance", "US", 0, MOST_TOLERANCE, help::TOLERANCE);
+pub const TOLERANCE: OptionForm = number!(
+    "tolerance",
+    "US",
+    0,
+    MOST_TOLERANCE,
+    OptionHelp::Tolerance
+);
 
 /// `--events`
-pub const EVENTS: OptionForm = flag!("events", help::EVENTS);
+pub const EVENTS: OptionForm = flag!("events", OptionHelp::Events);
 
 /// `--sdi`
-pub const SDI: OptionForm = number!("sdi", "N", 0, MOST_PAIR, help::SDI);
+pub const SDI: OptionForm = number!("sdi", "N", 0, MOST_PAIR, OptionHelp::Sdi);
 
 /// `--ssm`
-pub const SSM: OptionForm = number!("ssm", "N", 0, MOST_PAIR, help::SSM);
+pub const SSM: OptionForm = number!("ssm", "N", 0, MOST_PAIR, OptionHelp::Ssm);
 
 /// `--data`
-pub const DATA: OptionForm = text!("data", "HEX", help::DATA);
+pub const DATA: OptionForm = text!("data", "HEX", OptionHelp::Data);
 
 /// `--bnr`
-pub const BNR: OptionForm = text!("bnr", "N", help::BNR);
+pub const BNR: OptionForm = text!("bnr", "N", OptionHelp::Bnr);
 
 /// `--bits`
-pub const BITS: OptionForm = number!("bits", "K", 1, MOST_BITS, help::BITS);
+pub const BITS: OptionForm = number!("bits", "K", 1, MOST_BITS, OptionHelp::Bits);
 
 /// `--bcd`
-pub const BCD: OptionForm = text!("bcd", "DIGITS", help::BCD);
+pub const BCD: OptionForm = text!("bcd", "DIGITS", OptionHelp::Bcd);

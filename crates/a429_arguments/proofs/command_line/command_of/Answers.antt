@@ -5,10 +5,11 @@ use Rattle.clap.specs.Words.{App, app_of, with_rule}
 use Rattle.a429_arguments.specs.CommandLine.{form_row, form_rule, with_names}
 use Rattle.a429_arguments.specs.declared.forms.OptionForm.{OptionForm}
 use Rattle.a429_arguments.specs.declared.forms.OptionKind.TheVariants.{Flag}
+use Rattle.a429_arguments.specs.declared.help.OptionHelp.TheVariants.{Csv}
 use Rattle.a429_arguments.proofs.command_line.command_of.Goals as goal
 
 abbrev none : OptionForm
-none = record { id = record { ref_ptr = (0, 0); now = [] }; kind = Flag; help = record { ref_ptr = (0, 0); now = [] } }
+none = record { id = record { ref_ptr = (0, 0); now = [] }; kind = Flag; help = Csv }
 
 pub loop-option-init : goal.loop-option-init
 loop-option-init c =
