@@ -4,7 +4,7 @@ ghost use Rattle.std.specs.Prelude.{◌≡◌, IfSome, map};
 ghost use Rattle.std.specs.List.{AllByRecursion};
 ghost use Rattle.a429_arguments.specs.CommandLine.{IsRow, form_row, row_of, verbs};
 
-use crate::help::{NameHelp, OptionHelp};
+use crate::argument_help::{NameHelp, OptionHelp};
 use crate::options::{
     ALL, ALL_CELLS, BCD, BITS, BNR, CHANNEL, CODE, CSV, DATA, EVENTS, FROM, GROUP, HTML, IN, JSON,
     LIMIT, MAP, NAMES, RATE, ROWS, SDI, SENT, SLACK, SLOTS, SSM, SUMMARY, SUMMARY_JSON, TEXT, TIME,

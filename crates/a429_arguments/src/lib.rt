@@ -10,6 +10,7 @@
 //! ```
 #![tactic(auto)]
 
+mod argument_help;
 mod choices;
 pub mod command_line;
 pub mod forms;

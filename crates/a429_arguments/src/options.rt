@@ -1,7 +1,7 @@
 //! The options of all commands.
 
+use crate::argument_help::OptionHelp;
 use crate::forms::{OptionForm, OptionKind};
-use crate::help::OptionHelp;
 
 /// How many slots of a bus may be asked for (profile).
 const MOST_SLOTS: u64 = 8192;

@@ -13,7 +13,8 @@ use Rattle.a429_table.specs.declared.fault.TablePlace.TheVariants.{Root, Receive
 use Rattle.a429_import.specs.declared.firsts.Part.TheVariants.{Groups, Receivers, Sources}
 use Rattle.a429_import.specs.declared.rows.ImportRow.{ImportRow}
 use Rattle.a429_import.specs.ImportLimits.{has_too_many_outputs, limit_fault}
-use Rattle.a429_import.specs.ImportReading.{IsKept}
+use Rattle.a429_import.specs.declared.reading.RowsRead.{RowsRead}
+use Rattle.a429_import.specs.ImportReading.{HasRows, IsKept}
 use Rattle.a429_import.specs.ImportTables.{firsts, groups_of, has_group, same_name, unless_known}
 use Rattle.a429_import.specs.Known.{are_full, are_groups_full}
 use Rattle.a429_import.proofs.Knowing.{firsts_push}
@@ -107,3 +108,7 @@ full_is_some rows h =
 pub all_kept : (full : Bool) (kept rows : List ImportRow) → IsKept full kept rows → limit_fault rows ≡ None → kept ≡ rows
 all_kept false kept rows is none = is
 all_kept true kept rows full none = absurd (true≢false (sym (full_is_some rows full) ∙ ap is_some none))
+
+-- the same, of what was read
+pub has_kept : (read : RowsRead) (rows : List ImportRow) (fault : Option (FaultKind × TablePlace)) → HasRows read rows → fault ≡ limit_fault rows → fault ≡ None → read.kept.items ≡ rows
+has_kept read rows fault has is none = all_kept read.is_full read.kept.items rows has.kept (sym is ∙ none)

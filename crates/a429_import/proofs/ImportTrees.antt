@@ -1,20 +1,19 @@
 -- The tree that rows state: how it is built, and how deep it is.
-use Rattle.std.proofs.Common.{codes, ◌≡◌, ◌==◌, ◌+◌, ◌++◌, append_assoc, cond, drop, length, sym, take, ℕ, ◌≤◌, Bool, true, false, List, [], ◌∷◌, map, Option, None, Some, String, Global, string_bytes, Ordering, Less, Equal, Greater, arith, ap, refl, ◌∙◌}
+use Rattle.std.proofs.Common.{codes, ◌≡◌, ◌==◌, ◌+◌, ◌++◌, append_assoc, cond, drop, length, sym, ℕ, ◌≤◌, Bool, true, false, List, [], ◌∷◌, map, Option, None, Some, String, Global, string_bytes, Ordering, Less, Equal, Greater, arith, ap, refl, ◌∙◌}
 use Rattle.std.specs.Prelude.{filter, if◌then◌else◌, slice_get}
 use Rattle.std.specs.Ordering.{is_lt, match_ordering}
 use Rattle.std.specs.BTreeMap.{insert_entry}
 use Rattle.std.specs.String.{string_cmp}
-use Rattle.std.proofs.Math.ListN.{drop_of_length-le}
-use Rattle.std.proofs.lemmas.List.{append-nil, map-append}
+use Rattle.std.proofs.lemmas.List.{map-append}
 use Rattle.std.proofs.lemmas.List.Elements.{filter-append}
 use Rattle.toml.specs.Data.{Data, Members, no_members, member, string, depth, items_depth, members_depth, is_before}
 use Rattle.toml.specs.View.{items_of, members_view, view}
 use Rattle.toml.specs.declared.value.Value.{Value}
-use Rattle.a429_word.proofs.Lists.{clash, drop_at, take_next}
+use Rattle.a429_word.proofs.Lists.{clash, drop_at}
 use Rattle.a429_import.specs.declared.rows.ImportRow.{ImportRow}
 use Rattle.a429_import.specs.declared.firsts.Part.{Part}
 use Rattle.a429_import.specs.declared.firsts.Part.TheVariants.{Receivers, Sources, Groups}
-use Rattle.a429_import.specs.ImportTables.{firsts_after, groups_of, is_stated, is_word, listed, part_tree, part_trees, unless_known, with_filters, with_hold, sdi_data, number, words, firsts, rows_of_group, receiver_tree, source_tree, output_tree, group_tree, root_members}
+use Rattle.a429_import.specs.ImportTables.{groups_of, is_stated, is_word, listed, part_tree, part_trees, with_filters, with_hold, sdi_data, number, words, firsts, rows_of_group, receiver_tree, source_tree, output_tree, group_tree, root_members}
 
 abbrev Entry : Type 0
 Entry = String Global × Value
@@ -118,22 +117,6 @@ filters_put (w ∷ ws) values old new same some put = put ∙ ap (λ (ds : List 
 
 -- ---- receivers, sources and groups
 
--- the rows that are left, without the next one
-firsts_next : (part : Part) (rows : List ImportRow) (k : ℕ) (row : ImportRow) → slice_get rows k ≡ Some row
-    → firsts_after part (take k rows) (drop k rows) ≡ unless_known part (take k rows) row ++ firsts_after part (take (k + 1) rows) (drop (k + 1) rows)
-firsts_next part rows k row there =
-    ap (firsts_after part (take k rows)) (drop_at rows k row there)
-    ∙ ap (λ (earlier : List ImportRow). unless_known part (take k rows) row ++ firsts_after part earlier (drop (k + 1) rows)) (sym (take_next rows k row there))
-
--- one more row, which may be the first of its part
-pub firsts_more : (part : Part) (rows : List ImportRow) (k : ℕ) (row : ImportRow) (old new whole : List ImportRow) → slice_get rows k ≡ Some row
-    → old ++ firsts_after part (take k rows) (drop k rows) ≡ whole → new ≡ old ++ unless_known part (take k rows) row
-    → new ++ firsts_after part (take (k + 1) rows) (drop (k + 1) rows) ≡ whole
-firsts_more part rows k row old new whole there so now =
-    let first : List ImportRow = unless_known part (take k rows) row in
-    let others : List ImportRow = firsts_after part (take (k + 1) rows) (drop (k + 1) rows) in
-    ap (λ (rs : List ImportRow). rs ++ others) now ∙ append_assoc old first others ∙ ap (λ (rs : List ImportRow). old ++ rs) (sym (firsts_next part rows k row there)) ∙ so
-
 filter_all : {X : Type 0} (xs : List X) → filter (λ x. true) xs ≡ xs
 filter_all [] = refl
 filter_all {X} (x ∷ xs) = ap (λ (ys : List X). x ∷ ys) (filter_all xs)
@@ -144,23 +127,14 @@ trees_are Receivers rows = ap (map receiver_tree) (sym (filter_all (firsts Recei
 trees_are Sources rows = ap (map source_tree) (sym (filter_all (firsts Sources rows)))
 trees_are Groups rows = refl
 
--- the tables of those rows among these
-abbrev pub trees_among : Part → List ImportRow → List ImportRow → List Data
-trees_among part rows these = map (part_tree part rows) (filter (is_stated part) these)
-
--- one more row, which may be the first of its part
-pub trees_more : (part : Part) (rows : List ImportRow) (k : ℕ) (row : ImportRow) (old new whole : List Data) → slice_get rows k ≡ Some row
-    → old ++ trees_among part rows (firsts_after part (take k rows) (drop k rows)) ≡ whole → new ≡ old ++ trees_among part rows (unless_known part (take k rows) row)
-    → new ++ trees_among part rows (firsts_after part (take (k + 1) rows) (drop (k + 1) rows)) ≡ whole
-trees_more part rows k row old new whole there so now =
-    let tree : ImportRow → Data = part_tree part rows in
-    let first : List ImportRow = unless_known part (take k rows) row in
-    let others : List ImportRow = firsts_after part (take (k + 1) rows) (drop (k + 1) rows) in
-    let left : trees_among part rows (firsts_after part (take k rows) (drop k rows)) ≡ trees_among part rows first ++ trees_among part rows others =
-    ap (trees_among part rows) (firsts_next part rows k row there) ∙ ap (map tree) (filter-append (is_stated part) first others) ∙ map-append tree (filter (is_stated part) first) (filter (is_stated part) others) in
-    ap (λ (ds : List Data). ds ++ trees_among part rows others) now ∙ append_assoc old (trees_among part rows first) (trees_among part rows others) ∙ ap (λ (ds : List Data). old ++ ds) (sym left) ∙ so
-
--- no row is left
-pub trees_end : (part : Part) (rows : List ImportRow) (k : ℕ) (old whole : List Data) → length rows ≤ k → old ++ trees_among part rows (firsts_after part (take k rows) (drop k rows)) ≡ whole → old ≡ whole
-trees_end part rows k old whole end is =
-    sym (append-nil old) ∙ sym (ap (λ (left : List ImportRow). old ++ trees_among part rows (firsts_after part (take k rows) left)) (drop_of_length-le rows end)) ∙ is
+-- one more row, whose table is added if it passes
+pub picked_more : (p : ImportRow → Bool) (f : ImportRow → Data) (rows : List ImportRow) (k : ℕ) (row : ImportRow) (old new whole : List Data) → slice_get rows k ≡ Some row
+    → old ++ map f (filter p (drop k rows)) ≡ whole → new ≡ old ++ map f (filter p (row ∷ [])) → new ++ map f (filter p (drop (k + 1) rows)) ≡ whole
+picked_more p f rows k row old new whole there so now =
+    let first : List Data = map f (filter p (row ∷ [])) in
+    let others : List Data = map f (filter p (drop (k + 1) rows)) in
+    let left : map f (filter p (drop k rows)) ≡ first ++ others =
+    ap (λ (rs : List ImportRow). map f (filter p rs)) (drop_at rows k row there)
+    ∙ ap (map f) (filter-append p (row ∷ []) (drop (k + 1) rows))
+    ∙ map-append f (filter p (row ∷ [])) (filter p (drop (k + 1) rows)) in
+    ap (λ (ds : List Data). ds ++ others) now ∙ append_assoc old first others ∙ ap (λ (ds : List Data). old ++ ds) (sym left) ∙ so

@@ -5,7 +5,7 @@ use Rattle.std.specs.List.{AllZip, list_any, position_from}
 use Rattle.std.specs.Option.{option_or}
 use Rattle.std.specs.Str.{bytes_eq}
 use Rattle.std.proofs.lemmas.List.{append-nil, length-map, map-append}
-use Rattle.std.proofs.lemmas.Option.{same_Some, slice_get-map, slice_get_within}
+use Rattle.std.proofs.lemmas.Option.{get_or_from_slice_get, same_Some, slice_get-map, slice_get_within}
 use Rattle.std.proofs.lemmas.Slice.Eq.{bytes_eq-Decides}
 use Rattle.std.proofs.Math.ListN.{get_or-append}
 use Rattle.std.proofs.Math.Seq.{get_or-append_seam}
@@ -17,8 +17,7 @@ use Rattle.a429_import.specs.FirstRows.{first_from}
 use Rattle.a429_import.specs.ImportTables.{firsts, firsts_after, is_known, name_in, unless_known}
 use Rattle.a429_import.specs.Known.{KnowsFirsts, found_at}
 use Rattle.a429_import.specs.Names.{IsIndexed, names_of, numbers_of}
-use Rattle.a429_import.proofs.FirstRows.{position_from-push}
-use Rattle.a429_import.proofs.NextRows.{bytes_eq-flip}
+use Rattle.a429_import.proofs.FirstRows.{bytes_eq-flip, position_from-push}
 
 -- ---- the first rows, with one more row
 
@@ -124,6 +123,26 @@ found_here {X} p n (x ∷ xs) m h = by (p x) refl h (found_here p (n + 1) xs m)
     by true e k rest = let same : n ≡ m = same_Some n m k in record { at = 0; counted = omega arith; element = x; there = refl; passes = e }
     by false e k rest = let later = rest k in record { at = suc later.at; counted = omega (arith, later.counted); element = later.element; there = later.there; passes = later.passes }
 
+-- the first row at a place
+pub first_there : (part : Part) (named : NamedRows) (rows : List ImportRow) (place : ℕ) → KnowsFirsts part named rows → place < length (names_of named.names)
+    → (row : ImportRow) × (slice_get (firsts part rows) place ≡ Some row) × (slice_get rows (get_or (numbers_of named.firsts) place 0) ≡ Some row)
+first_there part named rows place known within =
+    let many : length (names_of named.names) ≡ length (firsts part rows) = ap length known.names ∙ length-map (firsts part rows) (name_in part) in
+    let (row, first) = get_within (firsts part rows) place (omega arith) in
+    (row, first, listed_at rows (numbers_of named.firsts) (firsts part rows) place row known.listed first)
+
+-- the row of its number
+pub first_within : (part : Part) (named : NamedRows) (rows : List ImportRow) (place n : ℕ) → KnowsFirsts part named rows → place < length (names_of named.names) → n ≡ get_or (numbers_of named.firsts) place 0 → n < length rows
+first_within part named rows place n known within is =
+    let (row, first, there) = first_there part named rows place known within in
+    slice_get_within rows n row (ap (slice_get rows) is ∙ there)
+
+pub first_is : (part : Part) (named : NamedRows) (rows : List ImportRow) (place n : ℕ) (row : ImportRow) → KnowsFirsts part named rows → place < length (names_of named.names) → n ≡ get_or (numbers_of named.firsts) place 0 → row ≡ get_or rows n row
+    → slice_get (firsts part rows) place ≡ Some row
+first_is part named rows place n row known within is read =
+    let (other, first, there) = first_there part named rows place known within in
+    first ∙ ap (λ (r : ImportRow). Some r) (sym (read ∙ get_or_from_slice_get rows n other row (ap (slice_get rows) is ∙ there)))
+
 -- ---- a name that is known
 
 pub record IsKnownAt (part : Part) (named : NamedRows) (rows : List ImportRow) (name : List ℕ) (place : ℕ) : Type 0 where
@@ -137,15 +156,14 @@ pub known_at : (part : Part) (named : NamedRows) (rows : List ImportRow) (name :
 known_at part named rows name place known h =
     let f = found_here (bytes_eq name) 0 (names_of named.names) place h in
     let at : f.at ≡ place = let k = f.counted in omega (arith, k) in
-    let fs = firsts part rows in
-    let mapped : slice_get (map (name_in part) fs) place ≡ Some f.element = ap (λ (ns : List (List ℕ)). slice_get ns place) (sym known.names) ∙ ap (slice_get (names_of named.names)) (sym at) ∙ f.there in
-    let few : place < length fs = let k = slice_get_within (map (name_in part) fs) place f.element mapped in let l = length-map fs (name_in part) in omega (arith, k, l) in
-    let (row, first) = get_within fs place few in
-    let element : name_in part row ≡ f.element = same_Some _ _ (sym (slice_get-map (name_in part) fs place ∙ ap (option_map (name_in part)) first) ∙ mapped) in
+    let mapped : slice_get (map (name_in part) (firsts part rows)) place ≡ Some f.element = ap (λ (ns : List (List ℕ)). slice_get ns place) (sym known.names) ∙ ap (slice_get (names_of named.names)) (sym at) ∙ f.there in
+    let few = slice_get_within (names_of named.names) f.at f.element f.there in
+    let (row, first, there) = first_there part named rows place known (omega (arith, few, at)) in
+    let element : name_in part row ≡ f.element = same_Some _ _ (sym (slice_get-map (name_in part) (firsts part rows) place ∙ ap (option_map (name_in part)) first) ∙ mapped) in
     record {
       row = row;
       first = first;
-      there = listed_at rows (numbers_of named.firsts) fs place row known.listed first;
+      there = there;
       is_named = element ∙ sym ((bytes_eq-Decides name f.element).0 f.passes);
       number = sym (known.first name) ∙ ap (option_map (λ p. get_or (numbers_of named.firsts) p 0)) h;
     }

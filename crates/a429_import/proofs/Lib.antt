@@ -6,7 +6,6 @@ pub mod Imports
 pub mod RowsInRecord
 pub mod FirstRows
 pub mod ImportClashes
-pub mod NextRows
 pub mod ImportLimits
 pub mod ImportReading
 pub mod FirstPlaces

@@ -9,7 +9,7 @@ use Rattle.a429_import.specs.declared.fault.ImportColumn.TheVariants.{Group, Sou
 use Rattle.a429_import.specs.declared.lines.CsvLine.{CsvLine}
 use Rattle.a429_import.specs.MadeLines.{column_by, first_column, given_in, has_twin, is_twin, name_made_in, on_line, twin_by}
 use Rattle.a429_import.specs.MadeReading.{has_other, is_other, text_of_name}
-use Rattle.a429_import.proofs.NextRows.{bytes_eq-flip}
+use Rattle.a429_import.proofs.FirstRows.{bytes_eq-flip}
 
 -- ---- tests
 

@@ -1,6 +1,12 @@
 -- What is known of lines that were read: what the rows among them say, or their first fault (profile: import).
-use Rattle.std.specs.Prelude.{◌≡◌, ℕ, Bool, true, false, List, [], ◌∷◌, Option, None, Some, option_map, Result, Ok, Err}
+use Rattle.std.specs.Borrow.{Bor}
+use Rattle.std.specs.Prelude.{◌≡◌, ℕ, Bool, true, false, List, [], ◌∷◌, Option, None, Some, map, option_map, Result, Ok, Err}
+use Rattle.std.specs.List.{AllByRecursion}
+use Rattle.csv.specs.Reading.{Reached, Ready, source_of, strip_bom}
 use Rattle.csv.specs.Records.{fields_of}
+use Rattle.csv.specs.declared.parser.State.TheVariants as st
+use Rattle.csv.specs.declared.reader.Reader.{Reader}
+use Rattle.csv.specs.declared.reader.Trim.TheVariants as trim
 use Rattle.a429_import.specs.declared.columns.Heading.{Heading}
 use Rattle.a429_import.specs.declared.fault.CsvFaultKind.TheVariants.{Column}
 use Rattle.a429_import.specs.declared.fault.ImportColumn.{ImportColumn}
@@ -13,8 +19,18 @@ use Rattle.a429_import.specs.declared.rows.ImportRow.{ImportRow}
 use Rattle.a429_import.specs.ImportClashes.{Agree}
 use Rattle.a429_import.specs.ImportMaps.{AreNamedBy}
 use Rattle.a429_import.specs.ImportRows.{◌>>=◌, CsvFault, next_row, rows_after, rows_stated, with_row, wrong_column}
-use Rattle.a429_import.specs.Imports.{States}
+use Rattle.a429_import.specs.Imports.{States, separated}
 use Rattle.a429_import.specs.Known.{Knows, are_full}
+
+-- the library `csv` has read these lines of a text whose fields this separates
+pub record HasRead (separator : ℕ) (text : List ℕ) (reader : Reader (Bor (List ℕ))) (lines : List CsvLine) : Type 0 where
+  pub plain : reader.trim ≡ trim.None
+  pub ready : Ready reader
+  pub config : reader.config ≡ separated separator
+  pub rest : List ℕ
+  pub source : source_of (λ s. Some s.now) reader ≡ Some rest
+  pub reached : Reached (separated separator) st.StartRecord (strip_bom text) (map (λ l. fields_of l.fields) lines) reader.state rest
+  pub separators : AllByRecursion (λ l. l.separator ≡ separator) lines
 
 -- the fault of a heading that lacks a column or has it twice
 abbrev pub heading_fault : CsvLine → Option ImportFault

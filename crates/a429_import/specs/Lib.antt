@@ -20,6 +20,5 @@ pub mod ImportLimits
 pub mod ImportReading
 pub mod MadeReading
 pub mod SameTables
-pub mod NextRows
 pub mod Names
 pub mod Known

@@ -1,10 +1,12 @@
 //! A table with the texts that its names are made of, as comments.
-ghost use Rattle.std.specs.Prelude.{◌≡◌, IfOk, IfSome};
+ghost use Rattle.std.specs.Prelude.{◌≡◌, ◌<◌, IfOk, IfSome, length};
 ghost use Rattle.a429_table.specs.Reading.{reading};
 ghost use Rattle.a429_import.specs.MadeReading.{AreGiven, IsGiven};
 
+use crate::firsts::Part;
 use crate::given::{GivenNames, GivenTexts};
 use crate::same_tables::state_same;
+use a429_text::Text;
 use std::alloc::{AllocError, Global};
 
 /// The lines of a table. Error: an allocation failed.
@@ -34,94 +36,129 @@ fn name_from<'a>(lines: &[&'a str], place: usize) -> &'a str {
     ""
 }
 
-/// The names of the groups, the sources or the receivers, if a line begins the table of one.
-fn names_below<'a>(given: &'a GivenTexts, line: &str) -> Option<&'a GivenNames>
-    requires { AreGiven given.now }
-    ensures { IfSome result (λ names. IsGiven names.now) }
-{
+/// The array of a table that a line begins, if it begins one.
+fn part_below(line: &str) -> Option<Part> {
     if line == "[[group]]" {
-        Some(&given.group)
+        Some(Part::Groups)
     } else if line == "[[source]]" {
-        Some(&given.source)
+        Some(Part::Sources)
     } else if line == "[[receiver]]" {
-        Some(&given.receiver)
+        Some(Part::Receivers)
     } else {
         None
     }
 }
 
-/// Adds a text, with spaces for its control characters. Error: an allocation failed.
-fn push_shown(shown: &mut String, text: &str) -> Result<(), AllocError> {
-    for c in text.chars() {
-        shown.push(if c.is_control() { ' ' } else { c })?;
+/// The names of the receivers, the sources or the groups.
+fn names_of(given: &GivenTexts, part: Part) -> &GivenNames
+    requires { AreGiven given.now }
+    ensures { IsGiven result.now }
+{
+    match part {
+        Part::Receivers => &given.receiver,
+        Part::Sources => &given.source,
+        Part::Groups => &given.group,
     }
-    Ok(())
 }
 
-/// Adds a comment with the text of a name, if it differs from the name. Error: an allocation failed.
-fn push_comment(shown: &mut String, names: &GivenNames, name: &str) -> Result<(), AllocError>
+/// Writes a character, or a space for a control character.
+fn put_char(shown: &mut Text, c: char) {
+    if c.is_control() {
+        shown.put(" ");
+    } else {
+        let mut bytes = [0; 4];
+        shown.put(c.encode_utf8(&mut bytes));
+    }
+}
+
+/// Writes a text, with spaces for its control characters.
+fn put_shown(shown: &mut Text, text: &str) {
+    for c in text.chars() {
+        put_char(shown, c);
+    }
+}
+
+/// The text of a name; the name itself if there is none.
+fn text_of<'a>(names: &'a GivenNames, name: &'a str) -> &'a str
     requires { IsGiven names.now }
 {
-    let text = match names.text_of(name.as_bytes()) {
+    match names.text_of(name.as_bytes()) {
         Some(text) => str::from_utf8(text).unwrap_or(name),
         None => name,
-    };
+    }
+}
+
+/// Writes a comment with the text of a name, if it differs from the name.
+fn put_comment(shown: &mut Text, names: &GivenNames, name: &str)
+    requires { IsGiven names.now }
+{
+    let text = text_of(names, name);
     if text != name {
-        shown.push_str("# ")?;
-        push_shown(shown, text)?;
-        shown.push('\n')?;
+        shown.put("# ");
+        put_shown(shown, text);
+        shown.put("\n");
     }
-    Ok(())
 }
 
-/// Adds a line of a table, with a comment above it if it begins the table of a name that differs from its text. Error: an
-/// allocation failed.
-fn push_line(
-    shown: &mut String,
-    given: &GivenTexts,
-    lines: &[&str],
-    place: usize,
-) -> Result<(), AllocError>
-    requires { AreGiven given.now }
+/// Writes the line at a place of a table, with a comment above it if it begins the table of a name that differs from its
+/// text.
+fn put_line(shown: &mut Text, given: &GivenTexts, lines: &[&str], place: usize)
+    requires given { AreGiven given.now }
+    requires place { place < length lines.now }
 {
-    let line = match lines.get(place) {
-        Some(line) => *line,
-        None => "",
-    };
-    if let Some(names) = names_below(given, line) {
-        push_comment(shown, names, name_from(lines, place.saturating_add(1)))?;
+    let line = lines[place];
+    if let Some(part) = part_below(line) {
+        put_comment(shown, names_of(given, part), name_from(lines, place + 1));
     }
-    shown.push_str(line)
+    shown.put(line);
 }
 
-/// A table with a comment above each group, source and receiver whose text differs from its name. Error: an allocation
-/// failed.
-fn commented(alloc: Global, given: &GivenTexts, text: &str) -> Result<String, AllocError>
+/// Writes the lines of a table, with a comment above each group, source and receiver whose text differs from its name.
+fn put_lines(shown: &mut Text, given: &GivenTexts, lines: &[&str])
     requires { AreGiven given.now }
 {
-    let lines = lines_of(alloc, text)?;
-    let mut shown = String::new(alloc);
     for place in 0..lines.len() {
         if 0 < place {
-            shown.push('\n')?;
+            shown.put("\n");
         }
-        push_line(&mut shown, given, &lines, place)?;
+        put_line(shown, given, lines, place);
     }
-    Ok(shown)
 }
 
-/// The same, if it is read as the same equipment; otherwise the table as it is. Error: an allocation failed.
+/// A table with these comments. Error: an allocation failed.
+fn commented(alloc: Global, given: &GivenTexts, text: &[u8]) -> Result<Vec<u8>, AllocError>
+    requires { AreGiven given.now }
+{
+    let lines = lines_of(alloc, str::from_utf8(text).unwrap_or(""))?;
+    let mut shown = Text::new(alloc);
+    put_lines(&mut shown, given, &lines);
+    shown.into_bytes()
+}
+
+/// The same, if it is read as the same equipment. Error: an allocation failed.
+fn same_commented(
+    alloc: Global,
+    given: &GivenTexts,
+    text: &[u8],
+) -> Result<Option<Vec<u8>>, AllocError>
+    requires { AreGiven given.now }
+    ensures { IfOk result (λ found. IfSome found (λ table. reading table.items ≡ reading text.now)) }
+{
+    let table = commented(alloc, given, text)?;
+    if state_same(alloc, &table, text)? {
+        Ok(Some(table))
+    } else {
+        Ok(None)
+    }
+}
+
+/// The same; the table as it is if the other is not read as the same equipment. Error: an allocation failed.
 pub fn with_texts(alloc: Global, given: &GivenTexts, text: Vec<u8>) -> Result<Vec<u8>, AllocError>
     requires { AreGiven given.now }
     ensures { IfOk result (λ table. reading table.items ≡ reading text.items) }
 {
-    let table = match str::from_utf8(text.as_slice()) {
-        Ok(plain) => commented(alloc, given, plain)?,
-        Err(_) => String::new(alloc),
-    };
-    if state_same(alloc, table.as_bytes(), text.as_slice())? {
-        Ok(table.into_bytes())
-    } else {
-        Ok(text)
+    match same_commented(alloc, given, &text)? {
+        Some(table) => Ok(table),
+        None => Ok(text),
     }
 }

@@ -97,7 +97,7 @@ impl fmt::Display for CsvFaultKind {
 
     /// Its name in refusals.
     fn fmt<W: fmt::Write>(&self, f: &mut fmt::Formatter<W>) -> fmt::Result {
-        write!(f, "{}", self.text())
+        f.write_str(self.text())
     }
 }
 

@@ -1,9 +1,9 @@
 //! The values of fields.
-ghost use Rattle.std.specs.Prelude.{◌≡◌, ◌<◌, ◌==◌, None, is_some, option_map, position, slice_get};
+ghost use Rattle.std.specs.Prelude.{◌≡◌, ◌∷◌, [], ◌<◌, ◌==◌, None, is_some, option_map, position, slice_get};
 ghost use Rattle.std.specs.Char.{is_ascii_digit};
 ghost use Rattle.std.specs.List.{list_all};
 ghost use Rattle.a429_filter.specs.FilterTexts.{filter_read};
-ghost use Rattle.a429_import.specs.ImportFields.{are_filters, are_micros, digit_of, filters_in, hold_in, if_group, interval_in, is_any, is_high, is_low, has_thousands, is_mark, label_in, may_be_thousands, micros_in, millis_in, number_in, padded, rate_in, sdi_digits, sdi_in, sdi_or_any, text_in, together, utf8_in};
+ghost use Rattle.a429_import.specs.ImportFields.{are_filters, are_micros, digit_of, filters_in, has_thousands, hold_in, if_group, interval_in, is_any, is_bit, is_high, is_low, is_mark, label_in, may_be_thousands, micros_in, millis_in, number_in, padded, rate_in, sdi_digits, sdi_in, sdi_or_any, text_in, together, utf8_in};
 ghost use Rattle.a429_word.specs.Texts.{label_value};
 
 use crate::plain::{is_text, unwrapped};
@@ -110,12 +110,11 @@ fn micros_in(digits: &[u8]) -> Option<u32>
 fn together(millis: Option<u64>, micros: Option<u32>) -> Option<u32>
     ensures { result ≡ together millis micros }
 {
-    let millis = millis?;
-    let micros = micros?;
-    if millis < 4294967 && micros < 1000 {
-        Some(millis as u32 * 1000 + micros)
-    } else {
-        None
+    match (millis, micros) {
+        (Some(millis), Some(micros)) if millis < 4294967 && micros < 1000 => {
+            Some(millis as u32 * 1000 + micros)
+        }
+        _ => None,
     }
 }
 
@@ -195,15 +194,41 @@ pub fn label_in(field: &[u8]) -> Option<Label>
     label_of(unwrapped(field))
 }
 
+/// The SDI in a digit.
+fn sdi_digit(digit: u8) -> Option<Option<Sdi>>
+    ensures { result ≡ sdi_digits (digit ∷ []) }
+{
+    if b'0' <= digit && digit <= b'3' {
+        Some(Some(Sdi::new(digit - b'0')))
+    } else {
+        None
+    }
+}
+
+fn is_bit(digit: u8) -> bool
+    ensures { result ≡ is_bit digit }
+{
+    digit == b'0' || digit == b'1'
+}
+
+/// The SDI in two binary digits.
+fn sdi_bits(high: u8, low: u8) -> Option<Option<Sdi>>
+    ensures { result ≡ sdi_digits (high ∷ low ∷ []) }
+{
+    if is_bit(high) && is_bit(low) {
+        Some(Some(Sdi::new(2 * (high - b'0') + (low - b'0'))))
+    } else {
+        None
+    }
+}
+
 /// The SDI in a digit, or in two binary digits.
 fn sdi_digits(field: &[u8]) -> Option<Option<Sdi>>
     ensures { result ≡ sdi_digits field.now }
 {
     match field {
-        [digit @ b'0'..=b'3'] => Some(Some(Sdi::new(*digit - b'0'))),
-        [high @ b'0'..=b'1', low @ b'0'..=b'1'] => {
-            Some(Some(Sdi::new(2 * (*high - b'0') + (*low - b'0'))))
-        }
+        [digit] => sdi_digit(*digit),
+        [high, low] => sdi_bits(*high, *low),
         _ => None,
     }
 }
@@ -247,7 +272,10 @@ fn hold_in(field: &[u8]) -> Option<Option<u32>>
     if field.is_empty() || field == "none".as_bytes() {
         return Some(None);
     }
-    Some(Some(number_in(field)?))
+    match number_in(field) {
+        Some(number) => Some(Some(number)),
+        None => None,
+    }
 }
 
 /// The text in a field: any UTF-8 text. `None` for any other field.

@@ -113,6 +113,23 @@ impl GivenNames {
     }
 }
 
+/// No names of two columns. Error: an allocation failed.
+fn two_columns(alloc: Global, chains: usize) -> Result<(GivenNames, GivenNames), AllocError>
+    ensures is { IfOk result (λ given. IsGiven given.0 × IsGiven given.1) }
+    ensures known { IfOk result (λ given. (heading : CsvLine) (column : ImportColumn)
+        → KnowsGiven heading column given.0 [] × KnowsGiven heading column given.1 []) }
+{
+    let first = GivenNames::new(alloc, chains)?;
+    match GivenNames::new(alloc, chains) {
+        Ok(second) => Ok((first, second)),
+        Err(error) => {
+            // One call, instead of a drop of each of its parts.
+            std::mem::drop(first);
+            Err(error)
+        }
+    }
+}
+
 /// The same for the columns with names, and the first line whose text differs from that of its name, with the column.
 #[derive(Drop)]
 pub struct GivenTexts {
@@ -162,14 +179,19 @@ impl GivenTexts {
         ensures twin { IfOk result (λ given. given.twin ≡ None) }
     {
         let group = GivenNames::new(alloc, chains)?;
-        let source = GivenNames::new(alloc, chains)?;
-        let receiver = GivenNames::new(alloc, chains)?;
-        Ok(GivenTexts {
-            group,
-            source,
-            receiver,
-            twin: None,
-        })
+        match two_columns(alloc, chains) {
+            Ok((source, receiver)) => Ok(GivenTexts {
+                group,
+                source,
+                receiver,
+                twin: None,
+            }),
+            Err(error) => {
+                // One call, instead of a drop of each of its parts.
+                std::mem::drop(group);
+                Err(error)
+            }
+        }
     }
 
     /// Notes the names and the texts of a line below a heading. Error: an allocation failed.

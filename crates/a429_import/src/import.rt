@@ -24,6 +24,7 @@ use std::alloc::Global;
 
 /// The table that rows describe.
 fn table_of_rows(alloc: Global, read: &RowsRead) -> Result<Vec<u8>, ImportFault>
+    requires { (rows : List ImportRow) × HasRows read.now rows }
     ensures { (rows : List ImportRow) (lines : List CsvLine) → HasRows read.now rows
         → rows_stated lines ≡ Ok rows → IsImportOf lines result }
 {
@@ -31,7 +32,7 @@ fn table_of_rows(alloc: Global, read: &RowsRead) -> Result<Vec<u8>, ImportFault>
         Some((kind, place)) => return Err(ImportFault::Table(TableFault::At(kind, place))),
         None => {}
     }
-    let text = table_text(alloc, &read.kept)?;
+    let text = table_text(alloc, &read.known, &read.kept)?;
     match read_equipment(alloc, text.as_str().as_bytes()) {
         Ok(_) => Ok(text.into_bytes()),
         Err(fault) => Err(ImportFault::from(fault)),
@@ -40,6 +41,7 @@ fn table_of_rows(alloc: Global, read: &RowsRead) -> Result<Vec<u8>, ImportFault>
 
 /// The table that lines without a fault describe.
 fn table_below_heading(alloc: Global, read: &LinesRead) -> Result<Vec<u8>, ImportFault>
+    requires { (lines : List CsvLine) × HaveRows read.now.heading read.now lines }
     ensures { (lines : List CsvLine) → HaveRows read.now.heading read.now lines → IsImportOf lines result }
 {
     match &read.heading {
@@ -50,6 +52,7 @@ fn table_below_heading(alloc: Global, read: &LinesRead) -> Result<Vec<u8>, Impor
 
 /// The table that lines describe.
 fn table_of_lines(alloc: Global, read: &mut LinesRead) -> Result<Vec<u8>, ImportFault>
+    requires { (lines : List CsvLine) × StandsFor read.old lines }
     ensures { (lines : List CsvLine) → StandsFor read.old lines → IsImportOf lines result }
 {
     match read.fault.take() {
@@ -129,7 +132,10 @@ fn narrow_table(
 {
     // A row with a new name has 11 bytes. So a chain has 12 names on average at most.
     let mut read = NamesRead::new(alloc, makes_names, text.len() / 128)?;
-    read_table(alloc, maps, makes_names, text, form, &mut read)
+    let table = read_table(alloc, maps, makes_names, text, form, &mut read);
+    // One call, instead of a drop of each of its parts.
+    std::mem::drop(read);
+    table
 }
 
 /// The equipment table, as TOML of version 2, that rows of comma-separated values describe (profile: import): a row of

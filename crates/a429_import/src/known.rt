@@ -4,7 +4,7 @@ ghost use Rattle.std.specs.Prelude.{◌≡◌, ◌++◌, ◌∷◌, [], IfOk, Li
 ghost use Rattle.a429_import.specs.declared.rows.ImportRow.{ImportRow};
 ghost use Rattle.a429_import.specs.ImportTexts.{row_view};
 ghost use Rattle.a429_import.specs.ImportRows.{says_nothing};
-ghost use Rattle.a429_import.specs.Known.{Knows, are_full};
+ghost use Rattle.a429_import.specs.Known.{Knows, KnowsGroups, KnowsSources, are_full};
 
 pub mod groups;
 pub mod receivers;
@@ -27,20 +27,43 @@ pub struct Known {
     pub groups: KnownGroups,
 }
 
+/// The sources and the groups before the first row. Error: an allocation failed.
+fn sources_and_groups(
+    alloc: Global,
+    chains: usize,
+) -> Result<(KnownSources, KnownGroups), AllocError>
+    ensures { IfOk result (λ known. KnowsSources known.0 [] × KnowsGroups known.1 []) }
+{
+    let sources = KnownSources::new(alloc, chains)?;
+    match KnownGroups::new(alloc, chains) {
+        Ok(groups) => Ok((sources, groups)),
+        Err(error) => {
+            // One call, instead of a drop of each of its parts.
+            std::mem::drop(sources);
+            Err(error)
+        }
+    }
+}
+
 impl Known {
     /// Before the first row. Error: an allocation failed.
     pub fn new(alloc: Global, chains: usize) -> Result<Known, AllocError>
         ensures { IfOk result (λ known. Knows known []) }
     {
         let receivers = KnownReceivers::new(alloc, chains)?;
-        let sources = KnownSources::new(alloc, chains)?;
-        let groups = KnownGroups::new(alloc, chains)?;
-        Ok(Known {
-            rows: Vec::new(alloc),
-            receivers,
-            sources,
-            groups,
-        })
+        match sources_and_groups(alloc, chains) {
+            Ok((sources, groups)) => Ok(Known {
+                rows: Vec::new(alloc),
+                receivers,
+                sources,
+                groups,
+            }),
+            Err(error) => {
+                // One call, instead of a drop of each of its parts.
+                std::mem::drop(receivers);
+                Err(error)
+            }
+        }
     }
 
     /// Whether a row says nothing new: it has no group, and its source is known.

@@ -42,7 +42,6 @@ mod named_rows;
 mod names;
 mod plain;
 mod reading;
-mod row_index;
 mod rows;
 mod same_tables;
 mod short_numbers;

@@ -1,13 +1,16 @@
 //! The rows of a text of comma-separated values.
-ghost use Rattle.std.specs.Prelude.{◌≡◌, ◌++◌, ◌∷◌, [], filter, IfOk, OnOk, length, option_map};
+ghost use Rattle.std.specs.Prelude.{◌≡◌, ◌++◌, ◌∷◌, ◌<◌, [], filter, IfOk, List, ℕ, OnOk, length, option_map};
 ghost use Rattle.std.specs.Result.{result_ok};
+ghost use Rattle.csv.specs.Reading.{owned_rows_left, owned_rows_reader};
 ghost use Rattle.csv.specs.Records.{fields_of};
 ghost use Rattle.a429_import.specs.ImportFields.{field_in};
+ghost use Rattle.a429_import.specs.ImportForms.{from_heading, separator_in};
 ghost use Rattle.a429_import.specs.ImportMaps.{given_texts};
+ghost use Rattle.a429_import.specs.ImportReading.{HasRead};
 ghost use Rattle.a429_import.specs.Imports.{AreLines, has_text, is_filled};
 
 use crate::forms::{Form, form_of};
-use csv::{ByteRecord, Error, ReaderBuilder};
+use csv::{ByteRecord, ByteRecordsIntoIter, Error, ReaderBuilder};
 use std::alloc::{AllocError, Global};
 
 /// A row with the line on which it begins, counted from 1.
@@ -132,6 +135,19 @@ pub fn count_before(text: &[u8], from_heading: &[u8]) -> LineCount {
     count
 }
 
+/// The rows of a text of this form, as the library `csv` reads them.
+pub fn rows_of<'a>(alloc: Global, form: Form<'a>) -> ByteRecordsIntoIter<&'a [u8]>
+    ensures before { HasRead form.entry.separator form.entry.text.now (owned_rows_reader result) [] }
+    ensures left { 0 < owned_rows_left result }
+{
+    let reader = ReaderBuilder::new()
+        .has_headers(false)
+        .flexible(true)
+        .delimiter(form.separator)
+        .from_reader(alloc, form.text);
+    reader.into_byte_records()
+}
+
 /// A line, from what the library `csv` reads. The library refuses no row, so its only error is that an allocation failed.
 pub fn line_of(
     form: Form<'_>,
@@ -161,6 +177,27 @@ fn push_line(lines: &mut Vec<CsvLine>, line: CsvLine) -> Result<(), AllocError>
     Ok(())
 }
 
+/// Adds the lines of all rows of a text of this form. Error: an allocation failed.
+fn push_lines(
+    lines: &mut Vec<CsvLine>,
+    text: &[u8],
+    form: Form<'_>,
+    rows: &mut ByteRecordsIntoIter<&[u8]>,
+) -> Result<(), AllocError>
+    requires none { lines.old.items ≡ [] }
+    requires before { HasRead form.separator form.text.now (owned_rows_reader rows.old) [] }
+    requires left { 0 < owned_rows_left rows.old }
+    ensures { OnOk result ((maps : List (List ℕ)) → form.entry.separator ≡ separator_in maps text.now
+        → form.entry.text.now ≡ from_heading maps text.now → AreLines maps text.now lines.new.items) }
+{
+    let mut count = count_before(text, form.text);
+    for row in rows {
+        let line = line_of(form, &mut count, row)?;
+        push_line(lines, line)?;
+    }
+    Ok(())
+}
+
 /// The rows of a text from its heading on, as the library `csv` reads them. A byte order mark, lines above the heading,
 /// empty lines and rows of empty fields are skipped. A carriage return may come before a line feed, and fields may have
 /// quotes. A heading of one of the texts HEADING=COLUMN is the name of a column. Error: an allocation failed.
@@ -168,16 +205,11 @@ pub fn csv_lines(alloc: Global, maps: &[&str], text: &[u8]) -> Result<Vec<CsvLin
     ensures { IfOk result (λ lines. AreLines (given_texts maps.now) text.now lines.items) }
 {
     let form = form_of(maps, text);
-    let reader = ReaderBuilder::new()
-        .has_headers(false)
-        .flexible(true)
-        .delimiter(form.separator)
-        .from_reader(alloc, form.text);
-    let mut count = count_before(text, form.text);
+    let mut rows = rows_of(alloc, form);
     let mut lines = Vec::new(alloc);
-    for row in reader.into_byte_records() {
-        let line = line_of(form, &mut count, row)?;
-        push_line(&mut lines, line)?;
-    }
+    let done = push_lines(&mut lines, text, form, &mut rows);
+    // One call, instead of a drop of each of its parts.
+    std::mem::drop(rows);
+    done?;
     Ok(lines)
 }

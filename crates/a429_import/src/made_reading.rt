@@ -25,8 +25,14 @@ impl NamesRead {
         ensures { IfOk result (λ read. IsReadBy makes_names read []) }
     {
         let lines = LinesRead::new(alloc, chains)?;
-        let given = GivenTexts::new(alloc, if makes_names { chains } else { 1 })?;
-        Ok(NamesRead { lines, given })
+        match GivenTexts::new(alloc, if makes_names { chains } else { 1 }) {
+            Ok(given) => Ok(NamesRead { lines, given }),
+            Err(error) => {
+                // One call, instead of a drop of each of its parts.
+                std::mem::drop(lines);
+                Err(error)
+            }
+        }
     }
 }
 

@@ -1,5 +1,5 @@
 //! The receivers, the sources or the groups of rows: their names, and for each the number of its first row.
-ghost use Rattle.std.specs.Prelude.{◌≡◌, ◌++◌, ◌∷◌, [], IfOk, OnOk, length, option_map};
+ghost use Rattle.std.specs.Prelude.{◌≡◌, ◌++◌, ◌∷◌, [], IfOk, OnOk, length, option_map, slice_index_or};
 ghost use Rattle.std.specs.List.{position_from};
 ghost use Rattle.std.specs.Str.{bytes_eq};
 ghost use Rattle.a429_import.specs.declared.firsts.Part.{Part};
@@ -42,6 +42,13 @@ impl NamedRows {
         self.names.len()
     }
 
+    /// The number of the first row of the name at a place; 0 if there is none.
+    pub fn first_at(&self, place: usize) -> usize
+        ensures { result ≡ slice_index_or (numbers_of self.now.firsts) place 0 }
+    {
+        self.firsts.at(place)
+    }
+
     /// The place of a name and its first row. `None` if it is not known.
     pub fn find(&self, name: &str) -> Option<FoundName>
         requires { IsIndexed self.now.names }
@@ -50,7 +57,7 @@ impl NamedRows {
         match self.names.find(name.as_bytes()) {
             Some(place) => Some(FoundName {
                 place,
-                first: self.firsts.at(place),
+                first: self.first_at(place),
             }),
             None => None,
         }

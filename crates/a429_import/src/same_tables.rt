@@ -1,5 +1,5 @@
 //! Whether two tables state one equipment.
-ghost use Rattle.std.specs.Prelude.{◌≡◌, IfOk, false, true};
+ghost use Rattle.std.specs.Prelude.{◌≡◌, IfOk, Ok, false, true};
 ghost use Rattle.a429_equipment.specs.SameStation.{all_agree, same_sdi, same_station};
 ghost use Rattle.a429_table.specs.Reading.{reading};
 ghost use Rattle.a429_import.specs.SameTables.{same_output};
@@ -96,15 +96,22 @@ fn unread(fault: TableFault) -> Result<bool, AllocError>
     }
 }
 
+/// Whether the bytes of a table are read as an equipment. Error: an allocation failed.
+fn states(alloc: Global, equipment: &Equipment, table: &[u8]) -> Result<bool, AllocError>
+    ensures { IfOk result (λ is_same. is_same ≡ true → reading table.now ≡ Ok equipment.now) }
+{
+    match read_equipment(alloc, table) {
+        Ok(other) => Ok(same_equipment(equipment, &other)),
+        Err(fault) => unread(fault),
+    }
+}
+
 /// Whether the bytes of two tables are read as one equipment. Error: an allocation failed.
 pub fn state_same(alloc: Global, a: &[u8], b: &[u8]) -> Result<bool, AllocError>
     ensures { IfOk result (λ is_same. is_same ≡ true → reading a.now ≡ reading b.now) }
 {
     match read_equipment(alloc, a) {
-        Ok(first) => match read_equipment(alloc, b) {
-            Ok(second) => Ok(same_equipment(&first, &second)),
-            Err(fault) => unread(fault),
-        },
+        Ok(first) => states(alloc, &first, b),
         Err(fault) => unread(fault),
     }
 }

@@ -1,17 +1,18 @@
 //! The equipment table that rows describe, as TOML.
-ghost use Rattle.std.specs.Prelude.{◌≡◌, IfOk, [], ◌∷◌, Some, codes, filter, if◌then◌else◌, map, slice_get, string_bytes, take};
+ghost use Rattle.std.specs.Prelude.{◌≡◌, IfOk, [], ◌∷◌, Some, codes, filter, if◌then◌else◌, map, string_bytes};
 ghost use Rattle.toml.specs.Data.{string};
 ghost use Rattle.toml.specs.View.{table_view, view};
 ghost use Rattle.a429_word.specs.Texts.{octal};
 ghost use Rattle.a429_word.specs.Written.{Gains};
 ghost use Rattle.toml.specs.Parse.{parse_document};
 ghost use Rattle.a429_import.specs.ImportBuilding.{GainsTables, Puts, PutsFilters, PutsHold};
-ghost use Rattle.a429_import.specs.ImportTables.{group_tree, is_stated, is_word, listed, output_tree, part_tree, part_trees, receiver_tree, root_members, rows_of_group, sdi_data, source_tree, unless_known, words};
-ghost use Rattle.a429_import.specs.NextRows.{IsFirst, outputs_at};
+ghost use Rattle.a429_import.specs.ImportTables.{group_tree, is_stated, is_word, listed, output_tree, part_tree, part_trees, receiver_tree, root_members, rows_of_group, sdi_data, source_tree, words};
+ghost use Rattle.a429_import.specs.Known.{Knows, KnowsFirsts};
 
 use crate::building::{put, put_number, put_text};
 use crate::firsts::Part;
-use crate::row_index::RowIndex;
+use crate::known::Known;
+use crate::named_rows::NamedRows;
 use crate::rows::ImportRow;
 use crate::words::parts;
 use std::alloc::{AllocError, Global};
@@ -28,17 +29,24 @@ fn push_word(alloc: Global, words: &mut Vec<Value>, word: &str) -> Result<(), Al
     Ok(())
 }
 
+/// Those of these parts that are not empty.
+fn words_of(alloc: Global, parts: &[&str]) -> Result<Vec<Value>, AllocError>
+    ensures { IfOk result (λ values. map view values.items ≡ map (λ word. string word) (filter is_word (map (λ part. part.now) parts.now))) }
+{
+    let mut values = Vec::new(alloc);
+    for part in parts {
+        push_word(alloc, &mut values, *part)?;
+    }
+    Ok(values)
+}
+
 /// The words of a text, which are separated by spaces.
 #[tactic(auto, unfolding(crate::specs::ImportTables::words))]
 fn words(alloc: Global, text: &str) -> Result<Vec<Value>, AllocError>
     ensures { IfOk result (λ values. map view values.items ≡ map (λ word. string word) (words text.now)) }
 {
-    let mut values = Vec::new(alloc);
     let parts = parts(alloc, text)?;
-    for part in &parts {
-        push_word(alloc, &mut values, part)?;
-    }
-    Ok(values)
+    words_of(alloc, &parts)
 }
 
 /// Puts the filters of a receiver, if it has any.
@@ -117,52 +125,42 @@ fn output_table(alloc: Global, row: &ImportRow) -> Result<Value, AllocError>
     Ok(Value::Table(table))
 }
 
-/// Adds the table of the output of the row of a number, if there is one.
+/// Adds the table of the output of a row, if the row has the same group as another one.
 fn push_output(
     alloc: Global,
     outputs: &mut Vec<Value>,
-    rows: &[ImportRow],
-    number: usize,
+    row: &ImportRow,
+    group: &ImportRow,
 ) -> Result<(), AllocError>
-    ensures { GainsTables result outputs.old outputs.new (outputs_at rows.now number) }
+    ensures { GainsTables result outputs.old outputs.new (map output_tree (rows_of_group (row.now ∷ []) group.now)) }
 {
-    if let Some(row) = rows.get(number) {
+    if group.texts.group.as_str() == row.texts.group.as_str() {
         outputs.push(output_table(alloc, row)?)?;
     }
     Ok(())
 }
 
-/// The tables of the outputs of the group of a row, which is the first of its group.
+/// The tables of the outputs of the group of a row. There are 8 groups and some 1,300 rows at most.
 fn output_tables(
     alloc: Global,
-    index: &RowIndex<'_>,
-    first: usize,
+    rows: &[ImportRow],
     group: &ImportRow,
 ) -> Result<Vec<Value>, AllocError>
-    requires { IsFirst Part.Groups index.now.rows.now first group.now }
-    ensures { IfOk result (λ values. map view values.items ≡ map output_tree (rows_of_group index.now.rows.now group.now)) }
+    ensures { IfOk result (λ values. map view values.items ≡ map output_tree (rows_of_group rows.now group.now)) }
 {
     let mut outputs = Vec::new(alloc);
-    let mut next = Some(first);
-    while let Some(number) = next {
-        push_output(alloc, &mut outputs, index.rows, number)?;
-        next = index.next(number);
+    for row in rows {
+        push_output(alloc, &mut outputs, row, group)?;
     }
     Ok(outputs)
 }
 
-/// The table of the group of a row, which is the first of its group.
+/// The table of the group of a row.
 #[tactic(auto, unfolding(crate::specs::ImportTables::group_tree))]
-fn group_table(
-    alloc: Global,
-    index: &RowIndex<'_>,
-    first: usize,
-    row: &ImportRow,
-) -> Result<Value, AllocError>
-    requires { IsFirst Part.Groups index.now.rows.now first row.now }
-    ensures { IfOk result (λ value. view value ≡ group_tree index.now.rows.now row.now) }
+fn group_table(alloc: Global, rows: &[ImportRow], row: &ImportRow) -> Result<Value, AllocError>
+    ensures { IfOk result (λ value. view value ≡ group_tree rows.now row.now) }
 {
-    let outputs = output_tables(alloc, index, first, row)?;
+    let outputs = output_tables(alloc, rows, row)?;
     let mut table = Table::new(alloc);
     put_number(alloc, &mut table, "rate", row.numbers.rate)?;
     put(alloc, &mut table, "output", Value::Array(outputs))?;
@@ -170,21 +168,19 @@ fn group_table(
     Ok(Value::Table(table))
 }
 
-/// The table of the receiver, the source or the group of a row, which is the first of it.
+/// The table of the receiver, the source or the group of a row.
 fn part_table(
     alloc: Global,
     part: Part,
-    index: &RowIndex<'_>,
-    first: usize,
+    rows: &[ImportRow],
     row: &ImportRow,
 ) -> Result<Value, AllocError>
-    requires { IsFirst part index.now.rows.now first row.now }
-    ensures { IfOk result (λ value. view value ≡ part_tree part index.now.rows.now row.now) }
+    ensures { IfOk result (λ value. view value ≡ part_tree part rows.now row.now) }
 {
     match part {
         Part::Receivers => receiver_table(alloc, row),
         Part::Sources => source_table(alloc, row),
-        Part::Groups => group_table(alloc, index, first, row),
+        Part::Groups => group_table(alloc, rows, row),
     }
 }
 
@@ -198,33 +194,35 @@ fn is_stated(part: Part, row: &ImportRow) -> bool
     }
 }
 
-/// Adds the table of the receiver, the source or the group of a row, if it has one and no earlier row has the same.
-fn push_first(
+/// Adds the table of the receiver, the source or the group of a row, if the row states one.
+fn push_stated(
     alloc: Global,
     tables: &mut Vec<Value>,
     part: Part,
-    index: &RowIndex<'_>,
-    number: usize,
+    rows: &[ImportRow],
     row: &ImportRow,
 ) -> Result<(), AllocError>
-    requires { slice_get index.now.rows.now number ≡ Some row.now }
-    ensures { GainsTables result tables.old tables.new
-        (map (part_tree part index.now.rows.now) (filter (is_stated part) (unless_known part (take number index.now.rows.now) row.now))) }
+    ensures { GainsTables result tables.old tables.new (map (part_tree part rows.now) (filter (is_stated part) (row.now ∷ []))) }
 {
-    if index.is_first(part, number, row) && is_stated(part, row) {
-        tables.push(part_table(alloc, part, index, number, row)?)?;
+    if is_stated(part, row) {
+        tables.push(part_table(alloc, part, rows, row)?)?;
     }
     Ok(())
 }
 
 /// The tables of the receivers, the sources or the groups, in the order of their first rows.
-fn part_tables(alloc: Global, part: Part, index: &RowIndex<'_>) -> Result<Vec<Value>, AllocError>
-    ensures { IfOk result (λ values. map view values.items ≡ part_trees part index.now.rows.now) }
+fn part_tables(
+    alloc: Global,
+    part: Part,
+    named: &NamedRows,
+    rows: &[ImportRow],
+) -> Result<Vec<Value>, AllocError>
+    requires { KnowsFirsts part named.now rows.now }
+    ensures { IfOk result (λ values. map view values.items ≡ part_trees part rows.now) }
 {
     let mut tables = Vec::new(alloc);
-    let rows = index.rows;
-    for number in 0..rows.len() {
-        push_first(alloc, &mut tables, part, index, number, &rows[number])?;
+    for place in 0..named.len() {
+        push_stated(alloc, &mut tables, part, rows, &rows[named.first_at(place)])?;
     }
     Ok(tables)
 }
@@ -235,43 +233,57 @@ fn put_part(
     table: &mut Table,
     key: &str,
     part: Part,
-    index: &RowIndex<'_>,
+    named: &NamedRows,
+    rows: &[ImportRow],
 ) -> Result<(), AllocError>
-    ensures { Puts result (table_view table.old) (table_view table.new) key.now (listed (part_trees part index.now.rows.now)) }
+    requires { KnowsFirsts part named.now rows.now }
+    ensures { Puts result (table_view table.old) (table_view table.new) key.now (listed (part_trees part rows.now)) }
 {
-    let tables = part_tables(alloc, part, index)?;
+    let tables = part_tables(alloc, part, named, rows)?;
     put(alloc, table, key, Value::Array(tables))
 }
 
 /// The root table.
 #[tactic(auto, unfolding(crate::specs::ImportTables::root_members))]
-fn root_table(alloc: Global, index: &RowIndex<'_>) -> Result<Table, AllocError>
-    ensures { IfOk result (λ root. table_view root ≡ root_members index.now.rows.now) }
+fn root_table(alloc: Global, known: &Known, rows: &[ImportRow]) -> Result<Table, AllocError>
+    requires { Knows known.now rows.now }
+    ensures { IfOk result (λ root. table_view root ≡ root_members rows.now) }
 {
     let mut root = Table::new(alloc);
     put_number(alloc, &mut root, "version", 2)?;
-    put_part(alloc, &mut root, "source", Part::Sources, index)?;
-    put_part(alloc, &mut root, "receiver", Part::Receivers, index)?;
-    put_part(alloc, &mut root, "group", Part::Groups, index)?;
+    put_part(
+        alloc,
+        &mut root,
+        "source",
+        Part::Sources,
+        &known.sources.named,
+        rows,
+    )?;
+    put_part(
+        alloc,
+        &mut root,
+        "receiver",
+        Part::Receivers,
+        &known.receivers.named,
+        rows,
+    )?;
+    put_part(
+        alloc,
+        &mut root,
+        "group",
+        Part::Groups,
+        &known.groups.named,
+        rows,
+    )?;
     Ok(root)
 }
 
-/// The root table that rows describe.
-fn stated_root(alloc: Global, rows: &[ImportRow]) -> Result<Table, AllocError>
-    ensures { IfOk result (λ root. table_view root ≡ root_members rows.now) }
-{
-    let index = RowIndex::of(alloc, rows)?;
-    let root = root_table(alloc, &index);
-    // One call, instead of a drop of each of its parts at each return.
-    std::mem::drop(index);
-    root
-}
-
-/// The equipment table that rows describe, as TOML of version 2. Error: an allocation failed.
-pub fn table_text(alloc: Global, rows: &[ImportRow]) -> Result<String, AllocError>
+/// The equipment table that these known rows describe, as TOML of version 2. Error: an allocation failed.
+pub fn table_text(alloc: Global, known: &Known, rows: &[ImportRow]) -> Result<String, AllocError>
+    requires { Knows known.now rows.now }
     ensures { IfOk result (λ text. parse_document (string_bytes text) ≡ Some (root_members rows.now)) }
 {
-    let root = stated_root(alloc, rows)?;
+    let root = root_table(alloc, known, rows)?;
     match toml::table_to_string(alloc, &root) {
         Ok(text) => Ok(text),
         Err(_) => Err(AllocError),

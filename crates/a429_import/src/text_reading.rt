@@ -1,18 +1,19 @@
 //! The lines of a text, one after the other, from its heading on.
-ghost use Rattle.std.specs.Prelude.{◌≡◌, ◌++◌, ◌∷◌, [], filter, IfOk, List, OnOk};
+ghost use Rattle.std.specs.Prelude.{◌≡◌, ◌++◌, ◌∷◌, ◌<◌, [], filter, IfOk, List, OnOk};
+ghost use Rattle.csv.specs.Reading.{owned_rows_left, owned_rows_reader};
 ghost use Rattle.csv.specs.Records.{fields_of};
 ghost use Rattle.a429_import.specs.declared.lines.CsvLine.{CsvLine};
 ghost use Rattle.a429_import.specs.ImportForms.{from_heading, separator_in};
 ghost use Rattle.a429_import.specs.ImportMaps.{given_texts};
-ghost use Rattle.a429_import.specs.ImportReading.{IsOfNamed};
+ghost use Rattle.a429_import.specs.ImportReading.{HasRead, IsOfNamed};
 ghost use Rattle.a429_import.specs.Imports.{AreNamedLines, has_text};
 ghost use Rattle.a429_import.specs.MadeReading.{IsReadBy};
 
 use crate::forms::Form;
-use crate::lines::{CsvLine, count_before, line_of};
+use crate::lines::{CsvLine, count_before, line_of, rows_of};
 use crate::made_reading::{NamesRead, take_by};
 use crate::maps::named_line;
-use csv::ReaderBuilder;
+use csv::ByteRecordsIntoIter;
 use std::alloc::{AllocError, Global};
 
 /// Takes one more line. A first line is the heading: it gets its names by texts HEADING=COLUMN. The answer is whether the
@@ -58,6 +59,32 @@ fn take_filled(
     }
 }
 
+/// Takes the lines of all rows of a text of this form. Error: an allocation failed.
+fn read_rows(
+    alloc: Global,
+    maps: &[&str],
+    makes_names: bool,
+    text: &[u8],
+    form: Form<'_>,
+    rows: &mut ByteRecordsIntoIter<&[u8]>,
+    read: &mut NamesRead,
+) -> Result<(), AllocError>
+    requires separator { form.separator ≡ separator_in (given_texts maps.now) text.now }
+    requires text { form.text.now ≡ from_heading (given_texts maps.now) text.now }
+    requires before { HasRead form.separator form.text.now (owned_rows_reader rows.old) [] }
+    requires left { 0 < owned_rows_left rows.old }
+    requires read { IsReadBy makes_names read.old [] }
+    ensures { OnOk result ((all : List CsvLine) × AreNamedLines (given_texts maps.now) text.now all × IsReadBy makes_names read.new all) }
+{
+    let mut count = count_before(text, form.text);
+    let mut is_below = false;
+    for row in rows {
+        let line = line_of(form, &mut count, row)?;
+        is_below = take_filled(alloc, maps, makes_names, is_below, read, line)?;
+    }
+    Ok(())
+}
+
 /// Takes all lines of a text of this form from its heading on. Error: an allocation failed.
 pub fn read_lines(
     alloc: Global,
@@ -72,16 +99,9 @@ pub fn read_lines(
     requires read { IsReadBy makes_names read.old [] }
     ensures { OnOk result ((all : List CsvLine) × AreNamedLines (given_texts maps.now) text.now all × IsReadBy makes_names read.new all) }
 {
-    let reader = ReaderBuilder::new()
-        .has_headers(false)
-        .flexible(true)
-        .delimiter(form.separator)
-        .from_reader(alloc, form.text);
-    let mut count = count_before(text, form.text);
-    let mut is_below = false;
-    for row in reader.into_byte_records() {
-        let line = line_of(form, &mut count, row)?;
-        is_below = take_filled(alloc, maps, makes_names, is_below, read, line)?;
-    }
-    Ok(())
+    let mut rows = rows_of(alloc, form);
+    let done = read_rows(alloc, maps, makes_names, text, form, &mut rows, read);
+    // One call, instead of a drop of each of its parts.
+    std::mem::drop(rows);
+    done
 }

@@ -20,7 +20,7 @@ use std::alloc::{AllocError, Global};
 /// The groups of rows, each with the bit rate that its first row states.
 #[derive(Drop)]
 pub struct KnownGroups {
-    named: NamedRows,
+    pub named: NamedRows,
     rates: Vec<u32>,
     /// The number of outputs of each; one above the limit stands for any above it.
     outputs: Vec<u8>,

@@ -5,7 +5,7 @@ use Rattle.clap.specs.Words.{App, app_of, with_rule}
 use Rattle.a429_arguments.specs.CommandLine.{form_row, form_rule, with_names}
 use Rattle.a429_arguments.specs.declared.forms.OptionForm.{OptionForm}
 use Rattle.a429_arguments.specs.declared.forms.OptionKind.TheVariants.{Flag}
-use Rattle.a429_arguments.specs.declared.help.OptionHelp.TheVariants.{Csv}
+use Rattle.a429_arguments.specs.declared.argument_help.OptionHelp.TheVariants.{Csv}
 use Rattle.a429_arguments.proofs.command_line.command_of.Goals as goal
 
 abbrev none : OptionForm

@@ -4,7 +4,7 @@ use Rattle.std.proofs.Math.ListN.{drop_of_length-le}
 use Rattle.std.proofs.lemmas.List.{drop_more}
 use Rattle.a429_arguments.specs.declared.forms.CommandForm.{CommandForm}
 use Rattle.a429_arguments.specs.declared.forms.Verb.TheVariants as verb
-use Rattle.a429_arguments.specs.declared.help.NameHelp.TheVariants.{Frames}
+use Rattle.a429_arguments.specs.declared.argument_help.NameHelp.TheVariants.{Frames}
 use Rattle.std.specs.Borrow.{Bor}
 use Rattle.clap.specs.Words.{Text}
 use Rattle.a429_arguments.proofs.command_line.with_commands.Goals as goal

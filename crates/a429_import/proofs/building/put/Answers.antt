@@ -1,5 +1,4 @@
-use Rattle.a429_import.proofs.ImportTrees.{put_front}
 use Rattle.a429_import.proofs.building.put.Goals as goal
 
 pub returns-in-Ok : goal.returns-in-Ok
-returns-in-Ok c before = rw c.in-Ok.ensures.entries (put_front c.in_ok-key.key c.args.key.now c.args.value c.args.table.now.entries c.in_ok-key.ensures.ok before)
+returns-in-Ok c = rw c.in-Ok.ensures.ok at c.insert.ensures

@@ -6,6 +6,11 @@ use Rattle.a429_import.specs.Imports.{IsImportOf}
 use Rattle.a429_import.proofs.MadeReading.{are_given, made_of}
 use Rattle.a429_import.proofs.import.commented_table.Goals as goal
 
+pub table_of_lines-requires : goal.table_of_lines-requires
+table_of_lines-requires c =
+    let made = made_of c.args.read.now.lines.heading c.args.read.now c.requires.0 c.requires.1 in
+    (made.0, made.2)
+
 pub with_texts-requires : goal.with_texts-requires
 with_texts-requires c = are_given c.args.read.now.lines.heading c.args.read.now c.requires.0 c.requires.1
 

@@ -4,6 +4,12 @@ use Rattle.a429_import.specs.ImportReading.{AreRead}
 use Rattle.a429_import.proofs.ImportReading.{other_fault}
 use Rattle.a429_import.proofs.import.table_of_lines.Goals as goal
 
+pub table_below_heading-requires : goal.table_below_heading-requires
+table_below_heading-requires c =
+    let old : LinesRead = c.args.read.now in
+    let none : old.fault ≡ None = sym c.take.ensures.value ∙ c.in-None.is in
+    (c.requires.0, other_fault old.heading old c.take.new.self c.requires.0 (subst (λ f. AreRead f old c.requires.0) none c.requires.1))
+
 pub returns-in-None : goal.returns-in-None
 returns-in-None c = λ lines known.
     let old : LinesRead = c.args.read.now in

@@ -2,7 +2,8 @@ use Rattle.std.proofs.Common.{◌≡◌, ◌∙◌, ap, string_bytes, subst, sym
 use Rattle.toml.specs.Parse.{parse_document}
 use Rattle.a429_table.specs.Reading.{reading}
 use Rattle.a429_import.specs.ImportTables.{record_stated, root_members}
-use Rattle.a429_import.proofs.FullRows.{all_kept}
+use Rattle.a429_import.specs.Known.{Knows}
+use Rattle.a429_import.proofs.FullRows.{has_kept}
 use Rattle.a429_import.proofs.ImportLimits.{limit_fault_is_first}
 use Rattle.a429_import.proofs.Imports.{record_read, table_refused}
 use Rattle.a429_import.proofs.import.table_of_rows.Goals as goal
@@ -10,9 +11,14 @@ use Rattle.a429_import.proofs.import.table_of_rows.Goals as goal
 pub returns-in-Some : goal.returns-in-Some
 returns-in-Some c = λ rows lines has are. (rows, are, limit_fault_is_first rows (c.in-Some.kind, c.in-Some.place) (sym (c.limit_fault.ensures rows has.known) ∙ c.in-Some.is))
 
+pub table_text-requires : goal.table_text-requires
+table_text-requires c =
+    let (rows, has) = c.requires in
+    subst (Knows c.args.read.now.known) (sym (c.deref.ensures.value ∙ has_kept c.args.read.now rows c.limit_fault.result has (c.limit_fault.ensures rows has.known) c.in-None.is)) has.known
+
 pub returns-in-Ok : goal.returns-in-Ok
 returns-in-Ok c = λ rows lines has are.
-    let kept : c.deref.result.now ≡ rows = c.deref.ensures.value ∙ all_kept c.args.read.now.is_full c.args.read.now.kept.items rows has.kept (sym (c.limit_fault.ensures rows has.known) ∙ c.in-None.is) in
+    let kept : c.deref.result.now ≡ rows = c.deref.ensures.value ∙ has_kept c.args.read.now rows c.limit_fault.result has (c.limit_fault.ensures rows has.known) c.in-None.is in
     let bytes : List ℕ = c.as_bytes.result.now in
     let same : bytes ≡ string_bytes c.in_ok-text.text = c.as_bytes.ensures.value ∙ c.as_str.ensures.value in
     let parsed : parse_document bytes ≡ Some (root_members rows) = ap parse_document same ∙ c.in_ok-text.ensures ∙ ap (λ rs. Some (root_members rs)) kept in
@@ -21,7 +27,7 @@ returns-in-Ok c = λ rows lines has are.
 
 pub returns-in-Err : goal.returns-in-Err
 returns-in-Err c = λ rows lines has are.
-    let kept : c.deref.result.now ≡ rows = c.deref.ensures.value ∙ all_kept c.args.read.now.is_full c.args.read.now.kept.items rows has.kept (sym (c.limit_fault.ensures rows has.known) ∙ c.in-None.is) in
+    let kept : c.deref.result.now ≡ rows = c.deref.ensures.value ∙ has_kept c.args.read.now rows c.limit_fault.result has (c.limit_fault.ensures rows has.known) c.in-None.is in
     let bytes : List ℕ = c.as_bytes.result.now in
     let same : bytes ≡ string_bytes c.in_ok-text.text = c.as_bytes.ensures.value ∙ c.as_str.ensures.value in
     let parsed : parse_document bytes ≡ Some (root_members rows) = ap parse_document same ∙ c.in_ok-text.ensures ∙ ap (λ rs. Some (root_members rs)) kept in

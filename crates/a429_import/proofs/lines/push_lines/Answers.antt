@@ -1,0 +1,32 @@
+use Rattle.std.proofs.Common.{List, ◌∙◌, sym, refl, ◌∷◌, [], ap, filter, ◌++◌}
+use Rattle.std.proofs.lemmas.List.Elements.{filter-append}
+use Rattle.csv.specs.Records.{fields_of}
+use Rattle.a429_import.specs.declared.lines.CsvLine.{CsvLine}
+use Rattle.a429_import.specs.Imports.{has_text}
+use Rattle.a429_import.proofs.ImportForms.{read_all, read_more}
+use Rattle.a429_import.proofs.ImportReading.{ok_is}
+use Rattle.a429_import.proofs.lines.push_lines.Goals as goal
+
+pub loop-row-init : goal.loop-row-init
+loop-row-init c =
+    let start = c.into_iter-row-iterator.ensures.into_iter_gives ∙ refl in
+    rw start (record { turns = c.requires.left; all = []; read = c.requires.before; filled = c.requires.none })
+
+pub loop-row-preserved : goal.loop-row-preserved
+loop-row-preserved c =
+    let inv = c.loop-row.invariant in
+    let line : CsvLine = c.in_ok-line.line in
+    let is = ok_is c.in-Some.row line.fields c.in_ok-line.ensures.fields in
+    let s = rw (c.in-Some.is, is) at ((c.next.ensures.steps inv.turns inv.read.plain).0 inv.read.ready) in
+    record {
+      turns = s.2;
+      all = inv.all ++ line ∷ [];
+      read = read_more c.args.form.separator c.args.form.text.now c.loop-row.row-iterator.now.rdr c.next.new.self.now.rdr inv.all line inv.read s.0 s.1 c.in_ok-line.ensures.separator;
+      filled = c.in_ok-push_line.ensures ∙ ap (λ (ls : List CsvLine). ls ++ filter (λ (l : CsvLine). has_text (fields_of l.fields)) (line ∷ [])) inv.filled ∙ sym (filter-append (λ (l : CsvLine). has_text (fields_of l.fields)) inv.all (line ∷ []));
+    }
+
+pub returns : goal.returns
+returns c = λ maps separator from.
+    let inv = c.loop-row.invariant in
+    let end = rw c.in-None.is at ((c.next.ensures.steps inv.turns inv.read.plain).0 inv.read.ready) in
+    read_all maps c.args.text.now c.args.form c.loop-row.row-iterator.now.rdr c.next.new.self.now.rdr inv.all c.loop-row.lines.items separator from inv.read end inv.filled

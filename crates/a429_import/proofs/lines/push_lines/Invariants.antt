@@ -1,0 +1,14 @@
+use Rattle.std.proofs.Common.{◌≡◌, ◌<◌, List, filter}
+use Rattle.csv.specs.Records.{fields_of}
+use Rattle.a429_import.specs.declared.lines.CsvLine.{CsvLine}
+use Rattle.a429_import.specs.ImportReading.{HasRead}
+use Rattle.a429_import.specs.Imports.{has_text}
+use Rattle.a429_import.proofs.lines.push_lines.Given as goal
+
+abbrev pub invariant-loop-row : goal.invariant-loop-row
+invariant-loop-row l = record {
+  turns : 0 < l.row-iterator.left;
+  all : List CsvLine;
+  read : HasRead l.form.separator l.form.text.now l.row-iterator.rdr all;
+  filled : l.lines.items ≡ filter (λ line. has_text (fields_of line.fields)) all;
+}

@@ -1,0 +1,18 @@
+use Rattle.std.proofs.Common.{◌∙◌, ap, inr, refl, sym}
+use Rattle.csv.specs.Reading.{Reached, strip_bom}
+use Rattle.csv.specs.declared.parser.Config.{Config}
+use Rattle.a429_import.proofs.lines.rows_of.Goals as goal
+
+pub returns-clause-before : goal.returns-clause-before
+unfolding Reached
+returns-clause-before c =
+    let from = c.from_reader-reader.ensures in
+    rw c.into_byte_records.ensures.rdr (record {
+      plain = rw (c.delimiter.ensures, c.flexible.ensures, c.has_headers.ensures) at from.trim ∙ c.new.ensures.trim;
+      ready = inr (inr (rw (c.delimiter.ensures, c.flexible.ensures, c.has_headers.ensures) at from.has_headers, from.headers));
+      config = rw (c.delimiter.ensures, c.flexible.ensures, c.has_headers.ensures) at from.config ∙ ap (λ (g : Config). record g { delimiter = c.args.form.separator }) c.new.ensures.config;
+      rest = strip_bom c.args.form.text.now;
+      source = from.source;
+      reached = (sym from.state, refl);
+      separators = tt;
+    })
