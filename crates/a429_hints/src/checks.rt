@@ -1,7 +1,7 @@
 //! Hints about a line of a plan text: what was found, and what was expected.
 
 use crate::files::REFUSED_OUTPUT;
-use crate::hint::HintText;
+use crate::hint::{HintText, Shown};
 use crate::reasons::meaning;
 use a429_console::answered::Objection;
 use a429_console::refusals::names::{group_name, source_name};
@@ -11,19 +11,21 @@ use a429_text::cut::{first_line, lines_from};
 
 /// A group of the equipment by its number, and the number of its line in a plan text.
 #[derive(Clone, Copy)]
-struct NumberedGroup {
+struct DueGroup<'a> {
     number: usize,
     line: usize,
+    rate: u32,
+    outputs: &'a [OutputRow],
 }
 
 /// What is expected at a line of a plan text. The outputs of a group may come in any order.
 #[derive(Clone, Copy)]
-enum DueLine {
+enum DueLine<'a> {
     Version,
     Rate,
-    Group(NumberedGroup),
-    Output(NumberedGroup),
-    Bound(NumberedGroup),
+    Group(DueGroup<'a>),
+    Output(DueGroup<'a>),
+    Bound(DueGroup<'a>),
     End,
 }
 
@@ -51,7 +53,7 @@ pub fn tell_objection(judged: JudgedText, objection: Objection, hint: &HintText)
 }
 
 /// What is expected at a line.
-fn due_at(equipment: &Equipment, line: usize) -> DueLine {
+fn due_at<'a>(equipment: &'a Equipment, line: usize) -> DueLine<'a> {
     match (line, equipment.version()) {
         (1, _) => return DueLine::Version,
         (2, 1) => return DueLine::Rate,
@@ -59,13 +61,13 @@ fn due_at(equipment: &Equipment, line: usize) -> DueLine {
     }
     let mut first: usize = if equipment.version() == 1 { 3 } else { 2 };
     for number in 0..equipment.groups().len() {
-        let group = NumberedGroup {
+        let group = DueGroup {
             number,
             line: first,
+            rate: equipment.group_rate(number),
+            outputs: equipment.outputs(number),
         };
-        let last = first
-            .saturating_add(equipment.outputs(number).len())
-            .saturating_add(1);
+        let last = first.saturating_add(group.outputs.len()).saturating_add(1);
         if line == first {
             return DueLine::Group(group);
         }
@@ -125,74 +127,57 @@ fn tell_form(judged: JudgedText, due: DueLine, line: usize, found: &str, hint: &
     } else if !rest.contains(&b'\n') {
         hint.say("the line has no line feed at its end; ");
     }
-    hint.say_text("expected `", form_of(due, judged.equipment.version()));
-    hint.end("`");
+    hint.end_one("expected `{}`", form_of(due, judged.equipment.version()));
 }
 
 /// Says which value was found, which was expected, and what that is.
 fn tell_values(judged: JudgedText, due: DueLine, reason: &str, found: &str, hint: &HintText) {
     let equipment = judged.equipment;
-    match (reason, due) {
-        ("bound", DueLine::Bound(group)) => tell_bound(judged, group, found, hint),
-        ("period" | "hold", DueLine::Output(group)) => {
-            tell_output_value(equipment, group.number, found, reason, hint);
+    match due {
+        DueLine::Bound(group) if reason == "bound" => tell_bound(judged, group, found, hint),
+        DueLine::Output(group) if reason == "period" || reason == "hold" => {
+            tell_output_value(equipment, group, found, reason, hint);
         }
-        ("rate", DueLine::Group(group)) => {
-            tell_number(found, rate_of(equipment, group.number), reason, hint);
+        DueLine::Group(group) if reason == "group" => {
+            let name = group_name(equipment, group.number);
+            tell_due(found, name.as_str(), reason, hint);
         }
-        ("rate", _) => {
-            tell_number(found, equipment.rate().unwrap_or(0), reason, hint);
-        }
-        ("frame", DueLine::Group(group)) => {
-            tell_number(found, frame_of(equipment, group.number), reason, hint);
-        }
-        ("group", DueLine::Group(group)) => {
-            tell_text(
-                found,
-                group_name(equipment, group.number).as_str(),
-                reason,
-                hint,
-            );
-        }
+        _ => tell_number(equipment, due, reason, found, hint),
+    }
+}
+
+/// Says which value was found, and which number was expected, if one was.
+fn tell_number(equipment: &Equipment, due: DueLine, reason: &str, found: &str, hint: &HintText) {
+    let number = match due {
+        DueLine::Group(group) if reason == "frame" => frame_of(group),
+        DueLine::Group(group) if reason == "rate" => group.rate,
+        _ if reason == "rate" => equipment.rate().unwrap_or(0),
         _ => {
             begin_found(found, reason, hint);
-            hint.end_text(": ", meaning(reason));
+            return hint.end_one(": {}", meaning(reason));
         }
-    }
+    };
+    tell_due(found, number, reason, hint);
 }
 
 /// Begins a hint with the value that was found in a line. A place is a bus and an offset.
 fn begin_found(found: &str, reason: &str, hint: &HintText) {
     hint.begin(": found ");
     if reason == "place" {
-        hint.say_number("bus ", number_at(found, "bus"));
-        hint.say_number(" offset ", number_at(found, "offset"));
+        hint.say_two(
+            "bus {} offset {}",
+            number_at(found, "bus"),
+            number_at(found, "offset"),
+        );
     } else {
-        hint.say_short("", value_at(found, reason).unwrap_or(""));
+        hint.say_one("{..}", value_at(found, reason).unwrap_or(""));
     }
 }
 
-/// Says which value was found in a line, and which number was expected.
-fn tell_number(found: &str, due: u32, reason: &str, hint: &HintText) {
+/// Says which value was found in a line, and which was expected.
+fn tell_due<S: Shown>(found: &str, due: S, reason: &str, hint: &HintText) {
     begin_found(found, reason, hint);
-    hint.say_number(", expected ", u64::from(due));
-    hint.end_text(": ", meaning(reason));
-}
-
-/// Says which value was found in a line, and which text was expected.
-fn tell_text(found: &str, due: &str, reason: &str, hint: &HintText) {
-    begin_found(found, reason, hint);
-    hint.say_text(", expected ", due);
-    hint.end_text(": ", meaning(reason));
-}
-
-/// The bit rate of a group; 0 if there is no such group.
-fn rate_of(equipment: &Equipment, group: usize) -> u32 {
-    if group < equipment.groups().len() {
-        equipment.group_rate(group)
-    } else {
-        0
-    }
+    hint.end_two(", expected {}: {}", due, meaning(reason));
 }
 
 /// The grid period of an output in slots; 0 if there is none.
@@ -204,13 +189,10 @@ fn period_of(row: &OutputRow, rate: u32) -> u32 {
 }
 
 /// The longest grid period of a group, in slots.
-fn frame_of(equipment: &Equipment, group: usize) -> u32 {
+fn frame_of(group: DueGroup) -> u32 {
     let mut frame = 1;
-    if group < equipment.groups().len() {
-        let rate = equipment.group_rate(group);
-        for row in equipment.outputs(group) {
-            frame = frame.max(period_of(row, rate));
-        }
+    for row in group.outputs {
+        frame = frame.max(period_of(row, group.rate));
     }
     frame
 }
@@ -218,7 +200,7 @@ fn frame_of(equipment: &Equipment, group: usize) -> u32 {
 /// Says which period or which hold the output of a line has.
 fn tell_output_value(
     equipment: &Equipment,
-    group: usize,
+    group: DueGroup,
     found: &str,
     reason: &str,
     hint: &HintText,
@@ -227,51 +209,44 @@ fn tell_output_value(
         return;
     };
     match (reason, row.hold) {
-        ("period", _) => {
-            let period = period_of(row, rate_of(equipment, group));
-            tell_number(found, period, reason, hint);
-        }
-        (_, Some(hold)) => tell_number(found, hold, reason, hint),
-        (_, None) => tell_text(found, "none", reason, hint),
+        ("period", _) => tell_due(found, period_of(row, group.rate), reason, hint),
+        (_, Some(hold)) => tell_due(found, hold, reason, hint),
+        (_, None) => tell_due(found, "none", reason, hint),
     }
 }
 
 /// The output of a group whose source a line names. `None` if there is none.
-fn output_of<'a>(equipment: &'a Equipment, group: usize, line: &str) -> Option<&'a OutputRow> {
-    if group >= equipment.groups().len() {
-        return None;
-    }
+fn output_of<'a>(equipment: &Equipment, group: DueGroup<'a>, line: &str) -> Option<&'a OutputRow> {
     let source = value_at(line, "output").unwrap_or("");
-    for (number, row) in equipment.outputs(group).iter().enumerate() {
-        if source_name(equipment, group, number).as_str() == source {
+    for (number, row) in group.outputs.iter().enumerate() {
+        if source_name(equipment, group.number, number).as_str() == source {
             return Some(row);
         }
     }
     None
 }
 
-/// How many cells the outputs of a group fill in a frame.
-fn demand_of(equipment: &Equipment, group: usize) -> u64 {
+/// How many cells the outputs of a group fill in a frame of this many slots.
+fn demand_of(group: DueGroup, frame: u32) -> u64 {
     let mut demand: u64 = 0;
-    if group < equipment.groups().len() {
-        let (rate, frame) = (equipment.group_rate(group), frame_of(equipment, group));
-        for row in equipment.outputs(group) {
-            demand = demand.saturating_add(u64::from(frame / period_of(row, rate).max(1)));
-        }
+    for row in group.outputs {
+        demand = demand.saturating_add(u64::from(frame / period_of(row, group.rate).max(1)));
     }
     demand
 }
 
 /// Says which certificate is expected. Its number of buses is that of the group's line, less 1.
-fn tell_bound(judged: JudgedText, group: NumberedGroup, found: &str, hint: &HintText) {
-    let NumberedGroup { number, line } = group;
-    let buses = number_at(text_of(judged.text, line), "buses");
-    hint.begin(": found `");
-    hint.say_short("", found);
-    hint.say_number("`, expected `bound ", demand_of(judged.equipment, number));
-    hint.say_number(" > ", buses.saturating_sub(1));
-    hint.say_number(" * ", u64::from(frame_of(judged.equipment, number)));
-    hint.end_text("`: ", meaning("bound"));
+fn tell_bound(judged: JudgedText, group: DueGroup, found: &str, hint: &HintText) {
+    let buses = number_at(text_of(judged.text, group.line), "buses");
+    let frame = frame_of(group);
+    hint.begin(": ");
+    hint.say_two(
+        "found `{..}`, expected `bound {} > ",
+        found,
+        demand_of(group, frame),
+    );
+    hint.say_two("{} * {}`: ", buses.saturating_sub(1), frame);
+    hint.end(meaning("bound"));
 }
 
 /// Says which earlier output uses a cell of the output of this line.
@@ -281,10 +256,9 @@ fn tell_shared(judged: JudgedText, due: DueLine, line: usize, found: &str, hint:
     };
     for earlier in group.line.saturating_add(1)..line {
         if share_cells(text_of(judged.text, earlier), found) {
-            hint.begin(": the output of line ");
-            hint.say_count("", earlier);
-            return hint.end(
-                " uses a cell of this output: same bus, and offsets that are equal modulo the smaller period",
+            return hint.line_one(
+                "the output of line {} uses a cell of this output: same bus, and offsets that are equal modulo the smaller period",
+                earlier,
             );
         }
     }

@@ -5,9 +5,10 @@ use a429_text::{Sheet, SheetForm};
 
 /// Says that a log has no time in common with that of the words that came in.
 pub fn tell_apart(heard: &str, hint: &HintText) {
-    hint.begin(": no time is within this log and within ");
-    hint.say_quoted("", heard);
-    hint.end("; both logs need times of one clock");
+    hint.line_one(
+        "no time is within this log and within {?}; both logs need times of one clock",
+        heard,
+    );
 }
 
 /// A box with fewer sends says nothing of clocks.
@@ -21,39 +22,34 @@ struct Sends {
     unsteady: u64,
 }
 
-/// The number in the field of a row under a name of the heading. `None` if there is no such field, or no number in it.
-fn number_under(heading: &str, row: &str, name: &str) -> Option<u64> {
-    let mut fields = row.split(',');
-    for column in heading.split(',') {
-        let field = fields.next()?;
-        if column == name {
-            return field.parse::<u64>().ok();
-        }
-    }
-    None
-}
+const NO_SENDS: Sends = Sends {
+    sent: 0,
+    wrong: 0,
+    unsteady: 0,
+};
 
 /// The sends of a row. `None` if it is no row of an output.
 fn sends_of(heading: &str, row: &str) -> Option<Sends> {
-    let sent = number_under(heading, row, "sent")?;
-    let wrong = number_under(heading, row, "wrong")?;
-    let stale = number_under(heading, row, "stale")?;
-    let soon = number_under(heading, row, "soon")?;
-    let late = number_under(heading, row, "late")?;
-    Some(Sends {
-        sent,
-        wrong: wrong.saturating_add(stale),
-        unsteady: soon.saturating_add(late),
-    })
+    let mut sends = NO_SENDS;
+    let mut found: usize = 0;
+    for (column, field) in heading.split(',').zip(row.split(',')) {
+        let Ok(number) = field.parse::<u64>() else {
+            continue;
+        };
+        match column {
+            "sent" => sends.sent = number,
+            "wrong" | "stale" => sends.wrong = sends.wrong.saturating_add(number),
+            "soon" | "late" => sends.unsteady = sends.unsteady.saturating_add(number),
+            _ => continue,
+        }
+        found = found.saturating_add(1);
+    }
+    if found == 5 { Some(sends) } else { None }
 }
 
 /// The sends of all rows of comma-separated values.
 fn all_sends(text: &str) -> Sends {
-    let mut all = Sends {
-        sent: 0,
-        wrong: 0,
-        unsteady: 0,
-    };
+    let mut all = NO_SENDS;
     let mut lines = text.split('\n');
     let heading = lines.next().unwrap_or("");
     for row in lines {
@@ -78,10 +74,9 @@ pub fn tell_clocks(heard: &str, judged: &Sheet, hint: &HintText) {
     };
     let text = str::from_utf8(&bytes).unwrap_or("");
     if look_shifted(all_sends(text)) {
-        hint.begin(
-            ": most words are wrong or stale, and hardly any is soon or late: perhaps this log and ",
+        hint.line_one(
+            "most words are wrong or stale, and hardly any is soon or late: perhaps this log and {?} are not on one clock; then shift the times of one of them",
+            heard,
         );
-        hint.say_quoted("", heard);
-        hint.end(" are not on one clock; then shift the times of one of them");
     }
 }

@@ -2,12 +2,9 @@
 
 use crate::hint::HintText;
 use a429_console::files::reading::printable_name;
-use a429_equipment::{Equipment, GroupRow, ReceiverRow, SourceRow};
+use a429_equipment::{Equipment, GroupRow, Name, ReceiverRow, SourceRow};
 use a429_filter::FilterSet;
 use a429_word::Sdi;
-
-/// The end of a hint that has a value of each table.
-const IN_FIRST: &str = " in the first table";
 
 /// Says what differs first between a further table and the first table, with both values.
 pub fn tell_difference(table: &str, running: &Equipment, other: &Equipment, hint: &HintText) {
@@ -31,36 +28,31 @@ fn tell_count(what: &str, running: usize, other: usize, hint: &HintText) -> bool
     if running == other {
         return false;
     }
-    hint.say_count("", other);
-    hint.say_text(" ", what);
-    hint.say_count(" in the new table, and ", running);
-    hint.end(IN_FIRST);
+    hint.say_two("{} {}", other, what);
+    hint.end_one(" in the new table, and {} in the first table", running);
     true
 }
 
 /// Says both names of a row if they differ, and answers whether they do.
-fn tell_name(kind: &str, place: usize, own: &str, found: &str, hint: &HintText) -> bool {
+fn tell_name(kind: &str, place: usize, own: Name, found: Name, hint: &HintText) -> bool {
+    let (own, found) = (own.as_str(), found.as_str());
     if own == found {
         return false;
     }
-    hint.say(kind);
-    hint.say_count(" ", place);
-    hint.say_quoted(" is ", found);
-    hint.say_quoted(" in the new table, and ", own);
-    hint.end(IN_FIRST);
+    hint.say_two("{} {}", kind, place);
+    hint.end_two(
+        " is {?} in the new table, and {?} in the first table",
+        found,
+        own,
+    );
     true
 }
 
 /// Says which receiver differs first, in its name or its filters, and answers whether one does.
 fn tell_receivers(running: &[ReceiverRow], other: &[ReceiverRow], hint: &HintText) -> bool {
     for (place, (own, found)) in running.iter().zip(other).enumerate() {
-        if tell_name(
-            "receiver",
-            place,
-            own.name.as_str(),
-            found.name.as_str(),
-            hint,
-        ) || tell_filters(own, found, hint)
+        if tell_name("receiver", place, own.name, found.name, hint)
+            || tell_filters(own, found, hint)
         {
             return true;
         }
@@ -78,16 +70,16 @@ fn tell_filters(own: &ReceiverRow, found: &ReceiverRow, hint: &HintText) -> bool
     if are_same {
         return false;
     }
-    hint.say_text("receiver ", own.name.as_str());
-    say_filters(" has ", &found.filters, hint);
-    say_filters(" in the new table, and ", &own.filters, hint);
-    hint.end(IN_FIRST);
+    hint.say_one("receiver {} has ", own.name.as_str());
+    say_filters(&found.filters, hint);
+    hint.say(" in the new table, and ");
+    say_filters(&own.filters, hint);
+    hint.end(" in the first table");
     true
 }
 
-/// Says words, and the filters of a receiver as a table writes them.
-fn say_filters(words: &str, filters: &FilterSet, hint: &HintText) {
-    hint.say(words);
+/// Says the filters of a receiver as a table writes them.
+fn say_filters(filters: &FilterSet, hint: &HintText) {
     let Some(filters) = filters.list() else {
         return hint.say("no key `filters`");
     };
@@ -121,33 +113,25 @@ fn tell_source(
     found: &SourceRow,
     hint: &HintText,
 ) -> bool {
-    if tell_name(
-        "source",
-        place,
-        own.name.as_str(),
-        found.name.as_str(),
-        hint,
-    ) {
+    if tell_name("source", place, own.name, found.name, hint) {
         return true;
     }
     if own.receiver == found.receiver && own.label == found.label && own.sdi == found.sdi {
         return false;
     }
-    hint.say_text("source ", own.name.as_str());
+    hint.say_one("source {} has ", own.name.as_str());
     if own.receiver != found.receiver {
-        hint.say_text(" has receiver ", receiver_name(receivers, found.receiver));
-        hint.say_text(
-            " in the new table, and ",
-            receiver_name(receivers, own.receiver),
-        );
+        let found = receiver_name(receivers, found.receiver);
+        let own = receiver_name(receivers, own.receiver);
+        hint.say_two("receiver {} in the new table, and {}", found, own);
     } else if own.label != found.label {
-        hint.say_value(" has label ", found.label);
+        hint.say_value("label ", found.label);
         hint.say_value(" in the new table, and ", own.label);
     } else {
-        say_sdi(" has sdi ", found.sdi, hint);
+        say_sdi("sdi ", found.sdi, hint);
         say_sdi(" in the new table, and ", own.sdi, hint);
     }
-    hint.end(IN_FIRST);
+    hint.end(" in the first table");
     true
 }
 
@@ -155,7 +139,7 @@ fn tell_source(
 fn say_sdi(words: &str, sdi: Option<Sdi>, hint: &HintText) {
     match sdi {
         Some(sdi) => hint.say_value(words, sdi),
-        None => hint.say_text(words, "any"),
+        None => hint.say_value(words, "any"),
     }
 }
 
@@ -170,9 +154,7 @@ fn receiver_name<'a>(receivers: &'a [ReceiverRow], number: usize) -> &'a str {
 /// Says which group differs first, in its name or its bit rate, and answers whether one does.
 fn tell_groups(running: &[GroupRow], other: &[GroupRow], hint: &HintText) -> bool {
     for (place, (own, found)) in running.iter().zip(other).enumerate() {
-        if tell_name("group", place, own.name.as_str(), found.name.as_str(), hint)
-            || tell_rate(own, found, hint)
-        {
+        if tell_name("group", place, own.name, found.name, hint) || tell_rate(own, found, hint) {
             return true;
         }
     }
@@ -184,9 +166,11 @@ fn tell_rate(own: &GroupRow, found: &GroupRow, hint: &HintText) -> bool {
     if own.rate == found.rate {
         return false;
     }
-    hint.say_text("group ", own.name.as_str());
-    hint.say_number(" has rate ", u64::from(found.rate));
-    hint.say_number(" in the new table, and ", u64::from(own.rate));
-    hint.end(IN_FIRST);
+    hint.say_one("group {}", own.name.as_str());
+    hint.end_two(
+        " has rate {} in the new table, and {} in the first table",
+        found.rate,
+        own.rate,
+    );
     true
 }

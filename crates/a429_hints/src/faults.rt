@@ -45,10 +45,9 @@ fn tell_places(root: &Value, kind: FaultKind, hint: &HintText) {
 }
 
 /// Begins a line about a row of a table.
-fn begin_row(row: &TableRow, words: &str, hint: &HintText) {
+fn begin_row(row: &TableRow, hint: &HintText) {
     hint.begin(": ");
-    say_row("", row, hint);
-    hint.say(words);
+    say_row(row, hint);
 }
 
 fn tell_row(kind: FaultKind, row: &TableRow, hint: &HintText) {
@@ -56,12 +55,8 @@ fn tell_row(kind: FaultKind, row: &TableRow, hint: &HintText) {
         FaultKind::UnknownKey => tell_unknown_keys(row, hint),
         FaultKind::UnknownName => tell_unknown_name(row, hint),
         FaultKind::DuplicateName => tell_twin(kind, "have the same name", row, hint),
-        FaultKind::DuplicateSource => {
-            tell_twin(kind, SAME_SOURCE, row, hint);
-        }
-        FaultKind::DuplicateOutput => {
-            tell_twin(kind, "send the same label and SDI", row, hint);
-        }
+        FaultKind::DuplicateSource => tell_twin(kind, SAME_SOURCE, row, hint),
+        FaultKind::DuplicateOutput => tell_twin(kind, "send the same label and SDI", row, hint),
         FaultKind::Interval => tell_interval(row, hint),
         _ => tell_values(kind, row, hint),
     }
@@ -70,17 +65,18 @@ fn tell_row(kind: FaultKind, row: &TableRow, hint: &HintText) {
 /// Says with which earlier row a row clashes, and in what.
 fn tell_twin(kind: FaultKind, what: &str, row: &TableRow, hint: &HintText) {
     if let Some(twin) = twin_of(row, kind) {
-        begin_row(row, " and ", hint);
-        say_row("", &twin, hint);
-        hint.end_text(" ", what);
+        begin_row(row, hint);
+        hint.say(" and ");
+        say_row(&twin, hint);
+        hint.end_one(" {}", what);
     }
 }
 
 /// Says what is wrong with each value of a row that has a fault of its own.
 fn tell_values(kind: FaultKind, row: &TableRow, hint: &HintText) {
     if !row.value.is_table() {
-        begin_row(row, " is ", hint);
-        say_found("", Some(row.value), hint);
+        begin_row(row, hint);
+        say_found(" is ", Some(row.value), hint);
         return hint.end("; it must be a table");
     }
     for column in columns_of(version_of(row.root), row.place) {
@@ -97,8 +93,8 @@ fn tell_values(kind: FaultKind, row: &TableRow, hint: &HintText) {
 
 /// Says what is at a key, and what must be there.
 fn tell_value(column: &Column, row: &TableRow, found: Option<&Value>, hint: &HintText) {
-    begin_row(row, ": `", hint);
-    hint.say(column.key);
+    begin_row(row, hint);
+    hint.say_one(": `{}", column.key);
     match (found, column.shape) {
         // the table may write it with other digits
         (Some(Value::Integer(_)), Shape::Text) => hint.say("` is an integer"),
@@ -106,10 +102,9 @@ fn tell_value(column: &Column, row: &TableRow, found: Option<&Value>, hint: &Hin
     }
     match kilobits(found) {
         Some(rate) if column.key == "rate" => {
-            hint.say_number("; the unit is bit/s: write ", u64::from(rate));
-            hint.end("");
+            hint.end_one("; the unit is bit/s: write {}", rate);
         }
-        _ => hint.end_text("; it must be ", form(column)),
+        _ => hint.end_one("; it must be {}", form(column)),
     }
 }
 
@@ -123,20 +118,26 @@ fn tell_interval(row: &TableRow, hint: &HintText) {
     };
     let (min_us, max_us) = (*min_us, *max_us);
     if min_us < 1 {
-        begin_row(row, ": `min_us` is ", hint);
-        hint.say_value("", min_us);
-        hint.end("; it must be an integer from 1 to max_us (microseconds)");
+        begin_row(row, hint);
+        hint.end_one(
+            ": `min_us` is {}; it must be an integer from 1 to max_us (microseconds)",
+            min_us,
+        );
     }
     if max_us > 30000000 {
-        begin_row(row, ": `max_us` is ", hint);
-        hint.say_value("", max_us);
-        hint.end("; it must be an integer from min_us to 30000000 (microseconds)");
+        begin_row(row, hint);
+        hint.end_one(
+            ": `max_us` is {}; it must be an integer from min_us to 30000000 (microseconds)",
+            max_us,
+        );
     }
     if min_us > max_us {
-        begin_row(row, ": `min_us` is ", hint);
-        hint.say_value("", min_us);
-        hint.say_value(" and `max_us` is ", max_us);
-        hint.end("; `min_us` must not be greater than `max_us`");
+        begin_row(row, hint);
+        hint.end_two(
+            ": `min_us` is {} and `max_us` is {}; `min_us` must not be greater than `max_us`",
+            min_us,
+            max_us,
+        );
     }
 }
 
@@ -144,9 +145,10 @@ fn tell_interval(row: &TableRow, hint: &HintText) {
 fn tell_late_version(row: &TableRow, hint: &HintText) {
     for key in ["receiver", "source", "group"] {
         if has_version_in(row.root, key) {
-            hint.begin(": `version` is after a [[");
-            hint.say(key);
-            return hint.end("]] and so belongs to it: move it to the top of the table");
+            return hint.line_one(
+                "`version` is after a [[{}]] and so belongs to it: move it to the top of the table",
+                key,
+            );
         }
     }
 }
@@ -165,8 +167,8 @@ fn has_version_in(root: &Value, key: &str) -> bool {
 fn tell_filter(kind: FaultKind, row: &TableRow, hint: &HintText) {
     for (number, filter) in rows_at(row.value, "filters").iter().enumerate() {
         if is_faulty_filter(kind, filter) {
-            begin_row(row, ": filter ", hint);
-            hint.say_count("", number.saturating_add(1));
+            begin_row(row, hint);
+            hint.say_one(": filter {}", number.saturating_add(1));
             say_found(" is ", Some(filter), hint);
             return hint.end(
                 "; it must be a text LLL/MMM, label and mask, each three octal digits from 000 to 377",
@@ -198,16 +200,17 @@ fn tell_unknown_keys(row: &TableRow, hint: &HintText) {
 }
 
 fn tell_unknown_key(version: TableVersion, row: &TableRow, key: &str, hint: &HintText) {
-    begin_row(row, ": ", hint);
-    hint.say_quoted("unknown key ", key);
-    hint.say_value("; the keys in version ", version.number());
-    hint.say(" are");
+    begin_row(row, hint);
+    hint.say_two(
+        ": unknown key {?}; the keys in version {} are",
+        key,
+        version.number(),
+    );
     for column in columns_of(version, row.place) {
-        hint.say_text(" `", column.key);
-        hint.say("`");
+        hint.say_one(" `{}`", column.key);
     }
-    match where_it_belongs(version, row.place, key) {
-        Some(place) => hint.end_text("; ", place),
+    match where_it_belongs(row.place, key) {
+        Some(place) => hint.end_one("; {}", place),
         None => say_nearest_key(version, row.place, key, hint),
     }
 }
@@ -219,29 +222,22 @@ fn say_nearest_key(version: TableVersion, place: TablePlace, key: &str, hint: &H
     for column in columns_of(version, place) {
         nearest = nearest.or(hint.alloc, column.key);
     }
-    if let Some(near) = nearest.name() {
-        hint.say_text("; the nearest is `", near);
-        hint.say("`");
-    }
+    nearest.tell("; the nearest is `{}`", hint);
     hint.end("");
 }
 
-/// The right place of a key that this row must not have. `None` if no row has the key.
-fn where_it_belongs(version: TableVersion, place: TablePlace, key: &str) -> Option<&'static str> {
-    match (key, place, version) {
-        ("output", TablePlace::Root, _) => {
-            Some("outputs belong to a group: [[group.output]] after its [[group]]")
-        }
-        ("rate", TablePlace::Root, TableVersion::Two) => {
-            Some("in version 2 each [[group]] has its own `rate`")
-        }
-        ("rate", TablePlace::Group(_), TableVersion::One) => {
-            Some("`rate` of a group needs version = 2")
-        }
-        ("hold", TablePlace::Output(_, _), TableVersion::One) => Some("`hold` needs version = 2"),
-        ("version", _, _) => Some(
+/// The right place of a key that this row must not have in the version of its table. `None` if no row has the key.
+fn where_it_belongs(place: TablePlace, key: &str) -> Option<&'static str> {
+    match place {
+        _ if key == "version" => Some(
             "`version` belongs to the top of the table, before the first [[..]]",
         ),
+        TablePlace::Root if key == "output" => Some(
+            "outputs belong to a group: [[group.output]] after its [[group]]",
+        ),
+        TablePlace::Root if key == "rate" => Some("in version 2 each [[group]] has its own `rate`"),
+        TablePlace::Group(_) if key == "rate" => Some("`rate` of a group needs version = 2"),
+        TablePlace::Output(_, _) if key == "hold" => Some("`hold` needs version = 2"),
         _ => None,
     }
 }
@@ -263,15 +259,12 @@ fn tell_unknown_name(row: &TableRow, hint: &HintText) {
     };
     let name = short_text(text_at(row.value, key));
     let name = name.as_str();
-    begin_row(row, ": no ", hint);
-    hint.say_text(key, " has the name ");
-    hint.say_quoted("", name);
+    begin_row(row, hint);
+    hint.say_two(": no {} has the name {?}", key, name);
     let mut nearest = Nearest::to(name);
     for other in rows_at(row.root, key) {
         nearest = nearest.or(hint.alloc, text_at(other, "name"));
     }
-    if let Some(near) = nearest.name() {
-        hint.say_text("; the nearest is ", near);
-    }
+    nearest.tell("; the nearest is {}", hint);
     hint.end("");
 }

@@ -5,7 +5,6 @@ use a429_import::{
     CsvLine, Heading, ImportColumn, RowNumbers, made_name, may_be_thousands, millis_in, row_numbers,
 };
 use a429_word::{Label, Sdi};
-use std::alloc::{AllocError, Global};
 
 /// The maximum length of a name.
 const NAME_LEN: usize = 16;
@@ -19,15 +18,10 @@ pub struct RowWord {
 }
 
 impl RowWord {
-    /// Whether both have the same label and SDI.
-    pub fn is_same(self, other: RowWord) -> bool {
-        self.label == other.label && self.sdi == other.sdi
-    }
-
-    /// Whether both have the same label, and overlapping SDIs.
-    pub fn meets(self, other: RowWord) -> bool {
+    /// Whether both have the same label, and the same SDI. If they may overlap, overlapping SDIs suffice.
+    pub fn is_like(self, other: RowWord, may_overlap: bool) -> bool {
         self.label == other.label
-            && (self.sdi == other.sdi || self.sdi.is_none() || other.sdi.is_none())
+            && (self.sdi == other.sdi || may_overlap && (self.sdi.is_none() || other.sdi.is_none()))
     }
 }
 
@@ -114,17 +108,14 @@ impl<'a> FileRows<'a> {
         found
     }
 
-    /// Whether the row at a place is the first with its text in a column.
-    pub fn is_first(self, place: usize, column: ImportColumn) -> bool {
-        let Some(row) = self.rows.get(place) else {
-            return false;
-        };
-        let text = self.field(row, column);
-        !self
-            .rows
-            .iter()
-            .take(place)
-            .any(|earlier| self.field(earlier, column) == text)
+    /// Whether the row at a place is the first with this field in a column.
+    pub fn is_first(self, place: usize, field: &[u8], column: ImportColumn) -> bool {
+        for (number, row) in self.rows.iter().enumerate() {
+            if self.field(row, column) == field {
+                return number == place;
+            }
+        }
+        true
     }
 
     /// The first row of the name with this number. The names of a column are numbered from 0, in the order of their first
@@ -132,8 +123,9 @@ impl<'a> FileRows<'a> {
     pub fn first_row(self, column: ImportColumn, number: usize) -> Option<&'a CsvLine> {
         let mut left = number;
         for (place, row) in self.rows.iter().enumerate() {
-            let has_group = column != ImportColumn::Group || !self.field(row, column).is_empty();
-            if has_group && self.is_first(place, column) {
+            let field = self.field(row, column);
+            let has_group = column != ImportColumn::Group || !field.is_empty();
+            if has_group && self.is_first(place, field, column) {
                 if left == 0 {
                     return Some(row);
                 }
@@ -210,22 +202,31 @@ fn kilobits(text: &str) -> Option<&'static str> {
     }
 }
 
-/// Begins a line about a row, and says words.
-pub fn begin_row(row: &CsvLine, words: &str, hint: &HintText) {
-    hint.turn_to_line(row.number as usize);
-    hint.begin(words);
+/// What a row has in a column.
+#[derive(Clone, Copy)]
+pub struct FileField<'a> {
+    pub file: FileRows<'a>,
+    pub row: &'a CsvLine,
+    pub column: ImportColumn,
 }
 
-/// Begins a line about a column of a row.
-pub fn begin_column(file: FileRows, row: &CsvLine, column: ImportColumn, hint: &HintText) {
-    begin_row(row, ", column ", hint);
-    hint.say_short("", file.title(column));
-    hint.say(": ");
+impl<'a> FileField<'a> {
+    /// It as a text; the empty text if it is not UTF-8.
+    pub fn text(self) -> &'a str {
+        self.file.text(self.row, self.column)
+    }
+
+    /// Begins a line about it.
+    pub fn begin(self, hint: &HintText) {
+        hint.turn_to_line(self.row.number as usize);
+        hint.begin(", column ");
+        hint.say_one("{..}: ", self.file.title(self.column));
+    }
 }
 
 /// Says that a field is empty, and what must be in it.
 fn tell_empty(file: FileRows, column: ImportColumn, hint: &HintText) {
-    hint.say_text("the field is empty; it must be ", file.form_of(column));
+    hint.say_one("the field is empty; it must be {}", file.form_of(column));
     if is_of_output(column) {
         hint.say("; if no group sends the source, leave the group empty too");
     }
@@ -233,84 +234,70 @@ fn tell_empty(file: FileRows, column: ImportColumn, hint: &HintText) {
 }
 
 /// Says what is in a column, and what must be there.
-pub fn tell_field(
-    file: FileRows,
-    row: &CsvLine,
-    column: ImportColumn,
-    text: &str,
-    hint: &HintText,
-) {
-    let form = file.form_of(column);
-    begin_column(file, row, column, hint);
+pub fn tell_field(field: FileField, text: &str, hint: &HintText) {
+    let FileField { file, row, column } = field;
+    field.begin(hint);
     if text.is_empty() {
         return tell_empty(file, column, hint);
     }
-    hint.say_quoted("", text);
-    if file.is_in_millis(column) && may_be_thousands(row.separator, text.as_bytes()) {
-        return hint.end(
+    hint.say_one("{?}", text);
+    if !file.is_in_millis(column) {
+        tell_text(field, text, hint);
+    } else if may_be_thousands(row.separator, text.as_bytes()) {
+        hint.end(
             " may be a thousand times as much; write it without a point, or with fewer or more decimals",
         );
+    } else {
+        tell_other_form(field, text, hint);
     }
-    if is_of_output(column)
-        && !file.is_in_millis(column)
-        && text.len() > 1
-        && text.starts_with('0')
-    {
-        hint.end_text(" begins with a zero; it must be ", form);
-        return;
+}
+
+/// Says what is wrong with the text of a column that is not in milliseconds.
+fn tell_text(field: FileField, text: &str, hint: &HintText) {
+    let column = field.column;
+    if is_of_output(column) && text.len() > 1 && text.starts_with('0') {
+        return hint.end_one(" begins with a zero; it must be {}", form_in(column));
     }
     match kilobits(text) {
-        Some(rate) if column == ImportColumn::Rate => hint.end_text(
-            "; the unit is bit/s: write ",
-            rate,
-        ),
-        _ => {
-            hint.say_text(" is not ", thing_in(column));
-            hint.say_text("; it must be ", form);
-            say_remedy(file, column, text, hint);
-            hint.end("");
+        Some(rate) if column == ImportColumn::Rate => {
+            hint.end_one("; the unit is bit/s: write {}", rate);
         }
+        _ => tell_other_form(field, text, hint),
     }
 }
 
-/// Says what is in a column of an output, although the row has no group.
-pub fn tell_no_group(
-    file: FileRows,
-    row: &CsvLine,
-    column: ImportColumn,
-    text: &str,
-    hint: &HintText,
-) {
-    begin_column(file, row, column, hint);
-    hint.say_quoted("", text);
-    hint.end(
-        " in a row without a group; give the group a name, or leave the bit rate, the intervals and the hold empty",
+/// Says that a text does not have the form of its column.
+fn tell_other_form(field: FileField, text: &str, hint: &HintText) {
+    let FileField { file, column, .. } = field;
+    hint.say_two(
+        " is not {}; it must be {}",
+        thing_in(column),
+        file.form_of(column),
     );
-}
-
-/// The name of a column of intervals in milliseconds.
-fn in_millis(column: ImportColumn) -> &'static str {
-    match column {
-        ImportColumn::MinUs => "min_ms",
-        _ => "max_ms",
-    }
+    say_remedy(field, text, hint);
+    hint.end("");
 }
 
 /// Says what to write instead of a text, if it is known.
-fn say_remedy(file: FileRows, column: ImportColumn, text: &str, hint: &HintText) {
-    match column {
-        ImportColumn::MinUs | ImportColumn::MaxUs if !file.is_in_millis(column) => {
-            if let Some(us) = micros_in(text) {
-                hint.say_number("; if it is in ms, write ", u64::from(us));
-                hint.say_text(", or name the column ", in_millis(column));
-            }
-        }
-        ImportColumn::Group | ImportColumn::Source | ImportColumn::Receiver => {
-            if say_proposed_name(file, column, text, hint).is_err() {
-                hint.give_up();
-            }
-        }
-        _ => {}
+fn say_remedy(field: FileField, text: &str, hint: &HintText) {
+    if is_of_names(field.column) {
+        return match made_name(hint.alloc, text) {
+            Ok(name) => say_proposed_name(field, text, &name, hint),
+            Err(_) => hint.give_up(),
+        };
+    }
+    let other = match field.column {
+        _ if field.file.is_in_millis(field.column) => return,
+        ImportColumn::MinUs => "min_ms",
+        ImportColumn::MaxUs => "max_ms",
+        _ => return,
+    };
+    if let Some(us) = micros_in(text) {
+        hint.say_two(
+            "; if it is in ms, write {}, or name the column {}",
+            us,
+            other,
+        );
     }
 }
 
@@ -326,51 +313,42 @@ fn micros_in(text: &str) -> Option<u32> {
 
 /// Says the name that `--names` makes of a text of a column. If an earlier text of the column has that name, a number follows.
 /// Nothing is said if the text is such a name.
-fn say_proposed_name(
-    file: FileRows,
-    column: ImportColumn,
-    text: &str,
-    hint: &HintText,
-) -> Result<(), AllocError> {
-    let made = made_name(hint.alloc, text)?;
-    if made.as_slice() == text.as_bytes() {
-        return Ok(());
+fn say_proposed_name(field: FileField, text: &str, made: &[u8], hint: &HintText) {
+    if made == text.as_bytes() {
+        return;
     }
-    let name = str::from_utf8(made.as_slice()).unwrap_or("");
-    match texts_before(file, column, text, name, hint.alloc)? {
-        0 => {
-            hint.say_text("; for example ", name);
-            hint.say("; --names makes such names");
-        }
+    let name = str::from_utf8(made).unwrap_or("");
+    match texts_before(field, text, name.as_bytes(), hint) {
+        0 => hint.say_one("; for example {}; --names makes such names", name),
         before => say_numbered(name, before.saturating_add(1), hint),
     }
-    Ok(())
 }
 
 /// Whether a text becomes this name.
-pub fn becomes(alloc: Global, text: &str, name: &[u8]) -> Result<bool, AllocError> {
-    Ok(made_name(alloc, text)?.as_slice() == name)
+pub fn becomes(text: &str, name: &[u8], hint: &HintText) -> bool {
+    match made_name(hint.alloc, text) {
+        Ok(made) => made.as_slice() == name,
+        Err(_) => {
+            hint.give_up();
+            false
+        }
+    }
 }
 
 /// How many other texts of a column become a name, of those before the first row with this text.
-fn texts_before(
-    file: FileRows,
-    column: ImportColumn,
-    text: &str,
-    name: &str,
-    alloc: Global,
-) -> Result<usize, AllocError> {
+fn texts_before(field: FileField, text: &str, name: &[u8], hint: &HintText) -> usize {
+    let FileField { file, column, .. } = field;
     let mut count: usize = 0;
     for (place, row) in file.rows.iter().enumerate() {
         let earlier = file.text(row, column);
         if earlier == text {
-            break;
+            return count;
         }
-        if becomes(alloc, earlier, name.as_bytes())? && file.is_first(place, column) {
+        if becomes(earlier, name, hint) && file.is_first(place, file.field(row, column), column) {
             count = count.saturating_add(1);
         }
     }
-    Ok(count)
+    count
 }
 
 /// Says a name with a number at its end, at most 16 characters.
@@ -380,8 +358,7 @@ fn say_numbered(name: &str, number: usize, hint: &HintText) {
     } else {
         NAME_LEN - 8
     };
-    hint.say_text("; for example ", first_of(name, letters));
-    hint.say_count("-", number);
+    hint.say_two("; for example {}-{}", first_of(name, letters), number);
 }
 
 /// The first characters of a name, at most this many, without a `-` at their end.

@@ -11,9 +11,7 @@ pub const REFUSED_OUTPUT: &str =
 pub fn tell_trouble(trouble: FileTrouble, name: &str, hint: &HintText) {
     hint.turn_to(name);
     if let FileTrouble::TooLarge(most) = trouble {
-        hint.begin(": ");
-        hint.say_count("the file has more than ", most);
-        return hint.end(" bytes (the limit)");
+        return hint.line_one("the file has more than {} bytes (the limit)", most);
     }
     hint.say_line(match trouble {
         _ if name == "-" => "standard input cannot be read; it can be given for one file only",

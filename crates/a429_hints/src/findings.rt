@@ -3,36 +3,17 @@
 use crate::hint::HintText;
 use a429_text::Rows;
 
-/// The kinds of findings, in the order in which `lint` prints them, separated by spaces.
-const KINDS: &str = "unfit too-many-buses unheard unsent idle blind alike full";
-
-/// What a kind of finding means, and what to do about it.
-fn advice(kind: &str) -> &'static str {
-    match kind {
-        "unfit" => {
-            "no transmit period lies within the interval, so the table has no plan: `a429 plan` prints intervals that work"
-        }
-        "too-many-buses" => {
-            "a group can have at most 16 buses, so the table has no plan: give some of its outputs a longer max_us, or move them to another group"
-        }
-        "unheard" => {
-            "no filter of the receiver passes the source's label, so its words are never accepted: add a filter LLL/377, or remove the filters"
-        }
-        "unsent" => "no group sends the source: add an output, or remove the source",
-        "idle" => {
-            "the receiver has no source, so its words are never accepted: add a source, or remove the receiver"
-        }
-        "blind" => {
-            "the filter passes no label of the receiver's sources: correct it, or remove it"
-        }
-        "alike" => {
-            "two outputs send the same label, one of them with sdi = \"any\", so an LRU cannot always distinguish them: give both sources a number as `sdi`, or send them in two groups"
-        }
-        _ => {
-            "the group's buses have no empty cell, so one more output needs one more bus: `a429 margin` prints what would free cells"
-        }
-    }
-}
+/// The kinds of findings, in the order in which `lint` prints them, with what each means and what to do about it.
+static ADVICE: [&str; 8] = [
+    "unfit: no transmit period lies within the interval, so the table has no plan: `a429 plan` prints intervals that work",
+    "too-many-buses: a group can have at most 16 buses, so the table has no plan: give some of its outputs a longer max_us, or move them to another group",
+    "unheard: no filter of the receiver passes the source's label, so its words are never accepted: add a filter LLL/377, or remove the filters",
+    "unsent: no group sends the source: add an output, or remove the source",
+    "idle: the receiver has no source, so its words are never accepted: add a source, or remove the receiver",
+    "blind: the filter passes no label of the receiver's sources: correct it, or remove it",
+    "alike: two outputs send the same label, one of them with sdi = \"any\", so an LRU cannot always distinguish them: give both sources a number as `sdi`, or send them in two groups",
+    "full: the group's buses have no empty cell, so one more output needs one more bus: `a429 margin` prints what would free cells",
+];
 
 /// Whether a row has this kind in its first column.
 fn has_row(rows: &Rows, kind: &str) -> bool {
@@ -48,11 +29,10 @@ fn has_row(rows: &Rows, kind: &str) -> bool {
 
 /// Says what to do about each kind of finding in the rows of `lint`, one line a kind.
 pub fn tell_findings(rows: &Rows, hint: &HintText) {
-    for kind in KINDS.split(' ') {
+    for advice in &ADVICE {
+        let (kind, _) = advice.split_once(':').unwrap_or((*advice, ""));
         if has_row(rows, kind) {
-            hint.begin(": ");
-            hint.say_text(kind, ": ");
-            hint.end(advice(kind));
+            hint.say_line(*advice);
         }
     }
 }

@@ -8,8 +8,9 @@ use a429_import::{
     CsvLine, IMPORT_COLUMNS, ImportColumn, column_in, is_column, is_column_named, is_met,
 };
 use a429_text::renames::halves;
-use std::alloc::{AllocError, Global};
+use std::alloc::Global;
 use std::cmp::min;
+use std::str::Chars;
 
 /// Says which of the texts HEADING=COLUMN is not met. If all are, names each column that the heading lacks or has twice.
 pub fn tell_heading(file: FileRows, maps: &[&str], hint: &HintText) {
@@ -28,21 +29,23 @@ pub fn tell_heading(file: FileRows, maps: &[&str], hint: &HintText) {
 
 /// Says why a text HEADING=COLUMN is not met.
 fn tell_map(titles: &CsvLine, text: &str, hint: &HintText) {
-    hint.begin(": --map ");
-    hint.say_quoted("", text);
+    hint.begin(": ");
+    hint.say_one("--map {?}", text);
     let column = column_in(text);
     if !is_column(column) {
-        hint.say_quoted(": there is no column ", text_of(column));
-        return hint.end(
-            "; the columns are group, rate, source, receiver, label, sdi, min_us or min_ms, max_us or max_ms, hold and filters",
+        return hint.end_one(
+            ": there is no column {?}; the columns are group, rate, source, receiver, label, sdi, min_us or min_ms, max_us or max_ms, hold and filters",
+            text_of(column),
         );
     }
     let name = match halves(text.as_bytes()) {
         Some((name, _)) => text_of(name),
         None => "",
     };
-    hint.say_quoted(": the heading has no ", name);
-    say_nearest_field(titles, name, hint);
+    hint.say_one(": the heading has no {?}", name);
+    if let Some(near) = nearest_field(hint.alloc, titles, name) {
+        hint.say_one("; the nearest is {?}", near);
+    }
     say_fields(titles, hint);
     hint.end("");
 }
@@ -53,7 +56,11 @@ fn tell_columns(file: FileRows, hint: &HintText) {
     for column in IMPORT_COLUMNS.as_slice() {
         let times = times_in(&file.heading.line, *column);
         if times > 1 {
-            tell_twice(column.name(), times, hint);
+            hint.line_two(
+                "the column {} is in the heading {} times; name it once",
+                column.name(),
+                times,
+            );
         } else if times == 0 && column.is_needed() && !tell_missing(file, column.name(), hint) {
             unlike = unlike.saturating_add(1);
         }
@@ -73,19 +80,11 @@ fn tell_unlike(file: FileRows, count: usize, hint: &HintText) {
     for column in IMPORT_COLUMNS.as_slice() {
         let is_missing = times_in(&file.heading.line, *column) == 0 && column.is_needed();
         if is_missing && nearest_field(hint.alloc, file.titles, column.name()).is_none() {
-            hint.say_text(" ", column.name());
+            hint.say_one(" {}", column.name());
         }
     }
     say_fields(file.titles, hint);
     hint.end("");
-}
-
-/// Says how many times the heading has a column.
-fn tell_twice(name: &str, times: usize, hint: &HintText) {
-    hint.begin(": the column ");
-    hint.say(name);
-    hint.say_count(" is in the heading ", times);
-    hint.end(" times; name it once");
 }
 
 /// Says that the heading lacks a column, and which field is like it. The answer is whether one is.
@@ -93,12 +92,9 @@ fn tell_missing(file: FileRows, name: &str, hint: &HintText) -> bool {
     let Some(near) = nearest_field(hint.alloc, file.titles, name) else {
         return false;
     };
-    hint.begin(": the column ");
-    hint.say_text(name, " is missing; the nearest is ");
-    hint.say_quoted("", near);
-    hint.say_short("; rename it, or add --map \"", near);
-    hint.say_text("=", name);
-    hint.end("\"");
+    hint.begin(": ");
+    hint.say_two("the column {} is missing; the nearest is {?}", name, near);
+    hint.end_two("; rename it, or add --map \"{..}={}\"", near, name);
     true
 }
 
@@ -106,7 +102,7 @@ fn tell_missing(file: FileRows, name: &str, hint: &HintText) -> bool {
 fn say_fields(titles: &CsvLine, hint: &HintText) {
     hint.say("; the heading has");
     for place in 0..min(titles.len(), LISTED) {
-        hint.say_quoted(" ", text_of(titles.field(place)));
+        hint.say_one(" {?}", text_of(titles.field(place)));
     }
     say_more(titles.len(), hint);
 }
@@ -127,23 +123,25 @@ fn text_of(field: &[u8]) -> &str {
     str::from_utf8(field).unwrap_or("")
 }
 
-/// The letters and digits of a text, in lower case: names of one column differ in case, spaces and signs.
-fn letters(alloc: Global, text: &str) -> Result<String, AllocError> {
-    let mut letters = String::new(alloc);
-    for c in text.chars() {
+/// The next letter or digit, in lower case.
+fn next_letter(chars: &mut Chars<'_>) -> Option<char> {
+    for c in chars {
         if c.is_ascii_alphanumeric() {
-            letters.push(c.to_ascii_lowercase())?;
+            return Some(c.to_ascii_lowercase());
         }
     }
-    Ok(letters)
+    None
 }
 
-/// Whether two texts have the same letters and digits.
-fn are_alike(alloc: Global, a: &str, b: &str) -> bool {
-    match (letters(alloc, a), letters(alloc, b)) {
-        (Ok(a), Ok(b)) => a.as_str() == b.as_str(),
-        _ => false,
+/// Whether two texts have the same letters and digits: names of one column differ in case, spaces and signs.
+fn are_alike(a: &str, b: &str) -> bool {
+    let mut rest = b.chars();
+    for c in a.chars() {
+        if c.is_ascii_alphanumeric() && next_letter(&mut rest) != Some(c.to_ascii_lowercase()) {
+            return false;
+        }
     }
+    next_letter(&mut rest).is_none()
 }
 
 /// The field of a heading that is nearest to a name. Fields that name a column are left out.
@@ -154,17 +152,10 @@ fn nearest_field<'a>(alloc: Global, titles: &'a CsvLine, name: &'a str) -> Optio
         if is_column(titles.field(place)) {
             continue;
         }
-        if are_alike(alloc, text, name) {
+        if are_alike(text, name) {
             return Some(text);
         }
         nearest = nearest.or(alloc, text);
     }
     nearest.name()
-}
-
-/// Says which field of a heading is nearest to a name.
-fn say_nearest_field(titles: &CsvLine, name: &str, hint: &HintText) {
-    if let Some(near) = nearest_field(hint.alloc, titles, name) {
-        hint.say_quoted("; the nearest is ", near);
-    }
 }

@@ -1,7 +1,7 @@
 //! Hints about the table that rows of comma-separated values describe.
 
 use crate::faults::SAME_SOURCE;
-use crate::file_rows::{FileRows, begin_column, begin_row, form_in, tell_field};
+use crate::file_rows::{FileField, FileRows, form_in, tell_field};
 use crate::hint::HintText;
 use a429_equipment::{GROUPS, OUTPUTS, RECEIVERS, SOURCES};
 use a429_filter::FILTERS;
@@ -16,6 +16,7 @@ pub fn tell_imported(file: FileRows, kind: FaultKind, place: TablePlace, hint: &
     let Some(row) = row_of(file, place) else {
         return;
     };
+    hint.turn_to_line(row.number as usize);
     match kind {
         FaultKind::DuplicateSource => tell_twin_source(file, row, hint),
         FaultKind::DuplicateOutput => tell_twin_output(file, row, hint),
@@ -39,9 +40,9 @@ fn row_of<'a>(file: FileRows<'a>, place: TablePlace) -> Option<&'a CsvLine> {
 }
 
 /// Says what is wrong with the field of a row that a fault of this kind is about.
-fn tell_at_fault(
-    file: FileRows,
-    row: &CsvLine,
+fn tell_at_fault<'a>(
+    file: FileRows<'a>,
+    row: &'a CsvLine,
     kind: FaultKind,
     place: TablePlace,
     hint: &HintText,
@@ -58,12 +59,13 @@ fn tell_at_fault(
 }
 
 /// Says what is in a column of a row, and what must be there.
-fn tell_column(file: FileRows, row: &CsvLine, column: ImportColumn, hint: &HintText) {
-    tell_field(file, row, column, file.text(row, column), hint);
+fn tell_column<'a>(file: FileRows<'a>, row: &'a CsvLine, column: ImportColumn, hint: &HintText) {
+    let field = FileField { file, row, column };
+    tell_field(field, field.text(), hint);
 }
 
 /// Says which end of an interval has a fault.
-fn tell_interval(file: FileRows, row: &CsvLine, hint: &HintText) {
+fn tell_interval<'a>(file: FileRows<'a>, row: &'a CsvLine, hint: &HintText) {
     let Some((min_us, max_us)) = file.interval_of(row) else {
         return;
     };
@@ -74,60 +76,47 @@ fn tell_interval(file: FileRows, row: &CsvLine, hint: &HintText) {
         tell_column(file, row, ImportColumn::MaxUs, hint);
     }
     if min_us > max_us {
-        begin_row(row, ": the minimum interval ", hint);
-        hint.say_quoted("", file.text(row, ImportColumn::MinUs));
-        hint.say_quoted(
-            " is greater than the maximum ",
+        hint.line_two(
+            "the minimum interval {?} is greater than the maximum {?}",
+            file.text(row, ImportColumn::MinUs),
             file.text(row, ImportColumn::MaxUs),
         );
-        hint.end("");
     }
 }
 
-/// Whether the sources of two rows have the same receiver and label, and overlapping SDIs.
-fn meet(file: FileRows, a: &CsvLine, b: &CsvLine) -> bool {
+/// Whether two rows have the same field in a column, and the same label and SDI. For the receiver overlapping SDIs suffice.
+fn clash<'a>(file: FileRows<'a>, column: ImportColumn, a: &'a CsvLine, b: &'a CsvLine) -> bool {
     match (file.word_of(a), file.word_of(b)) {
         (Some(one), Some(other)) => {
-            file.field(a, ImportColumn::Receiver) == file.field(b, ImportColumn::Receiver)
-                && one.meets(other)
-        }
-        _ => false,
-    }
-}
-
-/// Whether two rows send the same label and SDI in one group.
-fn send_same(file: FileRows, a: &CsvLine, b: &CsvLine) -> bool {
-    match (file.word_of(a), file.word_of(b)) {
-        (Some(one), Some(other)) => {
-            file.field(a, ImportColumn::Group) == file.field(b, ImportColumn::Group)
-                && one.is_same(other)
+            file.field(a, column) == file.field(b, column)
+                && one.is_like(other, column == ImportColumn::Receiver)
         }
         _ => false,
     }
 }
 
 /// Says with which earlier source the source of a row clashes.
-fn tell_twin_source(file: FileRows, row: &CsvLine, hint: &HintText) {
+fn tell_twin_source<'a>(file: FileRows<'a>, row: &'a CsvLine, hint: &HintText) {
     for earlier in file.rows {
         if file.field(earlier, ImportColumn::Source) != file.field(row, ImportColumn::Source)
-            && meet(file, earlier, row)
+            && clash(file, ImportColumn::Receiver, earlier, row)
         {
-            begin_row(row, ": source ", hint);
-            hint.say_quoted("", file.text(row, ImportColumn::Source));
-            hint.say_quoted(" and source ", file.text(earlier, ImportColumn::Source));
-            hint.say_number(" of line ", earlier.number);
-            return hint.end_text(" ", SAME_SOURCE);
+            hint.begin(": source ");
+            hint.say_one("{?}", file.text(row, ImportColumn::Source));
+            hint.say_one(" and source {?}", file.text(earlier, ImportColumn::Source));
+            return hint.end_two(" of line {} {}", earlier.number, SAME_SOURCE);
         }
     }
 }
 
 /// Says which earlier row of the same group has the same label and SDI.
-fn tell_twin_output(file: FileRows, row: &CsvLine, hint: &HintText) {
+fn tell_twin_output<'a>(file: FileRows<'a>, row: &'a CsvLine, hint: &HintText) {
     for earlier in file.rows {
-        if earlier.number != row.number && send_same(file, earlier, row) {
-            begin_row(row, ": this row and line ", hint);
-            hint.say_number("", earlier.number);
-            return hint.end(" have the same group, label and SDI");
+        if earlier.number != row.number && clash(file, ImportColumn::Group, earlier, row) {
+            return hint.line_one(
+                "this row and line {} have the same group, label and SDI",
+                earlier.number,
+            );
         }
     }
 }
@@ -142,7 +131,8 @@ fn tell_too_many(file: FileRows, place: TablePlace, hint: &HintText) {
         }
         TablePlace::Receiver(_) => {
             if let Some(row) = row_of(file, place) {
-                tell_filters(file, row, hint);
+                let column = ImportColumn::Filters;
+                tell_filters(FileField { file, row, column }, hint);
             }
         }
         TablePlace::Group(number) => tell_more_outputs(file, number, hint),
@@ -153,33 +143,36 @@ fn tell_too_many(file: FileRows, place: TablePlace, hint: &HintText) {
 /// Says which row has one output too many for its group, if there is one.
 fn tell_more_outputs(file: FileRows, group: usize, hint: &HintText) {
     if let Some(row) = row_of(file, TablePlace::Output(group, OUTPUTS)) {
-        begin_row(row, ": this is output number ", hint);
-        hint.say_count("", OUTPUTS + 1);
-        hint.say_count(" of its group; a group can have at most ", OUTPUTS);
-        hint.end("");
+        hint.turn_to_line(row.number as usize);
+        hint.line_two(
+            "this is output number {} of its group; a group can have at most {}",
+            OUTPUTS + 1,
+            OUTPUTS,
+        );
     }
 }
 
 /// Says which row has one receiver, source or group too many, if there is one.
 fn tell_more(file: FileRows, column: ImportColumn, most: usize, hint: &HintText) {
     if let Some(row) = file.first_row(column, most) {
-        begin_column(file, row, column, hint);
-        hint.say_count("this is number ", most.saturating_add(1));
-        hint.say_count("; a table can have at most ", most);
-        hint.end("");
+        FileField { file, row, column }.begin(hint);
+        hint.end_two(
+            "this is number {}; a table can have at most {}",
+            most.saturating_add(1),
+            most,
+        );
     }
 }
 
 /// Says how many filters a row has, and how many it can have.
-fn tell_filters(file: FileRows, row: &CsvLine, hint: &HintText) {
+fn tell_filters(field: FileField, hint: &HintText) {
     let mut count: usize = 0;
-    for filter in file.text(row, ImportColumn::Filters).split(' ') {
+    for filter in field.text().split(' ') {
         if !filter.is_empty() {
             count = count.saturating_add(1);
         }
     }
-    begin_column(file, row, ImportColumn::Filters, hint);
-    hint.say_count("", count);
-    hint.say_count(" filters; a receiver can have at most ", FILTERS);
-    hint.end_text(", each ", form_in(ImportColumn::Filters));
+    field.begin(hint);
+    hint.say_two("{} filters; a receiver can have at most {}", count, FILTERS);
+    hint.end_one(", each {}", form_in(ImportColumn::Filters));
 }

@@ -1,9 +1,6 @@
 //! Hints about rows of comma-separated values that `import` refuses.
 
-use crate::file_rows::{
-    FileRows, becomes, begin_column, begin_row, is_of_names, is_of_output, tell_field,
-    tell_no_group,
-};
+use crate::file_rows::{FileField, FileRows, becomes, is_of_names, is_of_output, tell_field};
 use crate::files::{REFUSED_OUTPUT, other_file};
 use crate::headings::tell_heading;
 use crate::hint::HintText;
@@ -100,10 +97,12 @@ fn first_lines(bytes: &[u8]) -> &[u8] {
     let Some(first) = bytes.get(..LARGEST_READ) else {
         return bytes;
     };
-    match first.iter().rposition(|byte| *byte == b'\n') {
-        Some(end) => first.get(..end).unwrap_or(first),
-        None => first,
+    for end in (0..first.len()).rev() {
+        if first[end] == b'\n' {
+            return &first[..end];
+        }
     }
+    first
 }
 
 /// What kind of file begins with these bytes, if it is none with rows.
@@ -141,12 +140,12 @@ fn tell_faulty_rows(
     };
     match (column_of(evidence), kind) {
         (None, _) if has_open_quote(&evidence.bytes, line) => {
-            begin_row(row, ": ", hint);
-            return hint.end("the row has a quote that is not closed");
+            hint.turn_to_line(line as usize);
+            return hint.say_line("the row has a quote that is not closed");
         }
         (None, _) => tell_count(file, row, hint),
-        (Some(column), CsvKind::Differs) => tell_differs(file, row, column, hint),
-        (Some(column), _) => tell_form(file, row, column, hint),
+        (Some(column), CsvKind::Differs) => tell_differs(FileField { file, row, column }, hint),
+        (Some(column), _) => tell_form(FileField { file, row, column }, hint),
     }
     tell_later_rows(file, line, hint);
 }
@@ -166,25 +165,31 @@ fn tell_later_rows(file: FileRows, line: u64, hint: &HintText) {
         }
     }
     if faulty > FAULTY_ROWS {
-        hint.say_count("a429: rows with such a fault: ", faulty);
-        hint.end("");
+        hint.end_one("a429: rows with such a fault: {}", faulty);
     }
 }
 
 /// Says what is wrong with a row by itself: the column that does not have its form, or the number of its fields.
-fn tell_fault(file: FileRows, row: &CsvLine, column: Option<ImportColumn>, hint: &HintText) {
+fn tell_fault<'a>(
+    file: FileRows<'a>,
+    row: &'a CsvLine,
+    column: Option<ImportColumn>,
+    hint: &HintText,
+) {
     match column {
-        Some(column) => tell_form(file, row, column, hint),
+        Some(column) => tell_form(FileField { file, row, column }, hint),
         None => tell_count(file, row, hint),
     }
 }
 
 /// Says how many fields a row has, and how many the heading has.
 fn tell_count(file: FileRows, row: &CsvLine, hint: &HintText) {
-    begin_row(row, ": the row has ", hint);
-    hint.say_count("", row.len());
-    hint.say_count(" fields, but the heading has ", file.titles.len());
-    hint.end("");
+    hint.turn_to_line(row.number as usize);
+    hint.line_two(
+        "the row has {} fields, but the heading has {}",
+        row.len(),
+        file.titles.len(),
+    );
 }
 
 /// Whether the number of quotes from a line to the end of a text is odd.
@@ -201,20 +206,25 @@ fn has_open_quote(bytes: &[u8], line: u64) -> bool {
 }
 
 /// Says what is wrong with a field that does not have the form of its column.
-fn tell_form(file: FileRows, row: &CsvLine, column: ImportColumn, hint: &HintText) {
+fn tell_form(field: FileField, hint: &HintText) {
+    let FileField { file, row, column } = field;
     let Ok(text) = str::from_utf8(file.field(row, column)) else {
-        begin_column(file, row, column, hint);
+        field.begin(hint);
         return hint.end("the field is not UTF-8: save the file as UTF-8");
     };
     if is_of_output(column) && file.field(row, ImportColumn::Group).is_empty() {
-        return tell_no_group(file, row, column, text, hint);
+        field.begin(hint);
+        return hint.end_one(
+            "{?} in a row without a group; give the group a name, or leave the bit rate, the intervals and the hold empty",
+            text,
+        );
     }
     if column != ImportColumn::Filters {
-        return tell_field(file, row, column, text, hint);
+        return tell_field(field, text, hint);
     }
     for part in text.split(' ') {
         if !part.is_empty() && Filter::parse(part).is_err() {
-            return tell_field(file, row, column, part, hint);
+            return tell_field(field, part, hint);
         }
     }
 }
@@ -229,65 +239,55 @@ fn owner_of(column: ImportColumn) -> ImportColumn {
 }
 
 /// Says why a row differs from an earlier one: their texts become one name, or it contradicts that row.
-fn tell_differs(file: FileRows, row: &CsvLine, column: ImportColumn, hint: &HintText) {
-    if !(file.makes_names && is_of_names(column) && tell_twin_text(file, row, column, hint)) {
-        tell_difference(file, row, column, hint);
+fn tell_differs(field: FileField, hint: &HintText) {
+    if !(field.file.makes_names && is_of_names(field.column) && tell_twin_text(field, hint)) {
+        tell_difference(field, hint);
     }
 }
 
 /// Says which earlier text of a column becomes the same name as that of a row. The answer is whether there is one.
-fn tell_twin_text(file: FileRows, row: &CsvLine, column: ImportColumn, hint: &HintText) -> bool {
-    let text = file.text(row, column);
+fn tell_twin_text(field: FileField, hint: &HintText) -> bool {
+    let text = field.text();
     let Ok(name) = made_name(hint.alloc, text) else {
         hint.give_up();
         return true;
     };
-    let Some(earlier) = first_of_name(file, column, name.as_slice(), hint) else {
+    let Some(earlier) = first_of_name(field, &name, hint) else {
         return false;
     };
-    let other = file.text(earlier, column);
+    let other = field.file.text(earlier, field.column);
     if other == text {
         return false;
     }
-    begin_column(file, row, column, hint);
-    hint.say_quoted("", text);
-    hint.say_text(" becomes ", str::from_utf8(name.as_slice()).unwrap_or(""));
-    hint.say_quoted(", and so does ", other);
-    hint.say_number(" on line ", earlier.number);
-    hint.end("; change one of them");
+    field.begin(hint);
+    let name = str::from_utf8(name.as_slice()).unwrap_or("");
+    hint.say_two("{?} becomes {}, and so does ", text, name);
+    hint.end_two("{?} on line {}; change one of them", other, earlier.number);
     true
 }
 
 /// The first row whose text in a column becomes this name.
-fn first_of_name<'a>(
-    file: FileRows<'a>,
-    column: ImportColumn,
-    name: &[u8],
-    hint: &HintText,
-) -> Option<&'a CsvLine> {
-    for row in file.rows {
-        match becomes(hint.alloc, file.text(row, column), name) {
-            Ok(true) => return Some(row),
-            Ok(false) => {}
-            Err(_) => hint.give_up(),
+fn first_of_name<'a>(field: FileField<'a>, name: &[u8], hint: &HintText) -> Option<&'a CsvLine> {
+    for row in field.file.rows {
+        if becomes(field.file.text(row, field.column), name, hint) {
+            return Some(row);
         }
     }
     None
 }
 
 /// Says in what a row contradicts an earlier one.
-fn tell_difference(file: FileRows, row: &CsvLine, column: ImportColumn, hint: &HintText) {
+fn tell_difference(field: FileField, hint: &HintText) {
+    let FileField { file, row, column } = field;
     let owner = owner_of(column);
     let name = file.field(row, owner);
     for earlier in file.rows {
         if file.field(earlier, owner) == name {
-            begin_column(file, row, column, hint);
-            hint.say(owner.name());
-            hint.say_quoted(" ", file.text(row, owner));
-            hint.say_quoted(" has ", file.text(row, column));
-            hint.say_quoted(" on this line, but ", file.text(earlier, column));
-            hint.say_number(" on line ", earlier.number);
-            return hint.end("");
+            field.begin(hint);
+            hint.say_two("{} {?} has ", owner.name(), file.text(row, owner));
+            let other = file.text(earlier, column);
+            hint.say_two("{?} on this line, but {?}", field.text(), other);
+            return hint.end_one(" on line {}", earlier.number);
         }
     }
 }
@@ -307,10 +307,14 @@ fn heading_for<'a>(maps: &[&'a str], column: ImportColumn) -> &'a str {
 
 /// Says that the intervals of a group may be milliseconds, and which columns are in milliseconds.
 pub fn tell_short_intervals(group: &str, maps: &[&str], hint: &HintText) {
-    hint.begin(": the intervals of group ");
-    hint.say_text(group, " are all below 1000 us, and none allows a period");
-    hint.say("; if they are in ms, name the columns min_ms and max_ms, or give --map \"");
-    hint.say_short("", heading_for(maps, ImportColumn::MinUs));
-    hint.say_short("=min_ms\" --map \"", heading_for(maps, ImportColumn::MaxUs));
-    hint.end("=max_ms\"");
+    hint.begin(": ");
+    hint.say_one(
+        "the intervals of group {} are all below 1000 us, and none allows a period; if they are in ms, name the columns min_ms and max_ms, or give",
+        group,
+    );
+    hint.end_two(
+        " --map \"{..}=min_ms\" --map \"{..}=max_ms\"",
+        heading_for(maps, ImportColumn::MinUs),
+        heading_for(maps, ImportColumn::MaxUs),
+    );
 }

@@ -1,28 +1,39 @@
 //! What must be at each key of a table, as a text.
 
+use crate::lists::text_under;
 use a429_equipment::{GROUPS, OUTPUTS, RECEIVERS, SOURCES};
 use a429_filter::FILTERS;
 use a429_table::{Column, FaultKind, Shape};
 use toml::Value;
 
+/// The keys of arrays of tables, and what must be at each.
+static ARRAYS: [&str; 4] = [
+    "receiver: an array of at most 16 tables, [[receiver]]",
+    "source: an array of at most 256 tables, [[source]]",
+    "group: an array of at most 8 tables, [[group]]",
+    "output: an array of 1 to 128 tables, [[group.output]]",
+];
+
+/// The other keys, and what must be at each.
+static VALUES: [&str; 11] = [
+    "version: an integer, 1 or 2",
+    "rate: an integer, 100000 or 12000 to 14500 (bit/s)",
+    "name: a text of 1 to 16 characters of `a` to `z`, `0` to `9`, `-` and `_`",
+    "filters: an array of at most 32 texts LLL/MMM, such as [\"200/370\"]",
+    "receiver: a text, the name of a receiver",
+    "label: a text of three octal digits from 000 to 377, such as \"203\"",
+    "sdi: an integer from 0 to 3, or the text \"any\"",
+    "source: a text, the name of a source",
+    "min_us: an integer from 1 to max_us (microseconds)",
+    "max_us: an integer from min_us to 30000000 (microseconds)",
+    "hold: an integer from 1 to 1000000",
+];
+
 /// What must be at a key.
 pub fn form(column: &Column) -> &'static str {
-    match (column.key, column.shape) {
-        ("version", _) => "an integer, 1 or 2",
-        ("rate", _) => "an integer, 100000 or 12000 to 14500 (bit/s)",
-        ("receiver", Shape::Tables) => "an array of at most 16 tables, [[receiver]]",
-        ("source", Shape::Tables) => "an array of at most 256 tables, [[source]]",
-        ("group", _) => "an array of at most 8 tables, [[group]]",
-        ("name", _) => "a text of 1 to 16 characters of `a` to `z`, `0` to `9`, `-` and `_`",
-        ("filters", _) => "an array of at most 32 texts LLL/MMM, such as [\"200/370\"]",
-        ("receiver", _) => "a text, the name of a receiver",
-        ("label", _) => "a text of three octal digits from 000 to 377, such as \"203\"",
-        ("sdi", _) => "an integer from 0 to 3, or the text \"any\"",
-        ("output", _) => "an array of 1 to 128 tables, [[group.output]]",
-        ("source", _) => "a text, the name of a source",
-        ("min_us", _) => "an integer from 1 to max_us (microseconds)",
-        ("max_us", _) => "an integer from min_us to 30000000 (microseconds)",
-        _ => "an integer from 1 to 1000000",
+    match column.shape {
+        Shape::Tables => text_under(&ARRAYS, column.key),
+        _ => text_under(&VALUES, column.key),
     }
 }
 
@@ -33,23 +44,22 @@ pub fn is_faulty(column: &Column, kind: FaultKind, found: Option<&Value>) -> boo
         (FaultKind::WrongKind, Some(value)) => !takes(column.shape, value),
         (FaultKind::TooMany, Some(Value::Array(rows))) => rows.len() > most(column.key),
         (FaultKind::Hold, None) => false,
-        _ => is_about(kind, column.key),
+        _ => column.key == key_of(kind),
     }
 }
 
-/// Whether a fault of this kind is about this key.
-fn is_about(kind: FaultKind, key: &str) -> bool {
-    matches!(
-        (kind, key),
-        (FaultKind::Version, "version")
-            | (FaultKind::Rate, "rate")
-            | (FaultKind::Name, "name")
-            | (FaultKind::Label, "label")
-            | (FaultKind::Sdi, "sdi")
-            | (FaultKind::Interval, "min_us" | "max_us")
-            | (FaultKind::EmptyGroup, "output")
-            | (FaultKind::Hold, "hold")
-    )
+/// The key that a fault of this kind is about; empty if it may be any, or two.
+fn key_of(kind: FaultKind) -> &'static str {
+    match kind {
+        FaultKind::Version => "version",
+        FaultKind::Rate => "rate",
+        FaultKind::Name => "name",
+        FaultKind::Label => "label",
+        FaultKind::Sdi => "sdi",
+        FaultKind::EmptyGroup => "output",
+        FaultKind::Hold => "hold",
+        _ => "",
+    }
 }
 
 /// Whether a value has the kind that must be at a key.

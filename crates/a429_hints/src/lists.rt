@@ -27,41 +27,42 @@ pub fn tell_names(kind: &str, name: &str, names: &[String], hint: &HintText) {
 /// The same, and the line goes on.
 pub fn begin_names(kind: &str, name: &str, names: &[String], hint: &HintText) {
     hint.begin(": no ");
-    hint.say_text(kind, " has the name ");
-    hint.say_quoted("", name);
-    say_nearest(name, names, hint);
+    hint.say_two("{} has the name {?}", kind, name);
+    let shown = short_text(name);
+    nearest_of(hint.alloc, shown.as_str(), names).tell("; the nearest is {}", hint);
     if names.is_empty() {
         return hint.say("; the table has none");
     }
-    hint.say_text("; the ", kind);
-    hint.say("s are");
+    hint.say_one("; the {}s are", kind);
     for known in names.iter().take(LISTED) {
-        hint.say_text(" ", known.as_str());
+        hint.say_one(" {}", known.as_str());
     }
     say_more(names.len(), hint);
 }
 
-/// Which of these names is the nearest to a text. `None` if none is near.
-pub fn nearest_of<'a>(alloc: Global, text: &'a str, names: &'a [String]) -> Option<&'a str> {
+/// Which of these names is the nearest to a text.
+pub fn nearest_of<'a>(alloc: Global, text: &'a str, names: &'a [String]) -> Nearest<'a> {
     let mut nearest = Nearest::to(text);
     for known in names {
         nearest = nearest.or(alloc, known.as_str());
     }
-    nearest.name()
-}
-
-/// Says which of these names is the nearest to a name.
-fn say_nearest(name: &str, names: &[String], hint: &HintText) {
-    let shown = short_text(name);
-    if let Some(near) = nearest_of(hint.alloc, shown.as_str(), names) {
-        hint.say_text("; the nearest is ", near);
-    }
+    nearest
 }
 
 /// Says how many names are not listed, if there are any.
 pub fn say_more(count: usize, hint: &HintText) {
     if count > LISTED {
-        hint.say_count(" and ", count - LISTED);
-        hint.say(" more");
+        hint.say_one(" and {} more", count - LISTED);
     }
+}
+
+/// The text under a name in rows `NAME: TEXT`; empty if there is none.
+pub fn text_under(rows: &[&'static str], name: &str) -> &'static str {
+    for row in rows {
+        match row.split_once(": ") {
+            Some((key, text)) if key == name => return text,
+            _ => {}
+        }
+    }
+    ""
 }

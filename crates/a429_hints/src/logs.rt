@@ -4,18 +4,12 @@ use crate::files::other_file;
 use crate::hint::HintText;
 use crate::lists::{begin_names, has_name, nearest_of};
 use crate::rows::short_text;
-use crate::scripts::{NOT_UTF8, is_script_word};
+use crate::scripts::{NOT_UTF8, is_script_word, tell_no_word};
 use a429_console::refusals::evidence::{LineEvidence, LogEvidence, LogRefusal};
 use a429_logs::{
-    Column, Fields, HeadingFault, LineFault, Mark, Places, RowFault, Shape, TimeUnit, WordPlaces,
+    Column, Fields, HeadingFault, LineFault, Mark, Places, RowFault, TimeUnit, WordPlaces,
 };
 use a429_text::renames::renamed;
-
-/// The form of a log's lines without a heading.
-const FORM: &str = "TIME RECEIVER HEX";
-
-/// The maximum number of digits of a time in microseconds.
-const TIME_DIGITS: usize = 18;
 
 /// The maximum number of bytes of a name that a hint shows as part of an argument.
 const ARGUMENT: usize = 48;
@@ -26,11 +20,20 @@ struct ReadLine<'a> {
     text: &'a str,
     mark: Mark,
     unit: TimeUnit,
-    /// The columns; `None` for the first line that states something.
-    places: Option<Places>,
+    places: Places,
+    /// Whether it is the first line that states something.
+    is_first: bool,
     /// As which names channels are taken.
     channels: &'a [&'a str],
 }
+
+/// The places of the fields in a log without a heading.
+const PLAIN: Places = Places {
+    count: 3,
+    time: 0,
+    name: 1,
+    word: WordPlaces::Whole(2),
+};
 
 /// Says what is wrong with a line of a log whose channels are taken as names.
 pub fn tell_log_line<'a>(
@@ -45,33 +48,32 @@ pub fn tell_log_line<'a>(
     let Ok(text) = str::from_utf8(&line.bytes) else {
         return hint.say_line(NOT_UTF8);
     };
+    let (mark, places) = match log.shape {
+        Some(shape) => (shape.mark, shape.places),
+        None => (Mark::in_line(text.as_bytes()), PLAIN),
+    };
     let read = ReadLine {
         text,
-        mark: match log.shape {
-            Some(shape) => shape.mark,
-            None => Mark::in_line(text.as_bytes()),
-        },
+        mark,
         unit: log.unit,
-        places: places_of(log.shape),
+        places,
+        is_first: log.shape.is_none(),
         channels,
     };
-    if tell_first_field(line, &read, hint) {
-        return;
+    if !tell_first_field(line, &read, hint) {
+        tell_why(line, &read, log.why, hint);
     }
-    match log.why {
+}
+
+/// Says why a line of a log is refused.
+fn tell_why(line: &LineEvidence, read: &ReadLine<'_>, why: LogRefusal, hint: &HintText) {
+    match why {
         LogRefusal::Line(LineFault::Heading(fault)) => tell_heading(fault, hint),
-        LogRefusal::Line(LineFault::Row(fault)) => tell_row(line, &read, fault, hint),
+        LogRefusal::Line(LineFault::Row(fault)) => tell_row(line, read, fault, hint),
         LogRefusal::Receiver => {
-            tell_unknown(
-                "receiver",
-                name_in(&read),
-                None,
-                &read,
-                &line.receivers,
-                hint,
-            );
+            tell_unknown("receiver", name_in(read), None, read, &line.receivers, hint);
         }
-        LogRefusal::Group => tell_group(line, &read, hint),
+        LogRefusal::Group => tell_group(line, read, hint),
         LogRefusal::Name => hint.say_line(NOT_UTF8),
         LogRefusal::Late => hint.say_line(
             "the time is 100000000000000 us or more; to count times from the first word, give --from first",
@@ -81,7 +83,12 @@ pub fn tell_log_line<'a>(
 
 /// The field of a line in a place.
 fn field<'a>(read: &ReadLine<'a>, place: usize) -> &'a str {
-    let mut fields = Fields::of(read.mark, read.text.as_bytes());
+    field_of(read.text, read.mark, place)
+}
+
+/// The field of a text with this mark in a place.
+fn field_of(text: &str, mark: Mark, place: usize) -> &str {
+    let mut fields = Fields::of(mark, text.as_bytes());
     for passed in 0..place {
         if fields.next().is_none() {
             return "";
@@ -103,31 +110,10 @@ fn count(read: &ReadLine<'_>) -> usize {
     count
 }
 
-/// The places of the fields of a log's rows.
-fn places_of(shape: Option<Shape>) -> Option<Places> {
-    Some(shape?.places)
-}
-
-fn time_in<'a>(read: &ReadLine<'a>) -> &'a str {
-    let place = match read.places {
-        Some(places) => places.time,
-        None => 0,
-    };
-    field(read, place)
-}
-
-/// The name that a line has.
-fn channel_in<'a>(read: &ReadLine<'a>) -> &'a str {
-    let place = match read.places {
-        Some(places) => places.name,
-        None => 1,
-    };
-    field(read, place)
-}
-
-/// The name as which it is taken.
+/// The name as which that of a line is taken.
 fn name_in<'a>(read: &ReadLine<'a>) -> &'a str {
-    str::from_utf8(renamed(read.channels, channel_in(read).as_bytes())).unwrap_or("")
+    let channel = field(read, read.places.name);
+    str::from_utf8(renamed(read.channels, channel.as_bytes())).unwrap_or("")
 }
 
 /// Says that no receiver or group has the name of a word, and how to take the channel of the line as one. A group may have
@@ -141,10 +127,9 @@ fn tell_unknown(
     hint: &HintText,
 ) {
     begin_names(kind, name, names, hint);
-    let channel = channel_in(read);
+    let channel = field(read, read.places.name);
     if channel != name_in(read) {
-        hint.say_quoted("; --channel takes ", channel);
-        hint.say(" as this name");
+        hint.say_one("; --channel takes {?} as this name", channel);
     } else if !names.is_empty() && !channel.is_empty() {
         hint.say("; to take it as one, give --channel ");
         say_channel(channel, name, bus, names, hint);
@@ -155,11 +140,11 @@ fn tell_unknown(
 /// Says the name that a channel may have: the nearest of these, or the only one.
 fn say_likely(name: &str, names: &[String], hint: &HintText) {
     let shown = short_text(name);
-    if let Some(near) = nearest_of(hint.alloc, shown.as_str(), names) {
-        return hint.say_text("=", near);
+    if let Some(near) = nearest_of(hint.alloc, shown.as_str(), names).name() {
+        return hint.say_one("={}", near);
     }
     match names.first() {
-        Some(only) if names.len() == 1 => hint.say_text("=", only.as_str()),
+        Some(only) if names.len() == 1 => hint.say_one("={}", only.as_str()),
         _ => hint.say("=NAME"),
     }
 }
@@ -169,10 +154,10 @@ fn say_channel(channel: &str, name: &str, bus: Option<&str>, names: &[String], h
     let Some(quote) = quotes_of(channel) else {
         return hint.say("FROM=NAME");
     };
-    hint.say_text(quote, channel);
+    hint.say_two("{}{}", quote, channel);
     say_likely(name, names, hint);
     if let Some(bus) = bus {
-        hint.say_text(".", bus);
+        hint.say_one(".{}", bus);
     }
     hint.say(quote);
 }
@@ -184,10 +169,10 @@ fn quotes_of(text: &str) -> Option<&'static str> {
     }
     let mut is_quoted = false;
     for c in text.chars() {
-        if c.is_control() || matches!(c, '"' | '$' | '`' | '\\' | '!') {
+        if c.is_control() || "\"$`\\!".contains(c) {
             return None;
         }
-        if !c.is_ascii_alphanumeric() && !matches!(c, '_' | '-' | '.' | '/' | ':' | '+' | '@') {
+        if !c.is_ascii_alphanumeric() && !"_-./:+@".contains(c) {
             is_quoted = true;
         }
     }
@@ -198,10 +183,9 @@ fn quotes_of(text: &str) -> Option<&'static str> {
 fn tell_group(line: &LineEvidence, read: &ReadLine<'_>, hint: &HintText) {
     let name = name_in(read);
     if has_name(&line.receivers, name) && !has_name(&line.groups, name) {
-        hint.begin(": ");
-        hint.say_quoted("", name);
-        return hint.end(
-            " is a receiver; in a log of what was sent a name is a group, and the log of what came in is given first",
+        return hint.line_one(
+            "{?} is a receiver; in a log of what was sent a name is a group, and the log of what came in is given first",
+            name,
         );
     }
     let (group, bus) = match name.split_once('.') {
@@ -210,10 +194,11 @@ fn tell_group(line: &LineEvidence, read: &ReadLine<'_>, hint: &HintText) {
     };
     match bus {
         Some(bus) if has_name(&line.groups, group) => {
-            hint.begin(": ");
-            hint.say_quoted("group ", group);
-            hint.say_quoted(" has no bus ", bus);
-            hint.end("; `plan` prints how many it has, and they are numbered from 0");
+            hint.line_two(
+                "group {?} has no bus {?}; `plan` prints how many it has, and they are numbered from 0",
+                group,
+                bus,
+            );
         }
         _ => tell_unknown("group", group, bus, read, &line.groups, hint),
     }
@@ -238,60 +223,52 @@ fn tell_first_field(line: &LineEvidence, read: &ReadLine<'_>, hint: &HintText) -
     let first = field(read, 0);
     if is_script_word(first) {
         hint.begin(": this is a line of a script");
-    } else if read.places.is_none() && has_name(&line.receivers, first) && !is_number(first) {
+    } else if read.is_first && has_name(&line.receivers, first) && !is_number(first) {
         hint.begin(": the time before the receiver is missing");
     } else {
         return false;
     }
-    hint.end_text("; a log has lines ", FORM);
+    hint.end("; a log has lines TIME RECEIVER HEX");
     true
 }
 
 /// Says what is wrong with a heading.
 fn tell_heading(fault: HeadingFault, hint: &HintText) {
     match fault {
-        HeadingFault::Lacks(column) => {
-            hint.begin(": the line begins with no digit, so it is read as a heading");
-            hint.say_text("; it has no column ", names_of(column));
-            hint.end("");
-        }
+        HeadingFault::Lacks(column) => hint.line_one(
+            "the line begins with no digit, so it is read as a heading; it has no column {}",
+            names_of(column),
+        ),
         HeadingFault::Repeats(column) => {
-            hint.begin(": the heading has more than one column ");
-            hint.end(names_of(column));
+            hint.line_one("the heading has more than one column {}", names_of(column));
         }
     }
 }
 
 /// Says what is wrong with a row.
 fn tell_row(line: &LineEvidence, read: &ReadLine<'_>, fault: RowFault, hint: &HintText) {
-    match fault {
-        RowFault::Fields => tell_count(read, hint),
-        RowFault::Time => tell_time(read, hint),
-        RowFault::Falls => tell_fall(line, read, hint),
-        RowFault::Early => hint.say_line("the word comes before the time of --from"),
-        RowFault::Word => tell_word(read, hint),
-        RowFault::Label => hint.say_line("the label is not three octal digits, 000 to 377"),
-        RowFault::Sdi => hint.say_line("the SDI is not 0 to 3, nor two binary digits"),
-        RowFault::Ssm => hint.say_line("the SSM is not 0 to 3, nor two binary digits"),
-        RowFault::Value => hint.say_line("the data is not a number of 19 bits"),
-    }
+    hint.say_line(match fault {
+        RowFault::Fields => return tell_count(read, hint),
+        RowFault::Time => return tell_time(read, hint),
+        RowFault::Falls => return tell_fall(line, read, hint),
+        RowFault::Word => return tell_word(read, hint),
+        RowFault::Early => "the word comes before the time of --from",
+        RowFault::Label => "the label is not three octal digits, 000 to 377",
+        RowFault::Sdi => "the SDI is not 0 to 3, nor two binary digits",
+        RowFault::Ssm => "the SSM is not 0 to 3, nor two binary digits",
+        RowFault::Value => "the data is not a number of 19 bits",
+    });
 }
 
 /// Says how many fields a line has, and how many it has to have.
 fn tell_count(read: &ReadLine<'_>, hint: &HintText) {
-    let needed = match read.places {
-        Some(places) => places.count,
-        None => 3,
-    };
-    hint.begin(": ");
-    hint.say_count("the number of fields is ", count(read));
-    hint.say_count(", not ", needed);
-    hint.say("; fields are separated by ");
-    hint.end(match read.mark {
+    let marks = match read.mark {
         Mark::Semicolon => "semicolons",
         Mark::Comma => "commas",
         _ => "blanks",
-    });
+    };
+    let form = "the number of fields is {}, not {}; fields are separated by {}";
+    hint.line_three(form, count(read), read.places.count, marks);
 }
 
 /// Whether a text is one or more decimal digits.
@@ -306,78 +283,56 @@ fn is_number(text: &str) -> bool {
 
 /// Says what is wrong with the form of a time.
 fn tell_time(read: &ReadLine<'_>, hint: &HintText) {
-    let time = time_in(read);
-    hint.begin(": ");
-    hint.say_quoted("", time);
-    if time.starts_with('+') || time.starts_with('-') {
-        hint.end(" has a sign; write the time without it");
-    } else if is_number(time) {
-        hint.say_count(" has ", time.len());
-        hint.say_count(" digits; a time has at most ", TIME_DIGITS);
-        hint.end(" for microseconds");
-    } else if read.unit == TimeUnit::Microseconds && (time.contains('.') || time.contains(',')) {
-        hint.end(
-            " has a decimal point; a time is in whole microseconds; for seconds give --time s, for milliseconds --time ms",
+    let time = field(read, read.places.time);
+    if is_number(time) {
+        return hint.line_two(
+            "{?} has {} digits; a time has at most 18 for microseconds",
+            time,
+            time.len(),
         );
-    } else if read.unit == TimeUnit::Microseconds {
-        hint.say_count(
-            " is not a time; a time is in whole microseconds, 1 to ",
-            TIME_DIGITS,
-        );
-        hint.end(" digits");
-    } else {
-        hint.end(" is not a time; a time is a decimal number, such as 12.5");
     }
+    let fault = if time.starts_with('+') || time.starts_with('-') {
+        "has a sign; write the time without it"
+    } else if read.unit != TimeUnit::Microseconds {
+        "is not a time; a time is a decimal number, such as 12.5"
+    } else if time.contains('.') || time.contains(',') {
+        "has a decimal point; a time is in whole microseconds; for seconds give --time s, for milliseconds --time ms"
+    } else {
+        "is not a time; a time is in whole microseconds, 1 to 18 digits"
+    };
+    hint.line_two("{?} {}", time, fault);
 }
 
 /// Says that a time is less than the time before it.
 fn tell_fall(line: &LineEvidence, read: &ReadLine<'_>, hint: &HintText) {
     let before = str::from_utf8(&line.before).unwrap_or("");
-    let earlier = time_in(&ReadLine {
-        text: before,
-        mark: read.mark,
-        unit: read.unit,
-        places: read.places,
-        channels: read.channels,
-    });
-    hint.begin(": the time ");
-    hint.say_short("", time_in(read));
+    let earlier = field_of(before, read.mark, read.places.time);
+    hint.begin(": ");
+    hint.say_one("the time {..} is less than ", field(read, read.places.time));
     if let [b'0'..=b'9', ..] = earlier.as_bytes() {
-        hint.say_short(" is less than the time before it, ", earlier);
+        hint.say_one("the time before it, {..}", earlier);
     } else {
-        hint.say(" is less than that of the last word in the logs before");
+        hint.say("that of the last word in the logs before");
     }
     hint.end("; times must not decrease");
 }
 
 /// Says what is wrong with a word.
 fn tell_word(read: &ReadLine<'_>, hint: &HintText) {
-    let place = match read.places {
-        Some(
-            Places {
-                word: WordPlaces::Whole(place),
-                ..
-            },
-        ) => place,
-        _ => 2,
+    let place = match read.places.word {
+        WordPlaces::Whole(place) => place,
+        WordPlaces::Parts(_) => 2,
     };
-    let word = field(read, place);
-    hint.begin(": ");
-    hint.say_quoted("", word);
-    hint.say_count(" is not a word: it has ", word.len());
-    hint.end(" characters, and a word is eight hexadecimal digits");
+    tell_no_word(field(read, place), hint);
 }
 
 /// Says that a log, or the time of `--until`, takes too many frames of a group.
 pub fn tell_too_long(until: Option<u64>, hint: &HintText) {
     match until {
-        Some(until) => {
-            hint.begin(": from the first word until ");
-            hint.say_number("", until);
-            hint.end(
-                " us a group would send more than 1000000 frames (the limit): give an earlier --until",
-            );
-        }
+        Some(until) => hint.line_one(
+            "from the first word until {} us a group would send more than 1000000 frames (the limit): give an earlier --until",
+            until,
+        ),
         None => hint.say_line(
             "the log is too long: from the first word until one frame after the last a group would send more than 1000000 frames (the limit); cut the log, or give --until",
         ),
@@ -386,12 +341,14 @@ pub fn tell_too_long(until: Option<u64>, hint: &HintText) {
 
 /// Says that words come more closely than a bus can carry them, and with which unit their times would be longer.
 pub fn tell_close_words(receiver: &str, unit: TimeUnit, hint: &HintText) {
-    hint.begin(": more than 100 words in a row come to receiver ");
-    hint.say(receiver);
-    hint.say(" less than 360 us apart, which is too close even for 100 kbit/s");
-    hint.end(match unit {
+    let remedy = match unit {
         TimeUnit::Microseconds => "; if the times are milliseconds, give --time ms",
         TimeUnit::Milliseconds => "; if the times are seconds, give --time s",
         TimeUnit::Seconds => "",
-    });
+    };
+    hint.line_two(
+        "more than 100 words in a row come to receiver {} less than 360 us apart, which is too close even for 100 kbit/s{}",
+        receiver,
+        remedy,
+    );
 }

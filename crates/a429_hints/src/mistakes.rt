@@ -3,7 +3,7 @@
 use crate::hint::HintText;
 use crate::nearest::Nearest;
 use crate::rows::short_text;
-use a429_arguments::forms::{OptionForm, commands};
+use a429_arguments::forms::{CommandForm, OptionForm, commands};
 use std::alloc::Global;
 
 /// Says which command or which option is nearest to an unknown one.
@@ -34,14 +34,11 @@ pub fn tell_habits(words: &[&str], hint: &HintText) {
     let mut before = "";
     for word in words {
         if word.ends_with(".svg") || word.ends_with(".html") {
-            hint.say_short("a429: to write a file, add > before its name: >", word);
-            hint.end("");
+            hint.line_one("to write a file, add > before its name: >{..}", *word);
         } else if before == "--bnr" && word.starts_with('-') {
-            hint.say_short("a429: write --bnr=", word);
-            hint.end("");
+            hint.line_one("write --bnr={..}", *word);
         } else if let Some(number) = word.strip_suffix('%') {
-            hint.say_short("a429: write ", number);
-            hint.end(" without %");
+            hint.line_one("write {..} without %", number);
         }
         before = word;
     }
@@ -51,16 +48,22 @@ pub fn tell_habits(words: &[&str], hint: &HintText) {
 /// and `lines`, the first three commands, come last: they are meant least often.
 fn tell_nearest_command(word: &str, hint: &HintText) {
     let shown = short_text(word);
+    let word = shown.as_str();
     let (rare, others) = commands().split_at(3);
-    let mut nearest = Nearest::to(shown.as_str());
-    for form in others {
-        nearest = nearest.or(hint.alloc, form.name);
+    let nearest = or_commands(hint.alloc, Nearest::to(word), others);
+    let nearest = or_commands(hint.alloc, nearest, rare).or(hint.alloc, "help");
+    if let Some(name) = nearest.other_name() {
+        hint.line_two("{?} is not a command; the nearest is {}", word, name);
     }
-    for form in rare {
-        nearest = nearest.or(hint.alloc, form.name);
+}
+
+/// Compares the names of commands too.
+fn or_commands<'a>(alloc: Global, nearest: Nearest<'a>, forms: &'a [CommandForm]) -> Nearest<'a> {
+    let mut nearest = nearest;
+    for form in forms {
+        nearest = nearest.or(alloc, form.name);
     }
-    let nearest = nearest.or(hint.alloc, "help");
-    tell_nearest(shown.as_str(), "a command", "", nearest, hint);
+    nearest
 }
 
 /// Says which option is nearest to one that is none. Its two hyphens are left out of the comparison.
@@ -70,7 +73,9 @@ fn tell_nearest_option(word: &str, hint: &HintText) {
         nearest = or_options(hint.alloc, nearest, form.options);
     }
     let nearest = nearest.or(hint.alloc, "help").or(hint.alloc, "version");
-    tell_nearest(word, "an option", "--", nearest, hint);
+    if let Some(name) = nearest.other_name() {
+        hint.line_two("{?} is not an option; the nearest is --{}", word, name);
+    }
 }
 
 /// Compares the names of options too.
@@ -80,14 +85,4 @@ fn or_options<'a>(alloc: Global, nearest: Nearest<'a>, options: &'a [OptionForm]
         nearest = nearest.or(alloc, option.id);
     }
     nearest
-}
-
-/// Says which name of this kind is nearest to an argument, if it is another one.
-fn tell_nearest(word: &str, kind: &str, hyphens: &str, nearest: Nearest<'_>, hint: &HintText) {
-    if let Some(name) = nearest.other_name() {
-        hint.say_quoted("a429: ", word);
-        hint.say_text(" is not ", kind);
-        hint.say_text("; the nearest is ", hyphens);
-        hint.end(name);
-    }
 }

@@ -1,5 +1,6 @@
 //! The nearest of some names.
 
+use crate::hint::HintText;
 use std::alloc::Global;
 use strsim::levenshtein;
 
@@ -66,6 +67,13 @@ impl<'a> Nearest<'a> {
                 Some(name)
             }
             _ => None,
+        }
+    }
+
+    /// Says a form with the nearest name, if at most half of its letters differ.
+    pub fn tell(self, form: &str, hint: &HintText) {
+        if let Some(name) = self.name() {
+            hint.say_one(form, name);
         }
     }
 }

@@ -23,41 +23,41 @@ impl Interval {
     }
 }
 
-/// Says words, and a time in slots with thousandths. The time is given as microseconds times bit/s.
-fn say_slots(words: &str, time: u64, hint: &HintText) {
+/// Says a time in slots with thousandths. The time is given as microseconds times bit/s.
+fn say_slots(time: u64, hint: &HintText) {
     let (whole, thousandths) = (time / SLOT_TIME, time % SLOT_TIME / (SLOT_TIME / 1000));
-    hint.say(words);
     write!(hint, "{whole}.{thousandths:03}");
 }
 
-/// Says how long an interval is in slots, and that it has no period.
-pub fn tell_unfit_briefly(interval: Interval, hint: &HintText) {
-    hint.say_number(": ", u64::from(interval.min_us));
-    hint.say_number(" to ", u64::from(interval.max_us));
-    say_slots(" us are ", interval.slot_time(interval.min_us), hint);
-    say_slots(" to ", interval.slot_time(interval.max_us), hint);
-    hint.say_number(" slots at ", u64::from(interval.rate));
-    hint.end(" bit/s, and no period (1, 2, 4 .. 8192 slots) lies within");
+/// Says how long an interval is in slots, and that it has no period. If it is the first such interval, says how to correct it.
+pub fn tell_unfit(interval: Interval, is_first: bool, hint: &HintText) {
+    hint.say_two(": {} to {} us are ", interval.min_us, interval.max_us);
+    say_slots(interval.slot_time(interval.min_us), hint);
+    hint.say(" to ");
+    say_slots(interval.slot_time(interval.max_us), hint);
+    hint.end_one(
+        " slots at {} bit/s, and no period (1, 2, 4 .. 8192 slots) lies within",
+        interval.rate,
+    );
+    if is_first {
+        tell_period_below(interval, hint);
+        tell_period_above(interval, hint);
+        tell_millis(interval, hint);
+    }
 }
 
-/// Says which periods are next to an interval and which bound would allow each. If the interval has a period when read as
-/// milliseconds, says that too.
-pub fn tell_unfit(interval: Interval, hint: &HintText) {
-    tell_period_below(interval, hint);
-    tell_period_above(interval, hint);
-    let (Some(min_us), Some(max_us)) = (
-        interval.min_us.checked_mul(1000),
-        interval.max_us.checked_mul(1000),
-    ) else {
-        return;
-    };
-    match grid_period(min_us, max_us, interval.rate) {
+/// Says which period an interval has when read as milliseconds, if it has one.
+fn tell_millis(interval: Interval, hint: &HintText) {
+    let Interval {
+        min_us,
+        max_us,
+        rate,
+    } = interval;
+    let (min_us, max_us) = (min_us.saturating_mul(1000), max_us.saturating_mul(1000));
+    match grid_period(min_us, max_us, rate) {
         Some(period) if max_us <= 30000000 => {
-            hint.begin(": if these are milliseconds");
-            hint.say_number(": min_us = ", u64::from(min_us));
-            hint.say_number(", max_us = ", u64::from(max_us));
-            hint.say_number(" would have period ", u64::from(period.slots()));
-            hint.end("");
+            let form = "if these are milliseconds: min_us = {}, max_us = {} would have period {}";
+            hint.line_three(form, min_us, max_us, period.slots());
         }
         _ => {}
     }
@@ -70,7 +70,7 @@ fn tell_period_below(interval: Interval, hint: &HintText) {
         let time = slots.saturating_mul(SLOT_TIME);
         if time < shortest {
             let us = time / u64::from(interval.rate.max(1));
-            return tell_bound(": min_us = ", us, *slots, hint);
+            return hint.line_two("min_us = {} would allow period {}", us, *slots);
         }
     }
 }
@@ -82,15 +82,7 @@ fn tell_period_above(interval: Interval, hint: &HintText) {
         let time = slots.saturating_mul(SLOT_TIME);
         if time > longest {
             let us = time.div_ceil(u64::from(interval.rate.max(1)));
-            return tell_bound(": max_us = ", us, *slots, hint);
+            return hint.line_two("max_us = {} would allow period {}", us, *slots);
         }
     }
-}
-
-/// Says which bound of an interval would allow a period.
-fn tell_bound(words: &str, us: u64, slots: u64, hint: &HintText) {
-    hint.begin(words);
-    hint.say_number("", us);
-    hint.say_number(" would allow period ", slots);
-    hint.end("");
 }

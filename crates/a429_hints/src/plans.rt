@@ -1,8 +1,7 @@
 //! Hints about tables without a plan, and about groups.
 
-use crate::hint::{HintText, LINES};
-use crate::lists::LISTED;
-use crate::periods::{Interval, tell_unfit, tell_unfit_briefly};
+use crate::hint::HintText;
+use crate::periods::{Interval, tell_unfit};
 use a429_console::refusals::names::{group_name, source_name};
 use a429_equipment::{Equipment, GroupRow, OutputRow};
 use a429_grid::{SLOT_TIME, grid_period};
@@ -10,66 +9,59 @@ use a429_grid::{SLOT_TIME, grid_period};
 /// Says which groups a table has.
 pub fn tell_groups(groups: &[GroupRow], hint: &HintText) {
     if groups.is_empty() {
-        hint.say_line("the table has no groups");
-        return;
+        return hint.say_line("the table has no groups");
     }
     hint.begin(": the groups of the table are");
-    for group in groups.iter().take(LISTED) {
-        hint.say_text(" ", group.name.as_str());
+    for group in groups {
+        hint.say_one(" {}", group.name.as_str());
     }
     hint.end("");
 }
 
 /// Says what to do about a group that needs too many buses.
 pub fn tell_fewer_buses(group: &str, needed: usize, hint: &HintText) {
-    hint.begin(": the outputs of group ");
-    hint.say(group);
-    hint.say_count(" fill ", needed);
-    hint.end(
-        " buses, but a group can have at most 16: give some of them a longer max_us, or move them to another group",
+    hint.line_two(
+        "the outputs of group {} fill {} buses, but a group can have at most 16: give some of them a longer max_us, or move them to another group",
+        group,
+        needed,
     );
 }
 
 /// Says which outputs have no period, and for the first which intervals would work.
 pub fn tell_all_unfit(equipment: &Equipment, hint: &HintText) {
-    let mut count: usize = 0;
+    let mut is_first = true;
     for group in 0..equipment.groups().len() {
-        count = tell_unfit_of(equipment, group, count, hint);
+        is_first = tell_unfit_of(equipment, group, is_first, hint);
     }
-    hint.leave_out(count.saturating_sub(LINES));
 }
 
-/// Says which outputs of a group have no period. `before` is the number in earlier groups; the answer adds this group's.
-fn tell_unfit_of(equipment: &Equipment, group: usize, before: usize, hint: &HintText) -> usize {
-    let mut count = before;
+/// Says which outputs of a group have no period. The answer is whether the next such output is the first one.
+fn tell_unfit_of(equipment: &Equipment, group: usize, was_first: bool, hint: &HintText) -> bool {
+    let mut is_first = was_first;
     if group >= equipment.groups().len() {
-        return count;
+        return is_first;
     }
     let rate = equipment.group_rate(group);
     for (number, row) in equipment.outputs(group).iter().enumerate() {
-        let interval = Interval {
-            min_us: row.min_us,
-            max_us: row.max_us,
-            rate,
-        };
-        if grid_period(interval.min_us, interval.max_us, rate).is_some() {
-            continue;
-        }
-        if count < LINES {
+        let (min_us, max_us) = (row.min_us, row.max_us);
+        if grid_period(min_us, max_us, rate).is_none() {
+            let name = group_name(equipment, group);
+            let source = source_name(equipment, group, number);
             hint.begin(": group ");
-            hint.say(group_name(equipment, group).as_str());
-            hint.say_text(
-                ", output of source ",
-                source_name(equipment, group, number).as_str(),
+            hint.say_two("{}, output of source {}", name.as_str(), source.as_str());
+            tell_unfit(
+                Interval {
+                    min_us,
+                    max_us,
+                    rate,
+                },
+                is_first,
+                hint,
             );
-            tell_unfit_briefly(interval, hint);
+            is_first = false;
         }
-        if count == 0 {
-            tell_unfit(interval, hint);
-        }
-        count = count.saturating_add(1);
     }
-    count
+    is_first
 }
 
 /// Half the period of an output in microseconds, rounded down. If it has no period, the greatest number.
@@ -80,26 +72,17 @@ fn half_period(row: &OutputRow, rate: u32) -> u64 {
     }
 }
 
-/// The least half of a period of a group's outputs, or this number if that is less.
-fn least_half(equipment: &Equipment, group: usize, before: u64) -> u64 {
-    let mut least = before;
-    if group >= equipment.groups().len() {
-        return least;
-    }
-    let rate = equipment.group_rate(group);
-    for row in equipment.outputs(group) {
-        least = least.min(half_period(row, rate));
-    }
-    least
-}
-
 /// Says how great the tolerance of recorded times may be.
 pub fn tell_half_period(equipment: &Equipment, hint: &HintText) {
     let mut least = u64::MAX;
     for group in 0..equipment.groups().len() {
-        least = least_half(equipment, group, least);
+        let rate = equipment.group_rate(group);
+        for row in equipment.outputs(group) {
+            least = least.min(half_period(row, rate));
+        }
     }
-    hint.begin(": a tolerance is at most half the shortest period; give --tolerance ");
-    hint.say_number("", least);
-    hint.end(" or less");
+    hint.line_one(
+        "a tolerance is at most half the shortest period; give --tolerance {} or less",
+        least,
+    );
 }

@@ -33,16 +33,16 @@ impl<'a> TableRow<'a> {
     }
 }
 
-/// Says words, the place of a row as the refusal writes it, and its name: `source 3 "alt"`. The name of an output is that
-/// of its source.
-pub fn say_row(words: &str, row: &TableRow, hint: &HintText) {
-    hint.say_value(words, row.place);
+/// Says the place of a row as the refusal writes it, and its name: `source 3 "alt"`. The name of an output is that of its
+/// source.
+pub fn say_row(row: &TableRow, hint: &HintText) {
+    hint.say_value("", row.place);
     let key = match row.place {
         TablePlace::Output(_, _) => "source",
         _ => "name",
     };
     if let Some(Value::String(name)) = row.value.get(key) {
-        hint.say_quoted(" ", name.as_str());
+        hint.say_one(" {?}", name.as_str());
     }
 }
 
@@ -50,12 +50,12 @@ pub fn say_row(words: &str, row: &TableRow, hint: &HintText) {
 pub fn say_found(words: &str, found: Option<&Value>, hint: &HintText) {
     hint.say(words);
     match found {
-        Some(Value::String(text)) => hint.say_quoted("", text.as_str()),
+        Some(Value::String(text)) => hint.say_one("{?}", text.as_str()),
         Some(Value::Integer(number)) => hint.say_value("", *number),
         Some(Value::Float(number)) => write!(hint, "{number:?}"),
         Some(Value::Boolean(is_so)) => hint.say_value("", *is_so),
         Some(Value::Datetime(_)) => hint.say("a date or a time"),
-        Some(Value::Array(rows)) => hint.say_count("an array of ", rows.len()),
+        Some(Value::Array(rows)) => hint.say_one("an array of {}", rows.len()),
         Some(Value::Table(_)) => hint.say("a table"),
         None => hint.say("missing"),
     }

@@ -67,12 +67,11 @@ pub fn tell_form(line: &LineEvidence, text: &str, form: &str, hint: &HintText) -
     let Some(fault) = fault_of_form(line, text) else {
         return false;
     };
-    hint.begin(": ");
-    hint.say(fault);
     if fault == EMPTY || fault == COMMENT {
-        hint.say_text("; each line is ", form);
+        hint.line_two("{}; each line is {}", fault, form);
+    } else {
+        hint.say_line(fault);
     }
-    hint.end("");
     true
 }
 
@@ -112,12 +111,9 @@ fn tell_verb(verb: &str, hint: &HintText) {
     let shown = short_text(verb);
     let shown = shown.as_str();
     hint.begin(": ");
-    hint.say_quoted("", shown);
-    hint.say(" is not an event");
-    if let Some(name) = Nearest::among(hint.alloc, shown, VERBS).name() {
-        hint.say_text("; the nearest is ", name);
-    }
-    hint.end_text("; each line is ", FORMS);
+    hint.say_one("{?} is not an event", shown);
+    Nearest::among(hint.alloc, shown, VERBS).tell("; the nearest is {}", hint);
+    hint.end_one("; each line is {}", FORMS);
 }
 
 /// Says what is wrong with a receiver and a word.
@@ -132,40 +128,47 @@ pub fn tell_arrival(line: &LineEvidence, text: &str, hint: &HintText) {
 
 /// Says what is wrong with a word.
 fn tell_word(word: &str, hint: &HintText) {
-    hint.begin(": ");
     if word.is_empty() {
-        hint.end("the word is missing; it must be eight hexadecimal digits");
-        return;
-    }
-    hint.say_quoted("", word);
-    if word.starts_with("0x") || word.starts_with("0X") {
-        hint.end(" begins with 0x; write only the eight hexadecimal digits");
+        hint.say_line("the word is missing; it must be eight hexadecimal digits");
+    } else if word.starts_with("0x") || word.starts_with("0X") {
+        hint.line_one(
+            "{?} begins with 0x; write only the eight hexadecimal digits",
+            word,
+        );
     } else if word.contains(' ') {
-        hint.end(" is more than one word; a line has one word of eight hexadecimal digits");
+        hint.line_one(
+            "{?} is more than one word; a line has one word of eight hexadecimal digits",
+            word,
+        );
     } else {
-        hint.say_count(" is not a word: it has ", word.len());
-        hint.end(" characters, and a word is eight hexadecimal digits");
+        tell_no_word(word, hint);
     }
+}
+
+/// Says that a text is not a word, and how long it is.
+pub fn tell_no_word(text: &str, hint: &HintText) {
+    hint.line_two(
+        "{?} is not a word: it has {} characters, and a word is eight hexadecimal digits",
+        text,
+        text.len(),
+    );
 }
 
 /// Says what is wrong with the number of a further table.
 fn tell_publication(line: &LineEvidence, number: &str, hint: &HintText) {
-    hint.begin(": ");
     if number.starts_with('+') || number.starts_with('-') {
-        hint.say_quoted("", number);
-        hint.end(" has a sign; write the number without it");
-        return;
+        return hint.line_one("{?} has a sign; write the number without it", number);
     }
-    if line.further == 0 {
-        hint.end("no further table is given; name it after the script");
-        return;
-    }
-    hint.say_quoted("", number);
-    hint.say(" is not the number of a further table: there ");
-    if line.further == 1 {
-        hint.end("is one, number 1");
-    } else {
-        hint.say_count("are ", line.further);
-        hint.end(", numbered from 1");
+    match line.further {
+        0 => hint.say_line("no further table is given; name it after the script"),
+        1 => hint.line_one(
+            "{?} is not the number of a further table: there is one, number 1",
+            number,
+        ),
+        further => hint.line_two(
+            "{?} is not the number of a further table: there are {}, numbered from 1",
+            number,
+            further,
+        ),
     }
 }

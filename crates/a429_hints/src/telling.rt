@@ -109,14 +109,16 @@ fn tell_found(asked: &Asked, found: &Sheet, hint: &HintText) {
 
 /// Says what a warning is about.
 fn tell_warning(asked: &Asked, warning: &Warning, hint: &HintText) {
+    hint.turn_to(match warning {
+        Warning::Further(fault) => nth(&asked.more, fault.number),
+        _ => text_name(asked),
+    });
     match warning {
         Warning::Further(fault) => tell_further_fault(asked, fault, hint),
         Warning::CloseWords(receiver) => {
-            hint.turn_to(text_name(asked));
             tell_close_words(receiver.as_str(), asked.options.time, hint);
         }
         Warning::ShortIntervals(group) => {
-            hint.turn_to(text_name(asked));
             tell_short_intervals(group.as_str(), &asked.maps, hint);
         }
     }
@@ -124,7 +126,6 @@ fn tell_warning(asked: &Asked, warning: &Warning, hint: &HintText) {
 
 /// Says why a further table is refused: the same hint as for a first table, or in what its station differs.
 fn tell_further_fault(asked: &Asked, fault: &FurtherFault, hint: &HintText) {
-    hint.turn_to(nth(&asked.more, fault.number));
     match &fault.cause {
         FurtherCause::Fault(kind) => tell_fault(asked, *kind, &fault.table, hint),
         FurtherCause::Unfit => tell_unfit_of_table(&fault.table, hint),
@@ -152,8 +153,8 @@ fn tell_refusal(asked: &Asked, refused: &Refused, hint: &HintText) {
             tell_of_table(asked, refusal, table, hint);
         }
         Evidence::Proposal(proposal) => tell_of_plan(asked, refusal, proposal.equipment(), hint),
-        Evidence::Line(line) => tell_of_line(asked, line, hint),
-        Evidence::Byte { line, byte } => tell_of_byte(asked, line, *byte, hint),
+        Evidence::Line(line) => tell_of_line(asked, line, None, hint),
+        Evidence::Byte { line, byte } => tell_of_line(asked, line, Some(*byte), hint),
         Evidence::Log { line, log } => tell_of_log(asked, line, log, hint),
         Evidence::Rows(rows) => tell_of_rows(asked, refusal, rows, hint),
         Evidence::Threads(threads) => tell_of_run(asked, refusal, *threads, hint),
@@ -191,22 +192,15 @@ fn tell_of_words(asked: &Asked, refusal: &CommandRefusal, hint: &HintText) {
     }
 }
 
-/// Says what is wrong with a line of a script or of a file of words.
-fn tell_of_line(asked: &Asked, line: &LineEvidence, hint: &HintText) {
+/// Says what is wrong with this byte of a line file, or with a line of a script or of a file of words.
+fn tell_of_line(asked: &Asked, line: &LineEvidence, byte: Option<u8>, hint: &HintText) {
     hint.turn_to(text_name(asked));
     hint.turn_to_line(line.number);
-    if asked.verb == Verb::Live {
-        tell_words_line(line, hint);
-    } else {
-        tell_script_line(line, hint);
+    match byte {
+        Some(byte) => tell_line_byte(line, byte, hint),
+        None if asked.verb == Verb::Live => tell_words_line(line, hint),
+        None => tell_script_line(line, hint),
     }
-}
-
-/// Says what is wrong with a byte of a line file.
-fn tell_of_byte(asked: &Asked, line: &LineEvidence, byte: u8, hint: &HintText) {
-    hint.turn_to(text_name(asked));
-    hint.turn_to_line(line.number);
-    tell_line_byte(line, byte, hint);
 }
 
 /// Says what is wrong with a line of a log.
@@ -258,9 +252,10 @@ fn tell_of_plan(asked: &Asked, refusal: &CommandRefusal, equipment: &Equipment, 
 fn tell_of_run(asked: &Asked, refusal: &CommandRefusal, threads: usize, hint: &HintText) {
     if let CommandRefusal::Join = refusal {
         hint.turn_to(table_name(asked));
-        hint.begin(": threads could not be started");
-        hint.say_count(": this station needs ", threads);
-        hint.end(", one for each receiver and each group");
+        hint.line_one(
+            "threads could not be started: this station needs {}, one for each receiver and each group",
+            threads,
+        );
     }
 }
 
@@ -305,36 +300,28 @@ fn tell_order(asked: &Asked, looks: TableLook, hint: &HintText) {
         TableLook::Refusal => return hint.say_line(REFUSED_OUTPUT),
         TableLook::Other => return,
     };
-    hint.begin(": this looks like ");
-    hint.say_text(looks, "; write a429 ");
-    say_order(asked.verb, hint);
-    hint.end("");
-}
-
-/// Says the arguments of a command in their order.
-fn say_order(verb: Verb, hint: &HintText) {
-    match command_of(verb) {
-        Some(form) => say_names(form, hint),
-        None => {}
+    hint.begin(": ");
+    hint.say_one("this looks like {}; write a429 ", looks);
+    if let Some(form) = command_of(asked.verb) {
+        say_names(form, hint);
     }
+    hint.end("");
 }
 
 /// Says the name of a command, and its arguments without options.
 fn say_names(form: &CommandForm, hint: &HintText) {
-    hint.say_text(form.name, " ");
-    hint.say(form.first.id);
+    hint.say_two("{} {}", form.name, form.first.id);
     if let Some(second) = form.second {
-        hint.say_text(" ", second.id);
+        hint.say_one(" {}", second.id);
     }
     if let Some(third) = form.third {
-        hint.say_text(" ", third.id);
+        hint.say_one(" {}", third.id);
     }
     if let Some(number) = form.number {
-        hint.say_text(" ", number.id);
+        hint.say_one(" {}", number.id);
     }
     if let Some(more) = form.more {
-        hint.say_text(" [", more.id);
-        hint.say("..]");
+        hint.say_one(" [{}..]", more.id);
     }
 }
 

@@ -31,7 +31,7 @@ fn push_word(alloc: Global, words: &mut Vec<Value>, word: &str) -> Result<(), Al
 
 /// Those of these parts that are not empty.
 fn words_of(alloc: Global, parts: &[&str]) -> Result<Vec<Value>, AllocError>
-    ensures { IfOk result (λ values. map view values.items ≡ map (λ word. string word) (filter is_word (map (λ part. part.now) parts.now))) }
+    ensures { IfOk result (λ values. map view values.items ≡ map (λ word. string word) (filter is_word (map (λ p. p.now) parts.now))) }
 {
     let mut values = Vec::new(alloc);
     for part in parts {

@@ -5,5 +5,4 @@ pub mod Meeting
 pub mod Numbered
 pub mod OneRun
 pub mod Plans
-pub mod Returned
 pub mod Stopping

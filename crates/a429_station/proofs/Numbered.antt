@@ -1,5 +1,5 @@
 -- Items by their places, in lists that grow, that workers lead to others, and that are three in a row.
-use Rattle.std.proofs.Common.{◌≡◌, ℕ, zero, suc, ◌+◌, ◌<◌, ◌≤◌, List, [], ◌∷◌, ◌++◌, length, get_or, take, map, ap, subst, sym, refl, ◌∙◌, drop, arith, append_assoc}
+use Rattle.std.proofs.Common.{◌≡◌, ℕ, zero, suc, ◌+◌, ◌<◌, ◌≤◌, List, [], ◌∷◌, ◌++◌, length, get_or, take, map, ap, subst, sym, refl, ◌∙◌, drop, arith, append-nil, append_assoc}
 use Rattle.std.specs.Prelude.{◌==◌, ◌||◌, Bool, false, IsTrue, Result, Ok, slice_get}
 use Rattle.std.specs.List.{AllByRecursion, AllZip, list_any, range_with_len}
 use Rattle.std.proofs.lemmas.Bool.{ne_eqb}
@@ -56,15 +56,7 @@ pushed_mapped {X} {Y} f xs ys x y before rest all grown is next so_far =
     ∙ (append_assoc (map f xs) (f x ∷ []) rest
     ∙ (ap (λ (z : Y). map f xs ++ z ∷ rest) is ∙ (ap (λ (l : List Y). map f xs ++ l) (sym next) ∙ so_far))))
 
-pub mapped_push : {X Y : Type 0} (f : X → Y) (xs ys : List X) (x : X) (y : Y) → ys ≡ xs ++ x ∷ [] → f x ≡ y → map f ys ≡ map f xs ++ y ∷ []
-mapped_push {X} {Y} f xs ys x y grown is = ap (λ (l : List X). map f l) grown ∙ (map-append f xs (x ∷ []) ∙ ap (λ (z : Y). map f xs ++ z ∷ []) is)
-
--- the items before the rest of a list
-pub list_grown : {Y : Type 0} (xs ys : List Y) (y : Y) (before rest all : List Y) → ys ≡ xs ++ y ∷ [] → before ≡ y ∷ rest → xs ++ before ≡ all → ys ++ rest ≡ all
-list_grown {Y} xs ys y before rest all grown next so_far =
-    ap (λ (l : List Y). l ++ rest) grown ∙ (append_assoc xs (y ∷ []) rest ∙ (ap (λ (l : List Y). xs ++ l) (sym next) ∙ so_far))
-
--- the same of a list whose rest is mapped too
+-- the items before the rest of a list, which is mapped
 pub mapped_grown : {X Y : Type 0} (f : X → Y) (xs ys : List Y) (x : X) (before rest : List X) (all : List Y) → ys ≡ xs ++ f x ∷ [] → before ≡ x ∷ rest → xs ++ map f before ≡ all → ys ++ map f rest ≡ all
 mapped_grown {X} {Y} f xs ys x before rest all grown next so_far =
     ap (λ (l : List Y). l ++ map f rest) grown
@@ -76,9 +68,6 @@ mapped_grown {X} {Y} f xs ys x before rest all grown next so_far =
 pub inside_of : (n more now all most : ℕ) → n + now ≡ all → more + 1 ≡ now → all ≤ most → n < most
 inside_of n more now all most left one few = omega (arith, left, one, few)
 
-pub one_less : (n more now all : ℕ) → n + now ≡ all → more + 1 ≡ now → n + 1 + more ≡ all
-one_less n more now all left one = omega (arith, left, one)
-
 pub one_less_by : (n m more now all : ℕ) → n + now ≡ all → more + 1 ≡ now → m ≡ n + 1 → m + more ≡ all
 one_less_by n m more now all left one next = omega (arith, left, one, next)
 
@@ -88,8 +77,16 @@ both_less more now rest have one other enough = omega (arith, one, other, enough
 pub at_most : (n m k : ℕ) → n ≡ m → k ≡ m → n ≤ k
 at_most n m k one other = omega (arith, one, other)
 
-pub at_most_same : (n m k : ℕ) → n ≤ m → k ≡ m → n ≤ k
-at_most_same n m k few same = omega (arith, few, same)
+-- this number of items has room for one more of those that are left
+pub has_room : (n more now cap : ℕ) → n + now ≤ cap → more + 1 ≡ now → n < cap
+has_room n more now cap room one = omega (arith, room, one)
+
+pub room_left : (n m more now cap wide : ℕ) → n + now ≤ cap → more + 1 ≡ now → m ≡ n + 1 → cap ≤ wide → m + more ≤ wide
+room_left n m more now cap wide room one next wider = omega (arith, room, one, next, wider)
+
+-- all were taken, so none is left
+pub all_taken : {Y : Type 0} (xs rest all : List Y) → rest ≡ [] → xs ++ rest ≡ all → xs ≡ all
+all_taken {Y} xs rest all none whole = sym (append-nil xs) ∙ (ap (λ (l : List Y). xs ++ l) (sym none) ∙ whole)
 
 -- what is true of one place
 pub numbered_place : {X : Type 0} (P : ℕ → Type 0) (xs : List X) (k : ℕ) → k < length xs → AllNumbered (λ j x. P j) xs → P k

@@ -9,6 +9,7 @@ use Rattle.a429_workers.specs.declared.gates.Gate as gate
 use Rattle.a429_workers.specs.declared.sinks.BusSink as sink
 use Rattle.a429_workers.specs.declared.receiving.ReceiveFault.{ReceiveFault}
 use Rattle.a429_workers.specs.declared.sending.SendFault.{SendFault}
+use Rattle.a429_station.specs.Course.{fresh}
 use Rattle.a429_station.specs.Faults.{first_fault}
 use Rattle.a429_station.specs.Numbered.{AllNumbered}
 use Rattle.a429_station.specs.Working.{IsJoined, IsReady}
@@ -17,6 +18,7 @@ use Rattle.a429_station.specs.declared.threads.Ended.{Ended}
 use Rattle.a429_station.specs.declared.working.Emitted.{Emitted}
 use Rattle.a429_station.specs.declared.working.GroupWorker.{GroupWorker}
 use Rattle.a429_station.specs.declared.working.Received.{Received}
+use Rattle.a429_station.specs.declared.working.ReceiverWorker.{ReceiverWorker}
 
 -- each worker is of the group at its place, before its first cell, and must send this number of frames
 abbrev pub AreReady : {B G : Type 0} {b : sink.Ghosts B} {h : gate.Ghosts G} → ends.Place → Planning → ℕ → List (GroupWorker B G b h) → Type 0
@@ -43,3 +45,15 @@ pub record ReportsAllEnds {L B : Type 0} (t : TableRecord) (list : List PlanTabl
   pub sinks : report.sinks.items ≡ map (λ d. d.sink) done.second.items
   pub joined : AreJoined t list (map (λ d. d.receiver) done.first.items) done.second.items
   pub control : IsTrue (is_ok done.answer)
+
+-- the receivers of a hub, each with the line and the number of its place; they have accepted nothing, and work by this gate
+pub record AreListening {L G : Type 0} (at : ends.Place) (shared : G) (sources : List L) (workers : List (ReceiverWorker L G)) : Type 0 where
+  pub lines : map (λ w. w.line) workers ≡ sources
+  pub fresh : AllNumbered (λ r w. w.receiver ≡ fresh at r) workers
+  pub gates : AllNumbered (λ r w. (w.number ≡ r) × (w.gate.now ≡ shared)) workers
+
+-- the groups of a hub, each with the sink and the number of its place; they are ready to send this number of frames, and work by this gate
+pub record AreSending {B G : Type 0} {b : sink.Ghosts B} {h : gate.Ghosts G} (at : ends.Place) (p : Planning) (frames : ℕ) (shared : G) (buses : List B) (workers : List (GroupWorker B G b h)) : Type 0 where
+  pub sinks : map (λ w. w.sink) workers ≡ buses
+  pub ready : AreReady at p frames workers
+  pub gates : AllNumbered (λ g w. (w.number ≡ g) × (w.gate.now ≡ shared)) workers

@@ -30,6 +30,7 @@
 mod control;
 mod faults;
 pub mod laws;
+mod lists;
 mod reports;
 mod running;
 mod station;

@@ -129,8 +129,14 @@ fn check_all_ends<R: Wait, L: Drop, B: Drop>(
     ensures control { OnOk result (IsTrue (is_ok answer)) }
     ensures fault { IfErr result (IsFirstFault (receivers_fault received.now.items) (groups_fault sent.old.items)) }
 {
-    check_receiver_ends(received)?;
-    check_group_ends(hub, station, sent)?;
+    match check_receiver_ends(received) {
+        Ok(()) => {}
+        Err(fault) => return Err(fault),
+    }
+    match check_group_ends(hub, station, sent) {
+        Ok(()) => {}
+        Err(fault) => return Err(fault),
+    }
     answer?;
     Ok(())
 }
@@ -177,7 +183,10 @@ fn report_receivers<L: Drop>(
         receivers: Vec::new(alloc),
     };
     for done in received {
-        report_receiver(done, &mut heard)?;
+        match report_receiver(done, &mut heard) {
+            Ok(()) => {}
+            Err(fault) => return Err(fault),
+        }
     }
     Ok(heard)
 }
@@ -249,7 +258,10 @@ fn report_groups<R: Wait, B: Drop>(
         sinks: Vec::new(alloc),
     };
     for done in sent {
-        report_group(hub, station, receivers, done, &mut told)?;
+        match report_group(hub, station, receivers, done, &mut told) {
+            Ok(()) => {}
+            Err(fault) => return Err(fault),
+        }
     }
     Ok(told)
 }
@@ -287,8 +299,18 @@ pub(crate) fn report_all<R: Wait, L: Drop, B: Drop>(
         mut second,
         answer,
     } = done;
-    check_all_ends(hub, station, &first, &mut second, answer)?;
-    let mut heard = report_receivers(alloc, first)?;
-    let told = report_groups(alloc, hub, station, heard.receivers.as_mut_slice(), second)?;
+    match check_all_ends(hub, station, &first, &mut second, answer) {
+        Ok(()) => {}
+        Err(fault) => return Err(fault),
+    }
+    let mut heard = match report_receivers(alloc, first) {
+        Ok(heard) => heard,
+        Err(fault) => return Err(fault),
+    };
+    let receivers = heard.receivers.as_mut_slice();
+    let told = match report_groups(alloc, hub, station, receivers, second) {
+        Ok(told) => told,
+        Err(fault) => return Err(fault),
+    };
     Ok(report_from(heard, told))
 }

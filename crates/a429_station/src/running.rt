@@ -1,5 +1,5 @@
 //! A station that runs: its receivers and groups at once.
-ghost use Rattle.std.specs.Prelude.{◌≡◌, ◌+◌, ◌++◌, ◌∷◌, ◌<◌, ◌≤◌, [], length, vec_len, IfOk, IfErr, OnOk, map};
+ghost use Rattle.std.specs.Prelude.{◌≡◌, ◌+◌, ◌<◌, ◌≤◌, [], length, vec_len, IfOk, IfErr, OnOk, map};
 ghost use Rattle.std.specs.List.{AllByRecursion};
 ghost use Rattle.a429_workers.specs.Gates.{points_of};
 ghost use Rattle.a429_slots.specs.Planned.{IsPlanOf};
@@ -7,15 +7,14 @@ ghost use Rattle.a429_slots.specs.Tables.{groups_of};
 ghost use Rattle.a429_board.specs.Lists.{beginner};
 ghost use Rattle.a429_workers.specs.Runs.{IsWired};
 ghost use Rattle.a429_workers.specs.Transmitting.{BeginsWith};
-ghost use Rattle.a429_station.specs.Course.{HasRun, HasRunBeside, asked, done_by, fresh};
+ghost use Rattle.a429_station.specs.Course.{HasRun, HasRunBeside, asked, done_by};
 ghost use Rattle.a429_station.specs.Faults.{IsLiveFault, IsRunFault};
-ghost use Rattle.a429_station.specs.Numbered.{AllNumbered};
 ghost use Rattle.a429_station.specs.Resubmitting.{HasFewSlots, IsBegun};
-ghost use Rattle.a429_station.specs.Workers.{AreReady};
-ghost use Rattle.a429_station.specs.declared.faults.LiveFault.TheVariants.{NoMemory};
+ghost use Rattle.a429_station.specs.Workers.{AreListening, AreSending};
 
 use crate::control::Control;
 use crate::faults::LiveFault;
+use crate::lists::put;
 use crate::reports::{Report, report_all};
 use crate::station::Station;
 use crate::threads::run_at_once;
@@ -28,7 +27,7 @@ use a429_slots::{OUTPUTS, Plan, plan};
 use a429_values::{Desk, Hub, HubFault};
 use a429_workers::{BusSink, Gate, OpenFault, Transmit};
 use core::mem::drop;
-use std::alloc::Global;
+use std::alloc::{AllocError, Global};
 use std::sync::Wait;
 use std::thread::Threads;
 
@@ -41,67 +40,34 @@ fn receivers<'a, L: LineSource + Drop, G: Gate>(
     desk: &mut Desk,
     sources: Vec<L>,
     gate: &'a G,
-) -> Result<Vec<ReceiverWorker<'a, L, G>>, LiveFault>
+) -> Result<Vec<ReceiverWorker<'a, L, G>>, AllocError>
     requires hub { desk.old.at ≡ hub.now }
     requires none { desk.old.receivers ≡ [] }
     requires sources { vec_len sources ≤ length hub.now.station.receivers }
-    ensures lines { IfOk result (λ workers. map (λ w. w.line) workers.items ≡ sources.items) }
-    ensures fresh { IfOk result (λ workers. AllNumbered (λ r w. w.receiver ≡ fresh hub.now r) workers.items) }
-    ensures gates { IfOk result (λ workers. AllNumbered (λ r w. (w.number ≡ r) × (w.gate.now ≡ gate.now)) workers.items) }
-    ensures desk { desk.new.at ≡ desk.old.at }
-    ensures transmitters { desk.new.transmitters ≡ desk.old.transmitters }
-    ensures fault { IfErr result (λ fault. fault ≡ NoMemory) }
+    ensures workers { IfOk result (λ workers. AreListening hub.now gate.now sources.items workers.items) }
+    ensures desk { OnOk result ((desk.new.at ≡ desk.old.at) × (desk.new.transmitters ≡ desk.old.transmitters)) }
 {
-    let mut workers = Vec::new(alloc);
-    let mut number = 0;
+    let Ok(mut workers) = Vec::with_capacity(alloc, sources.len()) else {
+        return Err(AllocError);
+    };
     for line in sources {
+        let number = workers.len();
         let receiver = match desk.receiver(alloc, hub, number) {
             Ok(receiver) => receiver,
             Err(HubFault::AlreadyTaken) => unreachable!(),
-            Err(HubFault::NoMemory) => return Err(LiveFault::NoMemory),
+            Err(HubFault::NoMemory) => return Err(AllocError),
         };
-        workers.push(ReceiverWorker {
-            line,
-            receiver,
-            number,
-            gate,
-        })?;
-        number += 1;
+        put(
+            &mut workers,
+            ReceiverWorker {
+                line,
+                receiver,
+                number,
+                gate,
+            },
+        );
     }
     Ok(workers)
-}
-
-/// The values of a station, with the desk that gives out their ends, and the receivers, each with its line.
-#[derive(Drop)]
-struct OpenHub<'a, L: LineSource + Drop, G: Gate> {
-    hub: Values,
-    desk: Desk,
-    receiving: Vec<ReceiverWorker<'a, L, G>>,
-}
-
-/// The values of a station and its receivers, each with its line. No transmitter was given out.
-fn open_hub<'a, L: LineSource + Drop, G: Gate>(
-    alloc: Global,
-    equipment: &Equipment,
-    sources: Vec<L>,
-    gate: &'a G,
-) -> Result<OpenHub<'a, L, G>, LiveFault>
-    requires sources { vec_len sources ≤ length equipment.now.receivers }
-    ensures station { IfOk result (λ o. o.hub.station ≡ equipment.now) }
-    ensures desk { IfOk result (λ o. (o.desk.at ≡ o.hub) × (o.desk.transmitters ≡ [])) }
-    ensures lines { IfOk result (λ o. map (λ w. w.line) o.receiving.items ≡ sources.items) }
-    ensures fresh { IfOk result (λ o. AllNumbered (λ r w. w.receiver ≡ fresh o.hub r) o.receiving.items) }
-    ensures gates { IfOk result (λ o. AllNumbered (λ r w. (w.number ≡ r) × (w.gate.now ≡ gate.now)) o.receiving.items) }
-    ensures fault { IfErr result (λ fault. fault ≡ NoMemory) }
-{
-    numbers_in_range(equipment);
-    let (hub, mut desk) = Values::open(alloc, equipment)?;
-    let receiving = receivers(alloc, &hub, &mut desk, sources, gate)?;
-    Ok(OpenHub {
-        hub,
-        desk,
-        receiving,
-    })
 }
 
 /// The transmitter of a group, at slot 0. It was not given out before.
@@ -111,7 +77,7 @@ fn transmitter(
     desk: &mut Desk,
     watcher: Watcher,
     group: usize,
-) -> Result<Transmit, LiveFault>
+) -> Result<Transmit, AllocError>
     requires hub { desk.old.at ≡ hub.now }
     requires group { group < length hub.now.station.groups }
     requires earlier { AllByRecursion (λ g. g < group) desk.old.transmitters }
@@ -122,52 +88,17 @@ fn transmitter(
     ensures transmitter { IfOk result (λ t. t.transmitter ≡ record { at = hub.now; number = group; loads = [] }) }
     ensures watcher { IfOk result (λ t. t.watcher ≡ watcher) }
     ensures begins { IfOk result (λ t. BeginsWith t.transmitter t.watcher 0 t × (t.frame.sent ≡ 0)) }
-    ensures fault { IfErr result (λ fault. fault ≡ NoMemory) }
 {
     let transmitter = match desk.transmitter(hub, group) {
         Ok(transmitter) => transmitter,
         Err(HubFault::AlreadyTaken) => unreachable!(),
-        Err(HubFault::NoMemory) => return Err(LiveFault::NoMemory),
+        Err(HubFault::NoMemory) => return Err(AllocError),
     };
     match Transmit::open(alloc, transmitter, watcher, group, 0) {
         Ok(transmit) => Ok(transmit),
         Err(OpenFault::SlotsSpent) => unreachable!(),
-        Err(OpenFault::NoMemory) => Err(LiveFault::NoMemory),
+        Err(OpenFault::NoMemory) => Err(AllocError),
     }
-}
-
-/// Adds the worker of the next group, which was not given out before, with its sink. Error: an allocation failed.
-fn push_group<'a, R: Wait, B: BusSink + Drop, G: Gate>(
-    alloc: Global,
-    hub: &Values,
-    desk: &mut Desk,
-    station: &Station<'_, R>,
-    watcher: Watcher,
-    sink: B,
-    frames: u32,
-    gate: &'a G,
-    workers: &mut Vec<GroupWorker<'a, B, G>>,
-) -> Result<(), LiveFault>
-    requires hub { desk.old.at ≡ hub.now }
-    requires group { length workers.old.items < length hub.now.station.groups }
-    requires earlier { AllByRecursion (λ g. g < length workers.old.items) desk.old.transmitters }
-    requires planned { length workers.old.items < length (groups_of station.now.planner.last) }
-    requires small { HasFewSlots station.now.planner.last }
-    requires watcher { watcher ≡ beginner station.now.planner }
-    requires ready { AreReady hub.now station.now.planner frames workers.old.items }
-    requires gates { AllNumbered (λ g w. (w.number ≡ g) × (w.gate.now ≡ gate.now)) workers.old.items }
-    ensures desk { desk.new.at ≡ desk.old.at }
-    ensures count { OnOk result (length workers.new.items ≡ length workers.old.items + 1) }
-    ensures given { OnOk result (AllByRecursion (λ g. g < length workers.new.items) desk.new.transmitters) }
-    ensures sinks { OnOk result (map (λ w. w.sink) workers.new.items ≡ map (λ w. w.sink) workers.old.items ++ sink ∷ []) }
-    ensures ready { OnOk result (AreReady hub.now station.now.planner frames workers.new.items) }
-    ensures gates { OnOk result (AllNumbered (λ g w. (w.number ≡ g) × (w.gate.now ≡ gate.now)) workers.new.items) }
-    ensures fault { IfErr result (λ fault. fault ≡ NoMemory) }
-{
-    let number = workers.len();
-    let transmit = transmitter(alloc, hub, desk, watcher, number)?;
-    workers.push(group_worker(transmit, sink, number, frames, gate))?;
-    Ok(())
 }
 
 /// The groups of a station, each with its sink. None was given out before.
@@ -180,7 +111,7 @@ fn groups<'a, R: Wait, B: BusSink + Drop, G: Gate>(
     sinks: Vec<B>,
     frames: u32,
     gate: &'a G,
-) -> Result<Vec<GroupWorker<'a, B, G>>, LiveFault>
+) -> Result<Vec<GroupWorker<'a, B, G>>, AllocError>
     requires hub { desk.old.at ≡ hub.now }
     requires none { desk.old.transmitters ≡ [] }
     requires sinks { vec_len sinks ≤ length hub.now.station.groups }
@@ -188,34 +119,30 @@ fn groups<'a, R: Wait, B: BusSink + Drop, G: Gate>(
     requires small { HasFewSlots station.now.planner.last }
     requires watchers { AllByRecursion (λ w. w ≡ beginner station.now.planner) watchers.items }
     requires enough { vec_len sinks ≤ vec_len watchers }
-    ensures sinks { IfOk result (λ workers. map (λ w. w.sink) workers.items ≡ sinks.items) }
-    ensures ready { IfOk result (λ workers. AreReady hub.now station.now.planner frames workers.items) }
-    ensures gates { IfOk result (λ workers. AllNumbered (λ g w. (w.number ≡ g) × (w.gate.now ≡ gate.now)) workers.items) }
-    ensures fault { IfErr result (λ fault. fault ≡ NoMemory) }
+    ensures workers { IfOk result (λ workers. AreSending hub.now station.now.planner frames gate.now sinks.items workers.items) }
 {
-    let mut workers = Vec::new(alloc);
+    let Ok(mut workers) = Vec::with_capacity(alloc, sinks.len()) else {
+        return Err(AllocError);
+    };
     let mut watchers = watchers;
     for sink in sinks {
         let Some(watcher) = watchers.pop() else {
             unreachable!()
         };
-        push_group(
-            alloc,
-            hub,
-            desk,
-            station,
-            watcher,
-            sink,
-            frames,
-            gate,
+        let number = workers.len();
+        let Ok(transmit) = transmitter(alloc, hub, desk, watcher, number) else {
+            return Err(AllocError);
+        };
+        put(
             &mut workers,
-        )?;
+            group_worker(transmit, sink, number, frames, gate),
+        );
     }
     Ok(workers)
 }
 
-/// The workers and the control, at once; then what was done.
-fn run<
+/// The receivers and the groups of a hub that has given none out, and the control, at once; then what was done.
+fn run_at<
     R: Threads + Wait,
     L: LineSource + Send + Drop,
     B: BusSink + Send + Drop,
@@ -228,33 +155,82 @@ fn run<
     desk: &mut Desk,
     station: &mut Station<'_, R>,
     watchers: Vec<Watcher>,
-    receiving: Vec<ReceiverWorker<'_, L, G>>,
+    sources: Vec<L>,
     sinks: Vec<B>,
     frames: u32,
     gate: &G,
     control: &mut K,
 ) -> Result<Report<L, B>, LiveFault>
-    requires receivers { AllNumbered (λ r w. w.receiver ≡ fresh hub.now r) receiving.items }
-    requires gates { AllNumbered (λ r w. (w.number ≡ r) × (w.gate.now ≡ gate.now)) receiving.items }
-    requires all { vec_len receiving ≡ length hub.now.station.receivers }
+    requires desk { desk.old ≡ record { at = hub.now; receivers = []; transmitters = [] } }
     requires hub { IsWired hub.now.station × (hub.now.station ≡ station.old.station) }
-    requires desk { (desk.old.at ≡ hub.now) × (desk.old.transmitters ≡ []) }
-    requires begun { IsBegun station.old }
+    requires sources { vec_len sources ≡ length hub.now.station.receivers }
     requires sinks { vec_len sinks ≡ length hub.now.station.groups }
+    requires begun { IsBegun station.old }
     requires few { frames ≤ 1000000 }
     requires watchers { AllByRecursion (λ w. w ≡ beginner station.old.planner) watchers.items }
     requires enough { vec_len sinks ≤ vec_len watchers }
     ensures ran { IfOk result (HasRunBeside (done_by K.Control control.old control.new) L.LineSource B.BusSink
-        (asked hub.now.station frames (map (λ w. w.line) receiving.entry.items) sinks.items)) }
+        (asked hub.now.station frames sources.items sinks.items)) }
     ensures fault { IfErr result (IsRunFault (control.new ≡ control.old) L.LineSource B.BusSink (points_of G.Gate gate.now)
-        (asked hub.now.station frames (map (λ w. w.line) receiving.entry.items) sinks.items)) }
+        (asked hub.now.station frames sources.items sinks.items)) }
 {
-    let sending = groups(alloc, hub, desk, station, watchers, sinks, frames, gate)?;
+    let Ok(receiving) = receivers(alloc, hub, desk, sources, gate) else {
+        return Err(LiveFault::NoMemory);
+    };
+    let Ok(sending) = groups(alloc, hub, desk, station, watchers, sinks, frames, gate) else {
+        return Err(LiveFault::NoMemory);
+    };
     let Ok(done) = run_at_once(rt, alloc, receiving, sending, station, control) else {
         return Err(LiveFault::Join);
     };
     station.plans_are_of_station();
     report_all(alloc, hub, station, done)
+}
+
+/// Opens the hub of a station, and runs it.
+fn run<
+    R: Threads + Wait,
+    L: LineSource + Send + Drop,
+    B: BusSink + Send + Drop,
+    G: Gate + Sync,
+    K: Control<R>,
+>(
+    rt: &R,
+    alloc: Global,
+    equipment: &Equipment,
+    station: &mut Station<'_, R>,
+    watchers: Vec<Watcher>,
+    sources: Vec<L>,
+    sinks: Vec<B>,
+    frames: u32,
+    gate: &G,
+    control: &mut K,
+) -> Result<Report<L, B>, LiveFault>
+    requires station { station.old.station ≡ equipment.now }
+    requires sources { vec_len sources ≡ length equipment.now.receivers }
+    requires sinks { vec_len sinks ≡ length equipment.now.groups }
+    requires begun { IsBegun station.old }
+    requires few { frames ≤ 1000000 }
+    requires watchers { AllByRecursion (λ w. w ≡ beginner station.old.planner) watchers.items }
+    requires enough { vec_len sinks ≤ vec_len watchers }
+    ensures ran { IfOk result (HasRunBeside (done_by K.Control control.old control.new) L.LineSource B.BusSink
+        (asked equipment.now frames sources.items sinks.items)) }
+    ensures fault { IfErr result (IsRunFault (control.new ≡ control.old) L.LineSource B.BusSink (points_of G.Gate gate.now)
+        (asked equipment.now frames sources.items sinks.items)) }
+{
+    numbers_in_range(equipment);
+    sources_apart(equipment);
+    let Ok(opened) = Values::open(alloc, equipment) else {
+        return Err(LiveFault::NoMemory);
+    };
+    let (hub, mut desk) = opened;
+    let ended = run_at(
+        rt, alloc, &hub, &mut desk, station, watchers, sources, sinks, frames, gate, control,
+    );
+    // `drop` keeps the proof short: a drop in place goes through all parts of both.
+    drop(desk);
+    drop(hub);
+    ended
 }
 
 /// Runs a station: of its equipment, with a source for the line of each receiver and a sink for each group. One thread
@@ -299,7 +275,10 @@ pub fn live<
         (asked equipment.now frames sources.items sinks.items)) }
 {
     numbers_in_range(equipment);
-    let plan = plan(alloc, equipment)?;
+    let plan = match plan(alloc, equipment) {
+        Ok(plan) => plan,
+        Err(fault) => return Err(LiveFault::Plan(fault)),
+    };
     live_planned(
         rt, alloc, equipment, plan, sources, sinks, frames, gate, control,
     )
@@ -332,36 +311,27 @@ pub fn live_planned<
     ensures fault { IfErr result (IsLiveFault (control.new ≡ control.old) L.LineSource B.BusSink (points_of G.Gate gate.now)
         (asked equipment.now frames sources.items sinks.items)) }
 {
-    numbers_in_range(equipment);
-    sources_apart(equipment);
     if frames > FRAMES {
         return Err(LiveFault::TooMuch);
     }
-    let opened = open_hub(alloc, equipment, sources, gate)?;
     let watchers = equipment.groups().len().max(1) as u32;
-    let (planner, watchers) = Board::open(rt, alloc, plan, watchers)?;
-    let OpenHub {
-        hub,
-        mut desk,
-        receiving,
-    } = opened;
+    let Ok(opened) = Board::open(rt, alloc, plan, watchers) else {
+        return Err(LiveFault::NoMemory);
+    };
+    let (planner, watchers) = opened;
     let mut station = Station::of_planner(rt, alloc, equipment, planner);
     let answer = run(
         rt,
         alloc,
-        &hub,
-        &mut desk,
+        equipment,
         &mut station,
         watchers,
-        receiving,
+        sources,
         sinks,
         frames,
         gate,
         control,
     );
     station.close();
-    // `drop` keeps the proof short: a drop in place goes through all parts of both.
-    drop(desk);
-    drop(hub);
     answer
 }

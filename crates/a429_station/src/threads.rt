@@ -3,6 +3,7 @@ ghost use Rattle.std.specs.Prelude.{◌≡◌, Bool, IfOk, is_ok, map};
 ghost use Rattle.std.specs.List.{AllZip};
 ghost use Rattle.a429_station.specs.Lending.{IsDoneMeanwhile, LendsTheSame};
 
+use crate::lists::put;
 use core::scope::{Scope, scope_env, scoped};
 use std::alloc::{AllocError, Global};
 use std::snapshot::Snapshot;
@@ -30,7 +31,7 @@ impl<W: Work> Promise<W::Done> for Doing<W> {
 }
 
 /// A thread could not be started or joined.
-#[derive(Clone, Copy, Debug, PartialEq, Eq)]
+#[derive(Drop)]
 pub struct NotJoined;
 
 type Handles<W> = Vec<PromisedHandle<<W as Work>::Done, Doing<W>>>;
@@ -51,9 +52,7 @@ fn start_workers<'s, E, W: Work + 's>(
         let Ok(handle) = scope.spawn_with(doing, move || worker.work()) else {
             return Err(NotJoined);
         };
-        if handles.push(handle).is_err() {
-            return Err(NotJoined);
-        }
+        put(&mut handles, handle);
     }
     Ok(handles)
 }
@@ -109,12 +108,22 @@ fn run_workers<
     ensures second { IfOk result (λ done. AllZip V.did second.items done.second.items) }
     ensures meanwhile { IfOk result (λ done. M.did meanwhile.old to.old to.new meanwhile.new (is_ok done.answer)) }
 {
-    let first = start_workers(scope, alloc, first)?;
-    let second = start_workers(scope, alloc, second)?;
+    let Ok(first) = start_workers(scope, alloc, first) else {
+        return Err(NotJoined);
+    };
+    let Ok(second) = start_workers(scope, alloc, second) else {
+        return Err(NotJoined);
+    };
     let answer = meanwhile.meanwhile(to);
+    let Ok(first) = join_workers(rt, first) else {
+        return Err(NotJoined);
+    };
+    let Ok(second) = join_workers(rt, second) else {
+        return Err(NotJoined);
+    };
     Ok(Ended {
-        first: join_workers(rt, first)?,
-        second: join_workers(rt, second)?,
+        first,
+        second,
         answer,
     })
 }

@@ -1,4 +1,4 @@
-use Rattle.std.proofs.Common.{rules, ◌≡◌, ◌∙◌, ◌++◌, [], List, ap, append-nil, map, subst, sym}
+use Rattle.std.proofs.Common.{rules, ◌≡◌, ◌∙◌, ◌++◌, [], List, ap, append-nil, map, refl, subst, sym}
 use Rattle.std.specs.Prelude.{Ok}
 use Rattle.std.specs.List.{AllByRecursion}
 use Rattle.std.specs.Vec.Iter.{into_iter_items}
@@ -9,7 +9,6 @@ use Rattle.a429_station.specs.Working.{IsJoined, IsOver, IsReceiverAt}
 use Rattle.a429_station.specs.Numbered.{AllNumbered}
 use Rattle.a429_station.specs.declared.working.Emitted.{Emitted}
 use Rattle.a429_station.proofs.Numbered.{mapped_grown}
-use Rattle.a429_station.proofs.Returned.{early_err, early_ok}
 use Rattle.a429_station.proofs.Stopping.{first_goes_on, group_stops}
 use Rattle.a429_station.proofs.reports.report_groups.Goals as goal
 
@@ -22,19 +21,9 @@ report_group-requires-clause-group g c =
     let over = subst (AllByRecursion (λ d. IsOver c.args.hub.now c.args.station.now.planner d.transmit d.answer)) c.in-Some.ensures.steps.0 was.over in
     subst (λ (s : Running). IsOver c.args.hub.now s.planner c.in-Some.done.transmit c.in-Some.done.answer) (sym was.station) over.0
 
-pub returns-in_err-report_group-clause-totals : goal.returns-in_err-report_group-clause-totals
-returns-in_err-report_group-clause-totals g c = early_ok _ _ c.from_residual.result c.from_residual.ensures.1
-
-pub returns-in_err-report_group-clause-sinks : goal.returns-in_err-report_group-clause-sinks
-returns-in_err-report_group-clause-sinks g c = early_ok _ _ c.from_residual.result c.from_residual.ensures.1
-
-pub returns-in_err-report_group-clause-joined : goal.returns-in_err-report_group-clause-joined
-returns-in_err-report_group-clause-joined g c = early_ok _ _ c.from_residual.result c.from_residual.ensures.1
-
-pub returns-in_err-report_group-clause-fault : goal.returns-in_err-report_group-clause-fault
-returns-in_err-report_group-clause-fault g c =
-    early_err _ c.from_residual.result c.from_residual.ensures.1
-    (λ e is. group_stops (λ (d : Emitted g.row.B.Denot). d.answer) c.in-Some.done _ _ _ _ e c.in-Some.ensures.steps.0 c.loop-done.invariant.first c.in_err-report_group.ensures.fault is)
+pub returns-in-Err-clause-fault : goal.returns-in-Err-clause-fault
+returns-in-Err-clause-fault g c =
+    group_stops (λ (d : Emitted g.row.B.Denot). d.answer) c.in-Some.done _ _ _ _ c.in-Err.fault c.in-Some.ensures.steps.0 c.loop-done.invariant.first c.in-Err.ensures.fault refl
 
 pub loop-done-preserved : goal.loop-done-preserved
 loop-done-preserved g c =
@@ -47,9 +36,9 @@ loop-done-preserved g c =
     let one = subst (λ (l : List ends.ReceiverEnd). IsJoined hub.station list l d.transmit) was.receivers
     (subst (λ (s : Running). IsJoined hub.station s.planner.list c.loop-done.receivers d.transmit) was.station c.report_group.ensures.joined) in
     record {
-      totals = mapped_grown (λ (d : Emitted g.row.B.Denot). d.answer) _ _ d _ _ _ c.in_ok-report_group.ensures.totals next was.totals;
-      sinks = mapped_grown (λ (d : Emitted g.row.B.Denot). d.sink) _ _ d _ _ _ c.in_ok-report_group.ensures.sinks next was.sinks;
-      first = first_goes_on (λ (d : Emitted g.row.B.Denot). d.answer) d _ _ _ next c.in_ok-report_group.ensures.ended was.first;
+      totals = mapped_grown (λ (d : Emitted g.row.B.Denot). d.answer) _ _ d _ _ _ c.in-Ok.ensures.totals next was.totals;
+      sinks = mapped_grown (λ (d : Emitted g.row.B.Denot). d.sink) _ _ d _ _ _ c.in-Ok.ensures.sinks next was.sinks;
+      first = first_goes_on (λ (d : Emitted g.row.B.Denot). d.answer) d _ _ _ next c.in-Ok.ensures.ended was.first;
       over = over.1;
       joined = λ rest. was.joined (subst (AllByRecursion (λ d. IsJoined hub.station list c.args.receivers.now d.transmit)) (sym next) (one, rest));
       receivers = c.report_group.ensures.receivers ∙ was.receivers;

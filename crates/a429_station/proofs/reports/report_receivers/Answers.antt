@@ -1,33 +1,22 @@
-use Rattle.std.proofs.Common.{rules, ◌≡◌, ◌∙◌, ◌++◌, [], List, ap, append-nil, map, sym}
+use Rattle.std.proofs.Common.{rules, ◌≡◌, ◌∙◌, ◌++◌, [], List, ap, append-nil, map, refl, sym}
 use Rattle.std.specs.Prelude.{Ok}
 use Rattle.std.specs.Vec.Iter.{into_iter_items}
 use Rattle.std.proofs.lemmas.List.{nil_from_length}
 use Rattle.a429_station.specs.declared.working.Received.{Received}
 use Rattle.a429_station.proofs.Numbered.{mapped_grown}
-use Rattle.a429_station.proofs.Returned.{early_err, early_ok}
 use Rattle.a429_station.proofs.Stopping.{first_goes_on, receiver_stops}
 use Rattle.a429_station.proofs.reports.report_receivers.Goals as goal
 
-pub returns-in_err-report_receiver-clause-totals : goal.returns-in_err-report_receiver-clause-totals
-returns-in_err-report_receiver-clause-totals g c = early_ok _ _ c.from_residual.result c.from_residual.ensures.1
-
-pub returns-in_err-report_receiver-clause-sources : goal.returns-in_err-report_receiver-clause-sources
-returns-in_err-report_receiver-clause-sources g c = early_ok _ _ c.from_residual.result c.from_residual.ensures.1
-
-pub returns-in_err-report_receiver-clause-receivers : goal.returns-in_err-report_receiver-clause-receivers
-returns-in_err-report_receiver-clause-receivers g c = early_ok _ _ c.from_residual.result c.from_residual.ensures.1
-
-pub returns-in_err-report_receiver-clause-fault : goal.returns-in_err-report_receiver-clause-fault
-returns-in_err-report_receiver-clause-fault g c =
-    early_err _ c.from_residual.result c.from_residual.ensures.1
-    (λ e is. receiver_stops (λ (d : Received g.row.L.Denot). d.answer) c.in-Some.done _ _ _ _ e c.in-Some.ensures.steps.0 c.loop-done.invariant.first c.in_err-report_receiver.ensures.fault is)
+pub returns-in-Err-clause-fault : goal.returns-in-Err-clause-fault
+returns-in-Err-clause-fault g c =
+    receiver_stops (λ (d : Received g.row.L.Denot). d.answer) c.in-Some.done _ _ _ _ c.in-Err.fault c.in-Some.ensures.steps.0 c.loop-done.invariant.first c.in-Err.ensures.fault refl
 
 pub loop-done-preserved : goal.loop-done-preserved
 loop-done-preserved g c =
     let was = c.loop-done.invariant in
     let d = c.in-Some.done in
     let next = c.in-Some.ensures.steps.0 in
-    let more = c.in_ok-report_receiver.ensures in
+    let more = c.in-Ok.ensures in
     record {
       totals = mapped_grown (λ (d : Received g.row.L.Denot). d.answer) _ _ d _ _ _ more.totals next was.totals;
       sources = mapped_grown (λ (d : Received g.row.L.Denot). d.line) _ _ d _ _ _ more.sources next was.sources;

@@ -1,4 +1,4 @@
-use Rattle.std.specs.Prelude.{◌≡◌, ◌≤◌, ◌+◌, ◌++◌, ◌<◌, length, map, vec_len}
+use Rattle.std.specs.Prelude.{◌≡◌, ◌≤◌, ◌+◌, ◌++◌, ◌<◌, length, map, vec_capacity, vec_len}
 use Rattle.std.specs.List.{AllByRecursion}
 use Rattle.std.specs.Vec.Iter.{into_iter_items, into_iter_len}
 use Rattle.a429_board.specs.Lists.{beginner}
@@ -10,6 +10,7 @@ abbrev pub invariant-loop-sink : goal.invariant-loop-sink
 invariant-loop-sink g l = record {
   sinks : map (λ w. w.sink) l.workers.items ++ into_iter_items l.sink-iterator ≡ l.fn.sinks.items;
   left : length l.workers.items + into_iter_len l.sink-iterator ≡ vec_len l.fn.sinks;
+  room : length l.workers.items + into_iter_len l.sink-iterator ≤ vec_capacity l.workers;
   enough : into_iter_len l.sink-iterator ≤ vec_len l.watchers;
   watchers : AllByRecursion (λ w. w ≡ beginner l.fn.station.planner) l.watchers.items;
   desk : l.desk.at ≡ l.fn.desk.at;

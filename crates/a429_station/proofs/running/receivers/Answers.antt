@@ -1,81 +1,59 @@
-use Rattle.std.proofs.Common.{◌≡◌, ◌∙◌, ◌<◌, ◌+◌, ap, arith, refl, subst, sym}
+use Rattle.std.proofs.Common.{rules, ◌≡◌, ◌∙◌, ◌<◌, ◌+◌, ℕ, ap, arith, length, refl, subst, sym}
 use Rattle.std.specs.Prelude.{Err}
-use Rattle.a429_values.specs.declared.desk.HubFault.{HubFault}
 use Rattle.std.specs.List.{AllByRecursion}
+use Rattle.std.specs.Vec.Iter.{into_iter_items}
+use Rattle.std.proofs.lemmas.List.{nil_from_length}
+use Rattle.a429_values.specs.declared.desk.HubFault.{HubFault}
 use Rattle.a429_values.specs.Ends as ends
 use Rattle.a429_station.specs.Course.{fresh}
-use Rattle.a429_station.proofs.Numbered.{given_more, inside_of, none_taken, numbered_pushed, one_less, pushed_count, pushed_mapped}
-use Rattle.a429_station.proofs.Returned.{early_err, early_ok}
+use Rattle.a429_station.proofs.Numbered.{all_taken, given_more, has_room, inside_of, none_taken, numbered_pushed, one_less_by, pushed_count, pushed_mapped, room_left}
 use Rattle.a429_station.proofs.running.receivers.Goals as goal
-
-pub unreachable-requires : goal.unreachable-requires
-unreachable-requires g c =
-    none_taken c.loop-line.number c.loop-line.desk.receivers c.loop-line.invariant.given (c.in-Err-AlreadyTaken.ensures.taken.0 (ap (λ (f : HubFault). Err f) c.in-Err-AlreadyTaken.field-0-is))
 
 small : 8 < 9223372036854775808
 small = omega arith
 
 pub receiver-requires : goal.receiver-requires
-receiver-requires g c = (small, (c.loop-line.invariant.desk ∙ c.requires.hub, inside_of _ _ _ _ _ c.loop-line.invariant.left c.in-Some.ensures.steps.1 c.requires.sources))
+receiver-requires g c =
+    let count : length c.loop-line.workers.items ≡ c.len-number.result = omega (arith, c.len-number.ensures) in
+    let inside = inside_of _ _ _ _ _ c.loop-line.invariant.left c.in-Some.ensures.steps.1 c.requires.sources in
+    (small, (c.loop-line.invariant.desk ∙ c.requires.hub, omega (arith, count, inside)))
 
-pub returns-in-Err-NoMemory-clause-lines : goal.returns-in-Err-NoMemory-clause-lines
-returns-in-Err-NoMemory-clause-lines g c = tt
+pub unreachable-requires : goal.unreachable-requires
+unreachable-requires g c =
+    let count : length c.loop-line.workers.items ≡ c.len-number.result = omega (arith, c.len-number.ensures) in
+    none_taken c.len-number.result c.loop-line.desk.receivers (subst (λ (n : ℕ). AllByRecursion (λ y. y < n) c.loop-line.desk.receivers) count c.loop-line.invariant.given)
+    (c.in-Err-AlreadyTaken.ensures.taken.0 (ap (λ (f : HubFault). Err f) c.in-Err-AlreadyTaken.field-0-is))
 
-pub returns-in-Err-NoMemory-clause-fresh : goal.returns-in-Err-NoMemory-clause-fresh
-returns-in-Err-NoMemory-clause-fresh g c = tt
-
-pub returns-in-Err-NoMemory-clause-gates : goal.returns-in-Err-NoMemory-clause-gates
-returns-in-Err-NoMemory-clause-gates g c = tt
-
-pub returns-in-Err-NoMemory-clause-fault : goal.returns-in-Err-NoMemory-clause-fault
-returns-in-Err-NoMemory-clause-fault g c = refl
-
-pub returns-in_err-push-clause-lines : goal.returns-in_err-push-clause-lines
-returns-in_err-push-clause-lines g c = early_ok _ _ c.from_residual.result c.from_residual.ensures.1
-
-pub returns-in_err-push-clause-fresh : goal.returns-in_err-push-clause-fresh
-returns-in_err-push-clause-fresh g c = early_ok _ _ c.from_residual.result c.from_residual.ensures.1
-
-pub returns-in_err-push-clause-gates : goal.returns-in_err-push-clause-gates
-returns-in_err-push-clause-gates g c = early_ok _ _ c.from_residual.result c.from_residual.ensures.1
-
-pub returns-in_err-push-clause-desk : goal.returns-in_err-push-clause-desk
-returns-in_err-push-clause-desk g c = ap (λ (d : ends.Dealing). d.at) c.in-Ok.ensures.given ∙ c.loop-line.invariant.desk
-
-pub returns-in_err-push-clause-transmitters : goal.returns-in_err-push-clause-transmitters
-returns-in_err-push-clause-transmitters g c = ap (λ (d : ends.Dealing). d.transmitters) c.in-Ok.ensures.given ∙ c.loop-line.invariant.transmitters
-
-pub returns-in_err-push-clause-fault : goal.returns-in_err-push-clause-fault
-returns-in_err-push-clause-fault g c = early_err _ c.from_residual.result c.from_residual.ensures.1 (λ e is. is)
+pub put-requires : goal.put-requires
+put-requires g c = record { room = has_room _ _ _ _ c.loop-line.invariant.room c.in-Some.ensures.steps.1 }
 
 pub loop-line-preserved : goal.loop-line-preserved
 loop-line-preserved g c =
     let was = c.loop-line.invariant in
-    let number = c.loop-line.number in
-    let given = c.in-Ok.ensures.given in
-    let grown = c.in_ok-push.ensures.items in
+    let number = c.len-number.result in
+    let xs = c.loop-line.workers.items in
+    let ys = c.put.new.list.items in
+    let count : length xs ≡ number = omega (arith, c.len-number.ensures) in
+    let given = c.in-Ok-receiver.ensures.given in
+    let grown = c.put.ensures.items in
+    let next : number + 1 ≡ length ys = pushed_count xs ys number _ grown (sym count) in
+    let low = subst (λ (n : ℕ). AllByRecursion (λ y. y < n) c.loop-line.desk.receivers) count was.given in
     record {
-      lines = pushed_mapped (λ w. w.line) c.loop-line.workers.items c.push.new.self.items _ _ _ _ _ grown refl c.in-Some.ensures.steps.0 was.lines;
-      left = one_less _ _ _ _ was.left c.in-Some.ensures.steps.1;
-      count = pushed_count c.loop-line.workers.items c.push.new.self.items number _ grown was.count;
+      lines = pushed_mapped (λ w. w.line) xs ys _ _ _ _ _ grown refl c.in-Some.ensures.steps.0 was.lines;
+      left = one_less_by _ _ _ _ _ was.left c.in-Some.ensures.steps.1 (sym (pushed_count xs ys (length xs) _ grown refl));
+      room = room_left _ _ _ _ _ _ was.room c.in-Some.ensures.steps.1 (sym (pushed_count xs ys (length xs) _ grown refl)) c.put.ensures.capacity;
       desk = ap (λ (d : ends.Dealing). d.at) given ∙ was.desk;
       transmitters = ap (λ (d : ends.Dealing). d.transmitters) given ∙ was.transmitters;
-      given = subst (AllByRecursion (λ y. y < number + 1)) (sym (ap (λ (d : ends.Dealing). d.receivers) given)) (given_more number c.loop-line.desk.receivers was.given);
-      fresh = numbered_pushed (λ r w. w.receiver ≡ fresh c.args.hub.now r) c.loop-line.workers.items c.push.new.self.items number _ grown was.count was.fresh c.in-Ok.ensures.receiver;
-      gates = numbered_pushed (λ r w. (w.number ≡ r) × (w.gate.now ≡ c.args.gate.now)) c.loop-line.workers.items c.push.new.self.items number _ grown was.count was.gates (refl, refl);
+      given = subst (λ (n : ℕ). AllByRecursion (λ y. y < n) c.receiver.new.self.receivers) next
+          (subst (AllByRecursion (λ y. y < number + 1)) (sym (ap (λ (d : ends.Dealing). d.receivers) given)) (given_more number c.loop-line.desk.receivers low));
+      fresh = numbered_pushed (λ r w. w.receiver ≡ fresh c.args.hub.now r) xs ys number _ grown (sym count) was.fresh c.in-Ok-receiver.ensures.receiver;
+      gates = numbered_pushed (λ r w. (w.number ≡ r) × (w.gate.now ≡ c.args.gate.now)) xs ys number _ grown (sym count) was.gates (refl, refl);
     }
 
-pub returns-clause-fresh : goal.returns-clause-fresh
-returns-clause-fresh g c = c.loop-line.invariant.fresh
-
-pub returns-clause-gates : goal.returns-clause-gates
-returns-clause-gates g c = c.loop-line.invariant.gates
+pub returns-clause-workers : goal.returns-clause-workers
+returns-clause-workers g c =
+    let was = c.loop-line.invariant in
+    record { lines = all_taken _ _ _ (nil_from_length (into_iter_items c.loop-line.line-iterator) (search rules)) was.lines; fresh = was.fresh; gates = was.gates }
 
 pub returns-clause-desk : goal.returns-clause-desk
-returns-clause-desk g c = c.loop-line.invariant.desk
-
-pub returns-clause-transmitters : goal.returns-clause-transmitters
-returns-clause-transmitters g c = c.loop-line.invariant.transmitters
-
-pub returns-clause-fault : goal.returns-clause-fault
-returns-clause-fault g c = tt
+returns-clause-desk g c = (c.loop-line.invariant.desk, c.loop-line.invariant.transmitters)

@@ -1,137 +1,36 @@
-use Rattle.std.proofs.Common.{arith, ◌≡◌, ◌∙◌, ℕ, List, ap, subst, sym, refl, [], map, length, inl, inr}
-use Rattle.std.proofs.lemmas.List.{length-map}
-use Rattle.std.proofs.lemmas.Result.{IfOk-weaker}
-use Rattle.std.specs.List.{AllByRecursion}
+use Rattle.std.proofs.Common.{◌≡◌, ◌∙◌, ap, inl, length, refl, subst, sym}
+use Rattle.std.specs.Prelude.{IfErr, IfOk}
 use Rattle.a429_equipment.specs.TableRecord.{TableRecord}
-use Rattle.a429_equipment.specs.Sound.{HaveOwnSources}
-use Rattle.a429_workers.specs.Gates.{listening, points_of}
-use Rattle.a429_workers.specs.Receives.{Gives, after_words}
-use Rattle.a429_station.specs.Course.{HasRunBeside, IsHeardIn, IsSentIn, asked, done_by, fresh}
+use Rattle.a429_workers.specs.Gates.{points_of}
+use Rattle.a429_workers.specs.Runs.{IsWired}
+use Rattle.a429_station.specs.Course.{HasRunBeside, asked, done_by}
 use Rattle.a429_station.specs.Faults.{IsRunFault}
-use Rattle.a429_station.specs.Numbered.{AllOfThree}
-use Rattle.a429_station.specs.Workers.{ReportsAllEnds}
-use Rattle.a429_station.specs.Working.{IsJoined, IsOver, IsReady, IsReceiverAt, emitting}
-use Rattle.a429_station.specs.declared.reports.Report.{Report}
-use Rattle.a429_station.specs.declared.working.Emitted.{Emitted}
-use Rattle.a429_station.specs.declared.working.Received.{Received}
-use Rattle.a429_station.specs.declared.working.ReceiverWorker.{ReceiverWorker}
-use Rattle.a429_station.specs.declared.working.GroupWorker.{GroupWorker}
-use Rattle.a429_station.proofs.Ended.{AreAfter, HasHeard, HasPut, all_stopped, course_of, taken_in, group_one, group_over, heard_one, receiver_one, receiver_stays, done_between}
-use Rattle.a429_station.proofs.OneRun.{TakenIn}
-use Rattle.a429_station.proofs.Numbered.{at_most, middle, numbered_all, shown, shown_past, three_of, zip_length, zip_numbered, zip_with}
-use Rattle.a429_station.proofs.Plans.{plan_small}
-use Rattle.a429_station.proofs.Returned.{early_err, early_ok}
-use Rattle.a429_station.proofs.Stopping.{weaker}
 use Rattle.a429_station.proofs.running.run.Goals as goal
 
-pub groups-requires-clause-hub : goal.groups-requires-clause-hub
-groups-requires-clause-hub g c = c.requires.desk.0
+pub run_at-ended-requires-clause-desk : goal.run_at-ended-requires-clause-desk
+run_at-ended-requires-clause-desk g c κs lives = c.in-Ok.ensures.desk
 
-pub groups-requires-clause-none : goal.groups-requires-clause-none
-groups-requires-clause-none g c = c.requires.desk.1
+pub run_at-ended-requires-clause-hub : goal.run_at-ended-requires-clause-hub
+run_at-ended-requires-clause-hub g c κs lives = (
+  subst IsWired (sym c.in-Ok.ensures.station) (record { apart = c.sources_apart.ensures; received = λ i s there. (c.numbers_in_range.ensures.sources i s there).1 }),
+  c.in-Ok.ensures.station ∙ sym c.requires.station,
+)
 
-pub groups-requires-clause-sinks : goal.groups-requires-clause-sinks
-groups-requires-clause-sinks g c = at_most _ _ _ c.requires.sinks refl
+pub run_at-ended-requires-clause-sources : goal.run_at-ended-requires-clause-sources
+run_at-ended-requires-clause-sources g c κs lives = c.requires.sources ∙ sym (ap (λ (t : TableRecord). length t.receivers) c.in-Ok.ensures.station)
 
-pub groups-requires-clause-watchers : goal.groups-requires-clause-watchers
-groups-requires-clause-watchers g c = c.requires.watchers
+pub run_at-ended-requires-clause-sinks : goal.run_at-ended-requires-clause-sinks
+run_at-ended-requires-clause-sinks g c κs lives = c.requires.sinks ∙ sym (ap (λ (t : TableRecord). length t.groups) c.in-Ok.ensures.station)
 
-pub groups-requires-clause-enough : goal.groups-requires-clause-enough
-groups-requires-clause-enough g c = c.requires.enough
-
-pub groups-requires-clause-planned : goal.groups-requires-clause-planned
-groups-requires-clause-planned g c =
-    omega (arith, c.requires.sinks, c.requires.begun.planned.count, ap (λ (t : TableRecord). length t.groups) c.requires.hub.1)
-
-pub groups-requires-clause-small : goal.groups-requires-clause-small
-groups-requires-clause-small g c = plan_small c.args.station.now.station c.args.station.now.planner.last c.requires.begun.planned
-
-pub report_all-requires-clause-receivers : goal.report_all-requires-clause-receivers
-report_all-requires-clause-receivers g c =
-    let hub = c.args.hub.now in
-    zip_numbered _ (λ k w. w.receiver ≡ fresh hub k) (λ k d. IsReceiverAt hub k d.receiver) (λ k w d h p. receiver_stays hub k h.words d.answer w.receiver d.receiver h.taken p)
-    c.args.receiving.items c.in-Ok.done.first.items c.in-Ok.ensures.first c.requires.receivers
-
-pub report_all-requires-clause-groups : goal.report_all-requires-clause-groups
-report_all-requires-clause-groups g c =
-    let hub = c.args.hub.now in
-    let old = c.args.station.now in
-    let on = c.in-Ok.ensures.meanwhile.0 in
-    let over = zip_numbered _ (λ k w. IsReady hub old.planner k w.transmit × (w.frames ≡ c.args.frames)) (λ k d. IsOver hub c.run_at_once.new.to.planner d.transmit d.answer)
-    (λ k w d h p. group_over g.B.BusSink (points_of g.G.Gate w.gate.now) w.number hub old c.run_at_once.new.to k w.frames (emitting w.transmit w.sink) (emitting d.transmit d.sink) d.answer c.requires.hub.1 c.requires.begun on c.plans_are_of_station.ensures (omega (arith, p.1, c.requires.few)) h p.0)
-    c.in_ok-sending.sending.items c.in-Ok.done.second.items c.in-Ok.ensures.second c.in_ok-sending.ensures.ready in
-    numbered_all (λ d. IsOver hub c.run_at_once.new.to.planner d.transmit d.answer) c.in-Ok.done.second.items over
+pub returns-in_default-clause-fault : goal.returns-in_default-clause-fault
+returns-in_default-clause-fault g c = inl (refl, refl)
 
 pub returns-clause-ran : goal.returns-clause-ran
 returns-clause-ran g c =
-    let gives = Gives g.L.LineSource.given g.L.LineSource.left in
-    let ended = g.L.LineSource.ended in
-    let taken = g.B.BusSink.taken in
-    let hub = c.args.hub.now in
-    let old = c.args.station.now in
-    let new = c.run_at_once.new.to in
-    let did : ReceiverWorker g.row.L.Denot g.row.G.Denot → Received g.row.L.Denot → Type 0 = HasHeard g.L.LineSource g.B.BusSink g.G.Gate in
-    let first = c.in-Ok.ensures.first in
-    let ws = c.args.receiving.items in
-    let ds = c.in-Ok.done.first.items in
-    let show : (w : ReceiverWorker g.row.L.Denot g.row.G.Denot) (d : Received g.row.L.Denot) → did w d → List ℕ = λ w d h. h.words in
-    let came : ℕ → List ℕ = shown did show ws ds first in
-    let course = course_of old c.plans_are_of_station.ensures.later came in
-    let rs = map (λ d. d.receiver) ds in
-    let sent : GroupWorker g.row.B.Denot g.row.G.Denot g.B.BusSink g.G.Gate → Emitted g.row.B.Denot → Type 0 = HasPut g.L.LineSource g.B.BusSink g.G.Gate in
-    let both : GroupWorker g.row.B.Denot g.row.G.Denot g.B.BusSink g.G.Gate → Emitted g.row.B.Denot → Type 0 = λ w d. sent w d × IsJoined hub.station new.planner.list rs d.transmit in
-    let none : (w : GroupWorker g.row.B.Denot g.row.G.Denot g.B.BusSink g.G.Gate) (d : Emitted g.row.B.Denot) → both w d → List ℕ = λ w d h. [] in
-    let vs = c.in_ok-sending.sending.items in
-    let es = c.in-Ok.done.second.items in
-    let many : length ds ≡ length hub.station.receivers = omega (arith, zip_length did ws ds first, c.requires.all) in
-    let x : TakenIn = record { at = hub; first = old.planner; last = new.planner; course = course; receivers = rs } in
-    let by : (report : Report g.row.L.Denot g.row.B.Denot) → ReportsAllEnds hub.station new.planner.list c.in-Ok.done report
-    → HasRunBeside (done_by g.K.Control c.args.control.now c.run_at_once.new.meanwhile) g.L.LineSource g.B.BusSink (asked hub.station c.args.frames (map (λ w. w.line) ws) c.args.sinks.items) report = λ report H.
-    let lines = three_of did show (λ w. w.line) (λ d. d.line) (λ d. d.answer) (λ k w. w.receiver ≡ fresh hub k) (IsHeardIn gives ended hub.station course) came
-    (λ k w d t h p same is. heard_one g.L.LineSource (points_of g.G.Gate w.gate.now) w.number hub course k (listening w.line w.receiver) (listening d.line d.receiver) d.answer t h p same is)
-    ws ds report.receivers.items first c.requires.receivers H.receivers (λ k. refl) in
-    let after = three_of did show (λ w. w.line) (λ d. d.receiver) (λ d. d.answer) (λ k w. w.receiver ≡ fresh hub k) (λ k x r t. r ≡ after_words (fresh hub k) (came k)) came
-    (λ k w d t h p same is. receiver_one g.L.LineSource (points_of g.G.Gate w.gate.now) w.number hub k (came k) (listening w.line w.receiver) (listening d.line d.receiver) d.answer t h p same is)
-    ws ds report.receivers.items first c.requires.receivers H.receivers (λ k. refl) in
-    let each : AreAfter hub came rs = middle (λ k r. r ≡ after_words (fresh hub k) (came k)) (map (λ w. w.line) ws) rs report.receivers.items after in
-    let K = taken_in hub old new came rs c.requires.hub.1 c.requires.begun c.in-Ok.ensures.meanwhile.0 c.plans_are_of_station.ensures c.requires.hub.0 each (omega (arith, many, length-map ds (λ d. d.receiver)))
-    (λ k past. shown_past did show ws ds first k (omega (arith, past, c.requires.all))) in
-    let pairs = zip_with sent (λ d. IsJoined hub.station new.planner.list rs d.transmit) vs es c.in-Ok.ensures.second H.joined in
-    let cells = three_of both none (λ w. w.sink) (λ d. d.sink) (λ d. d.answer)
-    (λ k w. IsReady hub old.planner k w.transmit × (w.frames ≡ c.args.frames)) (IsSentIn taken c.args.frames hub.station course) (shown both none vs es pairs)
-    (λ k w d t h p same is. group_one g.B.BusSink (points_of g.G.Gate w.gate.now) w.number x c.args.frames w.frames k (emitting w.transmit w.sink) (emitting d.transmit d.sink) d.answer t K h.0 h.1 p.0 p.1 same)
-    vs es report.groups.items pairs c.in_ok-sending.ensures.ready H.groups (λ k. refl) in (
-      record {
-        course = course;
-        planned = K.planned;
-        own_sources = subst (λ (t : TableRecord). AllByRecursion HaveOwnSources t.outputs) (c.in-Ok.ensures.meanwhile.0.station ∙ sym c.requires.hub.1) c.plans_are_of_station.ensures.own_sources;
-        own_plans = c.plans_are_of_station.ensures.own;
-        few = c.requires.few;
-        heard = subst (λ l. AllOfThree (IsHeardIn gives ended hub.station course) (map (λ w. w.line) ws) l report.receivers.items) (sym H.sources) lines;
-        sent = subst (λ l. AllOfThree (IsSentIn taken c.args.frames hub.station course) c.args.sinks.items l report.groups.items) (sym H.sinks)
-            (subst (λ l. AllOfThree (IsSentIn taken c.args.frames hub.station course) l (map (λ d. d.sink) es) report.groups.items) c.in_ok-sending.ensures.sinks cells);
-      },
-      done_between (done_by g.K.Control c.args.control.now c.run_at_once.new.meanwhile) hub.station old new c.requires.hub.1 c.requires.begun c.in-Ok.ensures.meanwhile.0 c.plans_are_of_station.ensures (c.in-Ok.ensures.meanwhile.1 H.control),
-    ) in
-    IfOk-weaker c.report_all.result _ _ by c.report_all.ensures.reported
+    subst (λ (t : TableRecord). IfOk c.run_at-ended.result (HasRunBeside (done_by g.K.Control c.args.control.now c.run_at-ended.new.control) g.L.LineSource g.B.BusSink (asked t c.args.frames c.args.sources.items c.args.sinks.items)))
+    c.in-Ok.ensures.station c.run_at-ended.ensures.ran
 
--- the first fault of a worker; otherwise that of the control
 pub returns-clause-fault : goal.returns-clause-fault
 returns-clause-fault g c =
-    let ask = asked c.args.hub.now.station c.args.frames (map (λ w. w.line) c.args.receiving.items) c.args.sinks.items in
-    weaker _ (IsRunFault (c.run_at_once.new.meanwhile ≡ c.args.control.now) g.L.LineSource g.B.BusSink (points_of g.G.Gate c.args.gate.now) ask) c.report_all.result
-    (λ fault first. inr (inr (all_stopped g.L.LineSource g.B.BusSink g.G.Gate c.args.gate.now ask c.args.receiving.items c.in-Ok.done.first.items c.in_ok-sending.sending.items c.in-Ok.done.second.items fault
-    c.in-Ok.ensures.first c.requires.gates refl c.in-Ok.ensures.second c.in_ok-sending.ensures.gates c.in_ok-sending.ensures.sinks first)))
-    c.report_all.ensures.fault
-
-pub returns-in_err-sending-clause-ran : goal.returns-in_err-sending-clause-ran
-returns-in_err-sending-clause-ran g c = early_ok _ _ c.from_residual.result c.from_residual.ensures.1
-
-pub returns-in_err-sending-clause-fault : goal.returns-in_err-sending-clause-fault
-returns-in_err-sending-clause-fault g c = early_err _ c.from_residual.result c.from_residual.ensures.1 (λ e is. inl (is ∙ c.in_err-sending.ensures.fault, refl))
-
-pub returns-in_default-clause-ran : goal.returns-in_default-clause-ran
-returns-in_default-clause-ran g c = tt
-
-pub returns-in_default-clause-fault : goal.returns-in_default-clause-fault
-returns-in_default-clause-fault g c = inr (inl refl)
+    subst (λ (t : TableRecord). IfErr c.run_at-ended.result (IsRunFault (c.run_at-ended.new.control ≡ c.args.control.now) g.L.LineSource g.B.BusSink (points_of g.G.Gate c.args.gate.now) (asked t c.args.frames c.args.sources.items c.args.sinks.items)))
+    c.in-Ok.ensures.station c.run_at-ended.ensures.fault
