@@ -14,6 +14,8 @@ use std::alloc::{AllocError, Global};
 #[derive(Drop)]
 pub struct Earlier<'a> {
     pub lines: Vec<OutputLine<'a>>,
+    /// The number of the first of them.
+    pub first: usize,
     /// Whether a line lists the output at each place of the group.
     pub listed: Vec<bool>,
     /// The place of the output that the last line lists; 0 if there is no line.
@@ -54,13 +56,18 @@ fn place_from(outputs: &[DueOutput], from: usize, source: &[u8]) -> Option<usize
 }
 
 impl<'a> Earlier<'a> {
-    /// No line of a group with these outputs. Error: an allocation failed.
-    pub fn none(alloc: Global, outputs: &[DueOutput]) -> Result<Earlier<'a>, AllocError>
+    /// No line of a group with these outputs; the first one will have this number. Error: an allocation failed.
+    pub fn none(
+        alloc: Global,
+        first: usize,
+        outputs: &[DueOutput],
+    ) -> Result<Earlier<'a>, AllocError>
         ensures lines { IfOk result (λ earlier. earlier.lines.items ≡ []) }
         ensures noted { IfOk result (AreNoted outputs.now) }
     {
         Ok(Earlier {
             lines: Vec::new(alloc),
+            first,
             listed: vec![in alloc; false; outputs.len()]?,
             last: 0,
         })
@@ -80,6 +87,11 @@ impl<'a> Earlier<'a> {
             due: &group.outputs[place],
             is_listed: self.listed[place],
         })
+    }
+
+    /// The number of the line at a place of these lines.
+    pub fn number_at(&self, place: usize) -> usize {
+        self.first.saturating_add(place)
     }
 
     /// Adds a line that lists the output at a place. Error: an allocation failed.

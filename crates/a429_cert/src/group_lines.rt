@@ -1,16 +1,17 @@
 //! The lines of a group.
 
-ghost use Rattle.std.specs.Prelude.{◌≡◌, ◌≤◌, ◌<◌, ◌+◌, ◌^◌, ◌/◌, drop, length, Some, MatchResult, OnOk};
+ghost use Rattle.std.specs.Prelude.{◌≡◌, ◌≤◌, ◌<◌, ◌+◌, ◌-◌, ◌^◌, ◌/◌, drop, length, Some, MatchResult, OnOk};
 ghost use Rattle.std.specs.List.{sum_by};
 ghost use Rattle.a429_cert.specs.Views.{bounding};
 ghost use Rattle.a429_cert.specs.Lines.{lines_of};
-ghost use Rattle.a429_cert.specs.Faults.{frame, says_other_rate, group_fault, bound_fault, HasPeriods, EndsCheckBy, GivesReason, IsModest, group_faults, first_no, buses_of, bound_holds};
+ghost use Rattle.a429_cert.specs.Faults.{frame, demand, says_other_rate, group_fault, bound_fault, HasPeriods, EndsCheckBy, GivesReason, IsModest, group_faults, first_no, buses_of, bound_holds};
 
 use crate::due::DueGroup;
+use crate::expected::{Expected, LineForm};
 use crate::line::{BoundLine, GroupLine, bound_line, group_line};
 use crate::lines::Lines;
 use crate::output_lines::check_outputs;
-use crate::stops::{CheckStop, with_line_number};
+use crate::stops::{CheckStop, Fault, with_line_number};
 use crate::verdicts::Reason;
 use std::alloc::Global;
 
@@ -46,30 +47,43 @@ fn says_other_rate(said: Option<u64>, rate: u64) -> bool
 
 /// What a group's first line says, or the first reason against it.
 #[tactic(auto, unfolding(crate::specs::Faults::group_fault, crate::specs::Faults::buses_of))]
-fn checked_group<'a>(
-    version: u32,
-    group: &DueGroup,
-    line: &'a [u8],
-) -> Result<GroupLine<'a>, Reason>
+fn checked_group<'a>(version: u32, group: &DueGroup, line: &'a [u8]) -> Result<GroupLine<'a>, Fault>
     ensures fault { GivesReason result (group_fault version group.now line.now) }
     ensures says { MatchResult result (λ l. (l.buses ≡ buses_of version line.now) × (1 ≤ l.buses) × (l.buses ≤ 16)) (λ _. Unit {0}) }
 {
     let Some(said) = group_line(version, line) else {
-        return Err(Reason::Form);
+        return Err(Fault::new(Reason::Form, Expected::Form(LineForm::Group(version))));
     };
     if says_other_rate(said.rate, group.rate) {
-        return Err(Reason::Rate);
+        return Err(Fault::new(Reason::Rate, Expected::Number(group.rate)));
     }
     if said.name != group.name.as_str().as_bytes() {
-        return Err(Reason::Group);
+        return Err(Fault::new(Reason::Group, Expected::Name(group.name)));
     }
-    if said.frame != frame(group) {
-        return Err(Reason::Frame);
+    let frame = frame(group);
+    if said.frame != frame {
+        return Err(Fault::new(Reason::Frame, Expected::Number(frame)));
     }
     if said.buses == 0 || said.buses > 16 {
-        return Err(Reason::Buses);
+        return Err(Fault::new(Reason::Buses, Expected::Rule));
     }
     Ok(said)
+}
+
+/// What the last line of a group on this number of buses has to state.
+fn due_bound(group: &DueGroup, buses: u64) -> BoundLine
+    requires modest { IsModest group.now }
+    requires some { 1 ≤ buses }
+    ensures demand { result.demand ≡ demand group.now }
+    ensures full { result.full_buses ≡ buses - 1 }
+    ensures frame { result.frame ≡ frame group.now }
+{
+    let frame = frame(group);
+    BoundLine {
+        demand: demand(group, frame),
+        full_buses: buses - 1,
+        frame,
+    }
 }
 
 /// Whether a group's last line states its demand, and that this number of buses is the fewest.
@@ -79,8 +93,8 @@ fn bound_holds(group: &DueGroup, buses: u64, said: BoundLine) -> bool
     requires few { buses ≤ 16 }
     ensures { result ≡ bound_holds group.now buses (bounding said) }
 {
-    let frame = frame(group);
-    if said.demand != demand(group, frame) || said.full_buses != buses - 1 || said.frame != frame {
+    let due = due_bound(group, buses);
+    if said.demand != due.demand || said.full_buses != due.full_buses || said.frame != due.frame {
         return false;
     }
     said.full_buses * said.frame < said.demand && said.demand <= buses * said.frame
@@ -88,19 +102,19 @@ fn bound_holds(group: &DueGroup, buses: u64, said: BoundLine) -> bool
 
 /// The first reason against a group's last line.
 #[tactic(auto, unfolding(crate::specs::Faults::bound_fault))]
-fn checked_bound(group: &DueGroup, buses: u64, line: &[u8]) -> Result<(), Reason>
+fn checked_bound(group: &DueGroup, buses: u64, line: &[u8]) -> Result<(), Fault>
     requires modest { IsModest group.now }
     requires some { 1 ≤ buses }
     requires few { buses ≤ 16 }
     ensures { GivesReason result (bound_fault group.now buses line.now) }
 {
     let Some(said) = bound_line(line) else {
-        return Err(Reason::Form);
+        return Err(Fault::new(Reason::Form, Expected::Form(LineForm::Bound)));
     };
     if bound_holds(group, buses, said) {
         Ok(())
     } else {
-        Err(Reason::Bound)
+        Err(Fault::new(Reason::Bound, Expected::Bound(due_bound(group, buses))))
     }
 }
 

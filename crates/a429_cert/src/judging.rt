@@ -1,13 +1,13 @@
 //! The verdict on a plan text by an equipment.
 
-ghost use Rattle.std.specs.Prelude.{◌≡◌, IfOk, IfErr};
+ghost use Rattle.std.specs.Prelude.{◌≡◌, None, IfOk, IfErr};
 ghost use Rattle.a429_cert.specs.declared.due.DueTable.{DueTable as Due};
 ghost use Rattle.a429_cert.specs.Due.{IsDue};
-ghost use Rattle.a429_cert.specs.Verdicts.{verdict};
+ghost use Rattle.a429_cert.specs.Verdicts.{verdict, verdict_of};
 ghost use Rattle.a429_cert.specs.Judged.{IsNoVerdict, ShowsFewest};
 
 use crate::due::due_of;
-use crate::stops::CheckStop;
+use crate::stops::{CheckStop, Refusal};
 use crate::table_lines::check_lines;
 use crate::verdicts::Verdict;
 use a429_equipment::Equipment;
@@ -48,10 +48,31 @@ impl<T: Drop> From<AllocFailed<T>> for NoVerdict {
     }
 }
 
-/// Judges a plan text by an equipment (profile: plan text, in the version of the equipment table). The text is compared
-/// line by line with the table. The verdict is the first line that fails, counted from 1, with the first reason that
-/// fits it; `Fewest` if no line fails. Errors: `Unfit`, the first output in table order whose interval allows no grid
-/// period at the bit rate of its group; `NoMemory`, an allocation failed.
+/// The refusal of a plan text by an equipment (profile: plan text, in the version of the equipment table). The text is
+/// compared line by line with the table. The refusal is that of the first line that fails, counted from 1, with the first
+/// reason that fits it; `None` if no line fails. Errors: `Unfit`, the first output in table order whose interval allows no
+/// grid period at the bit rate of its group; `NoMemory`, an allocation failed.
+pub fn refusal_of(
+    alloc: Global,
+    equipment: &Equipment,
+    text: &[u8],
+) -> Result<Option<Refusal>, NoVerdict>
+    // The first line that fails, with its first reason.
+    ensures answer { IfOk result (λ r. (t : Due) × IsDue equipment.now t × (verdict_of r ≡ verdict t text.now)) }
+    // Of each group the text states a plan, and no schedule that serves the group has fewer buses.
+    ensures fewest { IfOk result (λ r. r ≡ None → ShowsFewest equipment.now text.now) }
+    ensures fault { IfErr result (IsNoVerdict equipment.now) }
+{
+    fewest_by_demand();
+    let due = due_of(alloc, equipment)?;
+    match check_lines(alloc, &due, text) {
+        Ok(()) => Ok(None),
+        Err(CheckStop::Refused(refusal)) => Ok(Some(refusal)),
+        Err(CheckStop::Memory) => Err(NoVerdict::NoMemory),
+    }
+}
+
+/// Judges a plan text by an equipment: the verdict is `Fewest`, or `No` with what `refusal_of` answers. Errors: the same.
 pub fn judge(alloc: Global, equipment: &Equipment, text: &[u8]) -> Result<Verdict, NoVerdict>
     // The first line that fails, with its first reason.
     ensures answer { IfOk result (λ v. (t : Due) × IsDue equipment.now t × (v ≡ verdict t text.now)) }
@@ -59,11 +80,9 @@ pub fn judge(alloc: Global, equipment: &Equipment, text: &[u8]) -> Result<Verdic
     ensures fewest { IfOk result (λ v. v ≡ Verdict.Fewest → ShowsFewest equipment.now text.now) }
     ensures fault { IfErr result (IsNoVerdict equipment.now) }
 {
-    fewest_by_demand();
-    let due = due_of(alloc, equipment)?;
-    match check_lines(alloc, &due, text) {
-        Ok(()) => Ok(Verdict::Fewest),
-        Err(CheckStop::Refused(refused)) => Ok(Verdict::No(refused)),
-        Err(CheckStop::Memory) => Err(NoVerdict::NoMemory),
+    match refusal_of(alloc, equipment, text) {
+        Ok(None) => Ok(Verdict::Fewest),
+        Ok(Some(refusal)) => Ok(Verdict::No(refusal.no())),
+        Err(none) => Err(none),
     }
 }

@@ -2,7 +2,7 @@
 //!
 //! `plan_text` is the text of a proposal, with the bound that shows how few buses are enough. `check` reads a table and
 //! a text from any author, and answers `Fewest`, or the first line that is wrong with the reason. `judge` does the same
-//! with an equipment that was read before.
+//! with an equipment that was read before, and `refusal_of` also says what was expected at that line.
 //!
 //! ```text
 //! let Ok(proposal) = Proposal::of(alloc, equipment) else {
@@ -14,22 +14,22 @@
 //! Some(check(alloc, table, &text))
 //! ```
 //!
-//! If a text is wrong, the verdict has the line and the reason:
+//! If a text is wrong, the refusal has the line, the reason and what was expected:
 //!
 //! ```text
-//! match verdict {
-//!     Verdict::Fewest => None,
-//!     Verdict::No(no) => Some(Objection {
-//!         line: no.line,
-//!         reason: no.reason.text(),
-//!     }),
-//! }
+//! let no = refusal.no();
+//! Some(Objection {
+//!     line: no.line,
+//!     reason: no.reason.text(),
+//!     expected: format!(in alloc; "{}", refusal.expected()).ok()?,
+//! })
 //! ```
 #![tactic(auto)]
 
 mod checking;
 mod due;
 mod earlier;
+mod expected;
 mod group_lines;
 mod judging;
 pub mod laws;
@@ -42,6 +42,9 @@ mod text;
 mod verdicts;
 
 pub use checking::{CheckFault, check};
-pub use judging::{NoVerdict, judge};
+pub use expected::{Expected, LineForm};
+pub use judging::{NoVerdict, judge, refusal_of};
+pub use line::BoundLine;
+pub use stops::Refusal;
 pub use text::{plan_text, write_heading};
 pub use verdicts::{No, Reason, Verdict};

@@ -1,6 +1,6 @@
 //! The lines of a group's outputs.
 
-ghost use Rattle.std.specs.Prelude.{◌≡◌, ◌<◌, ◌+◌, ◌^◌, map, drop, length, MatchResult, OnOk, All};
+ghost use Rattle.std.specs.Prelude.{◌≡◌, ◌<◌, ◌+◌, ◌^◌, map, drop, length, is_some, MatchResult, OnOk, All};
 ghost use Rattle.std.specs.List.{list_any};
 ghost use Rattle.a429_cert.specs.Views.{listing};
 ghost use Rattle.a429_cert.specs.Lines.{lines_of};
@@ -9,10 +9,11 @@ ghost use Rattle.a429_cert.specs.Faults.{shares, differ_by_class, same_limit, sa
 
 use crate::due::DueGroup;
 use crate::earlier::Earlier;
+use crate::expected::{Expected, LineForm};
 use crate::line::{OutputLine, output_line};
 use crate::lines::Lines;
-use crate::stops::CheckStop;
-use crate::verdicts::{No, Reason};
+use crate::stops::{CheckStop, Fault};
+use crate::verdicts::Reason;
 use std::alloc::Global;
 
 /// Whether two outputs share no cell because their periods are multiples of 16 and their offsets differ modulo 16. This is
@@ -39,13 +40,13 @@ fn shares(first: &OutputLine<'_>, second: &OutputLine<'_>) -> bool
     first.offset % period == second.offset % period
 }
 
-/// Whether an output shares its cells with an earlier one.
-fn shares_any(line: &OutputLine<'_>, earlier: &[OutputLine<'_>]) -> bool
+/// The place of the first earlier line whose output shares its cells with this one.
+fn first_sharing(line: &OutputLine<'_>, earlier: &[OutputLine<'_>]) -> Option<usize>
     requires line { 0 < line.now.period }
     requires earlier { All (λ l. 0 < l.period) earlier.now }
-    ensures { result ≡ list_any (shares (listing line.now)) (map listing earlier.now) }
+    ensures { is_some result ≡ list_any (shares (listing line.now)) (map listing earlier.now) }
 {
-    earlier.iter().any(|other| shares(line, other))
+    earlier.iter().position(|other| shares(line, other))
 }
 
 /// Whether two limits are both none, or the same number.
@@ -81,32 +82,32 @@ fn checked_output<'a>(
     buses: u64,
     earlier: &Earlier<'_>,
     line: &'a [u8],
-) -> Result<CheckedLine<'a>, Reason>
+) -> Result<CheckedLine<'a>, Fault>
     requires modest { IsModest group.now }
     requires noted { AreNoted group.now.outputs.items earlier.now }
     ensures fault { GivesReason result (output_fault version group.now buses (map listing earlier.now.lines.items) line.now) }
     ensures says { MatchResult result (IsNextLine version group.now line.now) (λ _. Unit {0}) }
 {
     let Some(said) = output_line(version, line) else {
-        return Err(Reason::Form);
+        return Err(Fault::new(Reason::Form, Expected::Form(LineForm::Output(version))));
     };
     let Some(output) = earlier.output_of(group, said.source) else {
-        return Err(Reason::Output);
+        return Err(Fault::new(Reason::Output, Expected::Rule));
     };
     if output.is_listed {
-        return Err(Reason::Output);
+        return Err(Fault::new(Reason::Output, Expected::Rule));
     }
     if said.period != output.due.period {
-        return Err(Reason::Period);
+        return Err(Fault::new(Reason::Period, Expected::Number(output.due.period)));
     }
     if buses <= said.bus || said.period <= said.offset {
-        return Err(Reason::Place);
+        return Err(Fault::new(Reason::Place, Expected::Rule));
     }
-    if shares_any(&said, &earlier.lines) {
-        return Err(Reason::Shared);
+    if let Some(place) = first_sharing(&said, &earlier.lines) {
+        return Err(Fault::new(Reason::Shared, Expected::Apart(earlier.number_at(place))));
     }
     if says_other_hold(said.hold, output.due.hold) {
-        return Err(Reason::Hold);
+        return Err(Fault::new(Reason::Hold, Expected::Hold(output.due.hold)));
     }
     Ok(CheckedLine {
         said,
@@ -129,17 +130,12 @@ pub fn check_outputs(
     ensures answer { EndsCheckBy result (first_no number (all_output_faults version group.now buses (lines_of lines.old.rest.now))) }
     ensures rest { OnOk result (lines_of lines.new.rest.now ≡ drop (length group.now.outputs.items) (lines_of lines.old.rest.now)) }
 {
-    let mut earlier = Earlier::none(alloc, &group.outputs)?;
+    let mut earlier = Earlier::none(alloc, number, &group.outputs)?;
     for place in 0..group.outputs.len() {
         let line = lines.next_line();
         match checked_output(version, group, buses, &earlier, line) {
             Ok(checked) => earlier.add(checked.said, checked.place)?,
-            Err(reason) => {
-                return Err(CheckStop::Refused(No {
-                    reason,
-                    line: number + place,
-                }));
-            }
+            Err(fault) => return Err(CheckStop::Refused(fault.at_line(number + place))),
         }
     }
     Ok(())

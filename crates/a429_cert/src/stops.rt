@@ -2,8 +2,80 @@
 
 ghost use Rattle.std.specs.Prelude.{◌≡◌, Ok, Err, MatchResult};
 
+use crate::expected::Expected;
 use crate::verdicts::{No, Reason};
 use std::alloc::{AllocError, AllocFailed};
+use std::marker::Model;
+
+/// Why a line is refused, and what was expected. Clauses see the reason.
+#[derive(Drop)]
+pub struct Fault {
+    reason: Reason,
+    expected: Expected,
+}
+
+impl Model for Fault {
+    ghost use Rattle.a429_cert.specs.declared.verdicts.Reason.{Reason};
+
+    ghost Value = { Reason };
+
+    ghost view = { λ f. f.reason };
+}
+
+/// The refusal of a line, and what was expected there. Clauses see the line with the reason.
+#[derive(Drop)]
+pub struct Refusal {
+    no: No,
+    expected: Expected,
+}
+
+impl Model for Refusal {
+    ghost use Rattle.a429_cert.specs.declared.verdicts.No.{No};
+
+    ghost Value = { No };
+
+    ghost view = { λ r. r.no };
+}
+
+impl Fault {
+    ghost use Rattle.std.specs.Prelude.{◌≡◌};
+
+    /// This reason against a line, if this was expected.
+    pub fn new(reason: Reason, expected: Expected) -> Fault
+        ensures { result ≡ reason }
+    {
+        Fault { reason, expected }
+    }
+
+    /// The refusal of the line with this number.
+    pub fn at_line(self, line: usize) -> Refusal
+        ensures { result ≡ record { reason = self; line = line } }
+    {
+        Refusal {
+            no: No {
+                reason: self.reason,
+                line,
+            },
+            expected: self.expected,
+        }
+    }
+}
+
+impl Refusal {
+    ghost use Rattle.std.specs.Prelude.{◌≡◌};
+
+    /// The line with the reason.
+    pub fn no(&self) -> No
+        ensures { result ≡ self.now }
+    {
+        self.no
+    }
+
+    /// What was expected, for people: no clause is about it.
+    pub fn expected(&self) -> Expected {
+        self.expected
+    }
+}
 
 /// What ends a check early.
 #[derive(Drop)]
@@ -11,7 +83,7 @@ pub enum CheckStop {
     /// An allocation failed.
     Memory,
     /// A line is refused.
-    Refused(No),
+    Refused(Refusal),
 }
 
 impl From<AllocError> for CheckStop {
@@ -37,11 +109,11 @@ impl<T: Drop> From<AllocFailed<T>> for CheckStop {
 }
 
 /// What a line says, or the refusal of the line with this number.
-pub fn with_line_number<T: Drop>(line: usize, said: Result<T, Reason>) -> Result<T, CheckStop>
+pub fn with_line_number<T: Drop>(line: usize, said: Result<T, Fault>) -> Result<T, CheckStop>
     ensures { MatchResult said (λ x. result ≡ Ok x) (λ r. result ≡ Err (CheckStop.Refused (record { reason = r; line = line }))) }
 {
     match said {
         Ok(said) => Ok(said),
-        Err(reason) => Err(CheckStop::Refused(No { reason, line })),
+        Err(fault) => Err(CheckStop::Refused(fault.at_line(line))),
     }
 }

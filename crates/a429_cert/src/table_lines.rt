@@ -5,43 +5,44 @@ ghost use Rattle.a429_cert.specs.Lines.{lines_of};
 ghost use Rattle.a429_cert.specs.Faults.{rate_fault, plan_fault, end_fault, EndsCheckBy, GivesReason, IsModest, groups_faults, first_no, faults, due};
 
 use crate::due::{DueGroup, DueTable};
+use crate::expected::{Expected, LineForm};
 use crate::group_lines::check_group;
 use crate::line::{plan_line, rate_line};
 use crate::lines::Lines;
-use crate::stops::{CheckStop, with_line_number};
+use crate::stops::{CheckStop, Fault, with_line_number};
 use crate::verdicts::Reason;
 use std::alloc::Global;
 
 /// Checks that no line is left.
-fn checked_end(lines: &mut Lines<'_>) -> Result<(), Reason>
+fn checked_end(lines: &mut Lines<'_>) -> Result<(), Fault>
     ensures { GivesReason result (end_fault (lines_of lines.old.rest.now)) }
 {
     if lines.next_line().is_empty() {
         Ok(())
     } else {
-        Err(Reason::Form)
+        Err(Fault::new(Reason::Form, Expected::Form(LineForm::End)))
     }
 }
 
 /// Checks the first line, which states the version.
 #[tactic(auto, unfolding(crate::specs::Faults::plan_fault))]
-fn checked_plan(version: u32, line: &[u8]) -> Result<(), Reason>
+fn checked_plan(version: u32, line: &[u8]) -> Result<(), Fault>
     ensures { GivesReason result (plan_fault version line.now) }
 {
     match plan_line(line) {
         Some(said) if said == u64::from(version) => Ok(()),
-        _ => Err(Reason::Form),
+        _ => Err(Fault::new(Reason::Form, Expected::Form(LineForm::Plan(version)))),
     }
 }
 
 /// Checks the line of the bit rate that all groups have.
 #[tactic(auto, unfolding(crate::specs::Faults::rate_fault))]
-fn checked_rate(rate: u64, line: &[u8]) -> Result<(), Reason>
+fn checked_rate(rate: u64, line: &[u8]) -> Result<(), Fault>
     ensures { GivesReason result (rate_fault rate line.now) }
 {
     match rate_line(line) {
-        None => Err(Reason::Form),
-        Some(said) if said != rate => Err(Reason::Rate),
+        None => Err(Fault::new(Reason::Form, Expected::Form(LineForm::Rate))),
+        Some(said) if said != rate => Err(Fault::new(Reason::Rate, Expected::Number(rate))),
         Some(_) => Ok(()),
     }
 }

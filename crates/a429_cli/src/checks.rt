@@ -10,7 +10,7 @@ ghost use Rattle.a429_console.specs.RefusalText.{OrMemory};
 ghost use Rattle.a429_console.specs.Tables.{IsUnfitNamed};
 
 use crate::replies::reply::Reply;
-use a429_cert::{NoVerdict, Verdict, judge};
+use a429_cert::{NoVerdict, Refusal, Verdict, refusal_of};
 use a429_console::answered::{Found, Objection};
 use a429_console::files::FileReader;
 use a429_console::files::reading::read_file;
@@ -24,22 +24,21 @@ use std::io;
 use std::io::Write;
 use std::marker::Model;
 
-/// What a verdict finds wrong, for a hint.
-fn objection_of(verdict: Verdict) -> Option<Objection> {
-    match verdict {
-        Verdict::Fewest => None,
-        Verdict::No(no) => Some(Objection {
-            line: no.line,
-            reason: no.reason.text(),
-        }),
-    }
+/// What is wrong with the line that is refused, for a hint. `None`: no line is refused, or an allocation failed.
+fn objection_of(alloc: Global, refusal: Option<Refusal>) -> Option<Objection> {
+    let refusal = refusal?;
+    let no = refusal.no();
+    Some(Objection {
+        line: no.line,
+        reason: no.reason.text(),
+        expected: format!(in alloc; "{}", refusal.expected()).ok()?,
+    })
 }
 
-/// A verdict on the text of a plan, and what it was judged by, for a hint. Clauses see the verdict.
+/// The refusal of the text of a plan, if it is refused, and the text, for a hint. Clauses see the verdict.
 #[derive(Drop)]
 struct JudgedText {
-    verdict: Verdict,
-    equipment: Equipment,
+    refusal: Option<Refusal>,
     text: Vec<u8>,
 }
 
@@ -48,7 +47,9 @@ impl Model for JudgedText {
 
     ghost Value = { Verdict };
 
-    ghost view = { λ j. j.verdict };
+    ghost use Rattle.a429_cert.specs.Verdicts.{verdict_of};
+
+    ghost view = { λ j. verdict_of j.refusal };
 }
 
 impl JudgedText {
@@ -58,16 +59,18 @@ impl JudgedText {
     fn verdict(&self) -> Verdict
         ensures { result ≡ self.now }
     {
-        self.verdict
+        match &self.refusal {
+            None => Verdict::Fewest,
+            Some(refusal) => Verdict::No(refusal.no()),
+        }
     }
 
     /// What the verdict finds wrong, for a hint.
-    fn into_found(self) -> Found {
-        match objection_of(self.verdict) {
+    fn into_found(self, alloc: Global) -> Found {
+        match objection_of(alloc, self.refusal) {
             None => Found::Nothing,
             Some(objection) => Found::Objection {
                 objection,
-                equipment: self.equipment,
                 text: self.text,
             },
         }
@@ -88,12 +91,8 @@ fn verdict_on(alloc: Global, table: &[u8], text: Vec<u8>) -> Result<JudgedText, 
     ensures { MatchResult result (IsVerdictOnBytes table.now text.items) (OrMemory (IsUnjudged table.now)) }
 {
     let equipment = read_table(alloc, table)?;
-    match judge(alloc, &equipment, &text) {
-        Ok(verdict) => Ok(JudgedText {
-            verdict,
-            equipment,
-            text,
-        }),
+    match refusal_of(alloc, &equipment, &text) {
+        Ok(refusal) => Ok(JudgedText { refusal, text }),
         Err(NoVerdict::Unfit { group, output }) => { Err(refuse_unfit(equipment, group, output)) }
         Err(NoVerdict::NoMemory) => Err(Refused::plain(CommandRefusal::Memory)),
     }
@@ -141,7 +140,7 @@ fn verdict_reply(alloc: Global, verdict: JudgedText) -> Result<Reply, Refused>
         return Err(Refused::plain(CommandRefusal::Memory));
     };
     let status = verdict_status(verdict.verdict());
-    let found = verdict.into_found();
+    let found = verdict.into_found(alloc);
     Ok(Reply {
         bytes,
         status,

@@ -3,17 +3,19 @@ ghost use Rattle.std.specs.Prelude.{◌≡◌};
 
 use crate::output::OutputFault;
 use crate::refusals::Refused;
-use a429_equipment::Equipment;
 use a429_text::Sheet;
 use std::marker::Model;
 
 /// A line of a plan's text that is not as its table asks.
-#[derive(Clone, Copy)]
+#[derive(Drop)]
 pub struct Objection {
     /// Its number, from 1.
     pub line: usize,
     /// The reason that `check` prints.
     pub reason: &'static str,
+    /// What the line must state: a value, its whole form, or for `shared` the number of the earlier line. Empty: the rule
+    /// of the reason says all, or the text must end before this line.
+    pub expected: String,
 }
 
 /// What an answer that is no refusal leaves for a hint.
@@ -22,12 +24,8 @@ pub enum Found {
     Nothing,
     /// What `lint` found of a table, or the rows of `judge`.
     Rows(Sheet),
-    /// What `check` found wrong in the text of a plan for the station of this equipment.
-    Objection {
-        objection: Objection,
-        equipment: Equipment,
-        text: Vec<u8>,
-    },
+    /// What `check` found wrong in the text of a plan.
+    Objection { objection: Objection, text: Vec<u8> },
 }
 
 /// What a command answered. Clauses see its status.

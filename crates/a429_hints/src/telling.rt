@@ -1,6 +1,6 @@
 //! Chooses the hints for what a command read and refused.
 
-use crate::checks::{JudgedText, tell_objection};
+use crate::checks::tell_objection;
 use crate::clocks::{tell_apart, tell_clocks};
 use crate::differences::tell_difference;
 use crate::faults::tell_table_fault;
@@ -81,17 +81,9 @@ fn tell_answered(asked: &Asked, answered: &Answered, hint: &HintText) {
     match answered.found() {
         Found::Nothing => {}
         Found::Rows(rows) => tell_found(asked, rows, hint),
-        Found::Objection {
-            objection,
-            equipment,
-            text,
-        } => {
-            let judged = JudgedText {
-                equipment,
-                text: text.as_slice(),
-            };
+        Found::Objection { objection, text } => {
             hint.turn_to(text_name(asked));
-            tell_objection(judged, *objection, hint);
+            tell_objection(text, objection, hint);
         }
     }
 }

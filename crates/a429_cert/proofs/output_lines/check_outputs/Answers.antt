@@ -11,7 +11,7 @@ returns-in-Err-clause-answer c =
     let i = c.loop-place.invariant in
     let lt : c.loop-place.place < length c.args.group.now.outputs.items = search rules in
     let here = fault_here c.args.version c.args.group.now c.args.buses c.loop-place.place (lines_of c.args.lines.now.rest.now) _ _ _ _ i.listed i.rest c.next_line-line.ensures.line c.in-Err.ensures.fault in
-    i.answer ∙ step_ends c.args.version c.args.group.now c.args.buses c.args.number c.loop-place.place (length c.args.group.now.outputs.items) (lines_of c.args.lines.now.rest.now) c.in-Err.reason lt here
+    rw c.at_line.ensures (i.answer ∙ step_ends c.args.version c.args.group.now c.args.buses c.args.number c.loop-place.place (length c.args.group.now.outputs.items) (lines_of c.args.lines.now.rest.now) c.in-Err.fault lt here)
 
 pub loop-place-preserved : goal.loop-place-preserved
 loop-place-preserved c =
