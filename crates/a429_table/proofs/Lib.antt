@@ -16,3 +16,4 @@ pub mod ShortNames
 pub mod RepeatedRows
 pub mod AtKeys
 pub mod Written
+mod MoreRows

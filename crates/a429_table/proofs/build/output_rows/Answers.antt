@@ -1,0 +1,18 @@
+use Rattle.std.proofs.Common.{◌+◌, ◌∷◌, ap, arith, drop, map, refl, sym}
+use Rattle.toml.specs.View.{view}
+use Rattle.a429_equipment.specs.declared.rows.OutputRow.{OutputRow}
+use Rattle.a429_table.specs.Stated.{output_row}
+use Rattle.a429_table.specs.Stops.{table_of}
+use Rattle.a429_table.proofs.MoreRows.{none_left, none_so_far, one_more}
+use Rattle.a429_table.proofs.build.output_rows.Goals as goal
+
+pub loop-table-init : goal.loop-table-init
+loop-table-init c = none_so_far (λ tables. map (output_row (table_of c.args.index.now)) (map view tables)) c.args.tables.now c.new-rows.result.items c.new-rows.ensures.items
+
+pub loop-table-preserved : goal.loop-table-preserved
+loop-table-preserved c =
+    one_more (λ tables. map (output_row (table_of c.args.index.now)) (map view tables)) c.args.tables.now c.loop-table.table-index c.table-item.result c.output_row.result c.loop-table.rows.items _ _ c.loop-table-test.true c.table-item.is
+    (ap (λ (row : OutputRow). row ∷ map (output_row (table_of c.args.index.now)) (map view (drop (c.loop-table.table-index + 1) c.args.tables.now))) (sym c.output_row.ensures)) c.loop-table.invariant c.in_ok-push.ensures.items
+
+pub returns : goal.returns
+returns c = none_left (λ tables. map (output_row (table_of c.args.index.now)) (map view tables)) c.args.tables.now c.loop-table.table-index c.loop-table.rows.items _ refl (omega arith) c.loop-table.invariant
