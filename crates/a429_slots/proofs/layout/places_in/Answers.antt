@@ -1,4 +1,8 @@
-use Rattle.std.proofs.Common.{◌≡◌, ◌<◌, ◌∙◌, ◌/◌, ◌%◌, ◌^◌, ℕ, List, ap, arith, length, rules}
+use prog.Memory.{size}
+use denote.Param.{layout, number, param}
+use Rattle.a429_pack.specs.contracts.sums.SumTable.{the_row}
+use borrow.Author.Count.{falls}
+use Rattle.std.proofs.Common.{◌≡◌, ◌<◌, ◌≤◌, ◌∙◌, ◌/◌, ◌%◌, ◌^◌, ℕ, List, ap, arith, length}
 use Rattle.std.proofs.lemmas.List.{length-replicate, length-set}
 use Rattle.a429_grid.specs.Reversal.{reversed}
 use Rattle.a429_pack.specs.Layout.{IsLaidOut}
@@ -6,13 +10,18 @@ use Rattle.a429_pack.specs.Orders.{NamesEachOnce}
 use Rattle.a429_pack.specs.Sums.{start_of}
 use Rattle.a429_slots.proofs.Columns.{kept_from_zeros, placed_more, zeros, zeros_more}
 use Rattle.a429_slots.proofs.layout.places_in.Goals as goal
+use Rattle.a429_slots.proofs.layout.places_in.Goals.{Start}
+
+-- the running sums take less than half of the addresses, as the layout that they are a part of
+sums_fit : (g : _) → Start g → size (layout (the_row (param 0 (number g.row.N)))) < 2 ^ 63
+sums_fit g c = omega arith
 
 pub start-start-requires : goal.start-start-requires
 start-start-requires g c =
     let laid : IsLaidOut c.args.packed.now = c.frame-frame.ensures.laid_out in
     let each : NamesEachOnce (length c.args.packed.now.demands) c.args.packed.now.inputs =
     c.orders_name_each_once.ensures (length c.args.packed.now.demands) c.args.packed.now.inputs laid.inputs in
-    (search rules, omega (arith, each.length, ap length c.sums.ensures.value))
+    (sums_fit g c.before.before.before.before.before.before, omega (arith, each.length, ap length c.sums.ensures.value))
 
 pub loop-place-init : goal.loop-place-init
 loop-place-init g c = record {
@@ -56,3 +65,24 @@ returns-clause-bus_rest g c =
 pub returns-clause-offset_rest : goal.returns-clause-offset_rest
 returns-clause-offset_rest g c =
     kept_from_zeros g.row.N (length c.args.packed.now.inputs) c.loop-place.offsets c.loop-place.invariant.wide_offsets (omega (arith, c.len-place-end.ensures.value, c.len-place-end.ensures.room)) c.loop-place.invariant.offset_rest
+
+pub frame-frame-requires : goal.frame-frame-requires
+frame-frame-requires g c = assumption
+
+pub len-place-end-requires : goal.len-place-end-requires
+len-place-end-requires g c = assumption
+
+pub sums-requires : goal.sums-requires
+sums-requires g c = (assumption, sums_fit g c.before.before.before.before.before)
+
+below : (k l e p : ℕ) → k < l → e ≡ l → e ≤ p → k < p
+below k l e p inside same all = omega arith
+
+pub loop-place-smaller : goal.loop-place-smaller
+loop-place-smaller g c = falls c.len-place-end.result c.loop-place.place c.loop-place-test.true
+
+pub returns-clause-bus : goal.returns-clause-bus
+returns-clause-bus g c k inside = c.loop-place.invariant.bus k (below _ _ _ _ inside c.len-place-end.ensures.value c.loop-place-test.false)
+
+pub returns-clause-offset : goal.returns-clause-offset
+returns-clause-offset g c k inside = c.loop-place.invariant.offset k (below _ _ _ _ inside c.len-place-end.ensures.value c.loop-place-test.false)

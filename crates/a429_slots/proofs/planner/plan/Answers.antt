@@ -1,4 +1,9 @@
-use Rattle.std.proofs.Common.{◌<◌, ◌≤◌, ◌∙◌, List, [], length, rules, subst, sym}
+use borrow.Author.Count.{falls}
+use prog.Memory.{size, up}
+use denote.Param.{layout, number, param}
+use Rattle.a429_slots.specs.contracts.group_plan.GroupPlan.{the_row}
+use Rattle.a429_slots.specs.contracts.plans.Plan as plan
+use Rattle.std.proofs.Common.{ℕ, ◌+◌, ◌*◌, ◌^◌, arith, ◌<◌, ◌≤◌, ◌∙◌, List, [], length, subst, sym}
 use Rattle.std.specs.List.{AllByRecursion, AllZip}
 use Rattle.a429_word.proofs.Lists.{all_at}
 use Rattle.a429_equipment.specs.Sound.{IsSound, IsInterval}
@@ -10,6 +15,17 @@ use Rattle.a429_equipment.specs.declared.rows.SourceRow.{SourceRow}
 use Rattle.a429_slots.proofs.Planning.{rate_in_group, all_planned, room_for, rated_at, fault_in, planned_next, could_next}
 use Rattle.a429_slots.specs.Faults.{IsFaultOf}
 use Rattle.a429_slots.proofs.planner.plan.Goals as goal
+use Rattle.a429_slots.proofs.planner.plan.Goals.{Start}
+
+-- eight of them take less than half of the addresses
+part_fits : (s : ℕ) → up 8 (up 8 (8 + 8 * s) + 8) < 2 ^ 63 → s < 2 ^ 63
+part_fits s all = omega arith
+
+plan_fits : (g : _) → Start g → size (layout (plan.the_row (param 0 (number g.row.N)))) < 2 ^ 63
+plan_fits g c = assumption
+
+start : (g : _) → goal.After-outputs g → Start g
+start g c = c.before.before.before.before.before.before.before
 
 pub group_rate-rate-requires : goal.group_rate-rate-requires
 group_rate-rate-requires g c = subst (λ (rows : List GroupRow). c.loop-group.group < length rows) c.groups-group-end.ensures.rows c.loop-group-test.true
@@ -32,7 +48,7 @@ group_plan-requires g c =
     all_at (λ rows. (1 ≤ length rows) × (length rows ≤ 128)) e.outputs c.loop-group.group c.outputs.result.now sound.some_outputs c.outputs.ensures.rows in
     let known : AllByRecursion (λ o. o.source < length e.sources) c.outputs.result.now =
     all_at (AllByRecursion (λ o. o.source < length e.sources)) e.outputs c.loop-group.group c.outputs.result.now sound.known_sources c.outputs.ensures.rows in (
-      search rules,
+      part_fits (size (layout (the_row (param 0 (number g.row.N))))) (plan_fits g (start g c)),
       (
         limits.0,
         (
@@ -52,7 +68,7 @@ pub push-requires : goal.push-requires
 push-requires g c =
     let e = c.args.equipment.now in
     let below : c.loop-group.group < length e.groups = subst (λ (rows : List GroupRow). c.loop-group.group < length rows) c.groups-group-end.ensures.rows c.loop-group-test.true in
-    (search rules, (search rules, room_for e c.sources-sources.result.now c.loop-group.group (groups_of c.loop-group.plan) c.sources-sources.ensures.sound below c.loop-group.invariant.planned))
+    (plan_fits g (start g c.before.before.before), (part_fits (size (layout (the_row (param 0 (number g.row.N))))) (plan_fits g (start g c.before.before.before)), room_for e c.sources-sources.result.now c.loop-group.group (groups_of c.loop-group.plan) c.sources-sources.ensures.sound below c.loop-group.invariant.planned))
 
 pub returns-clause-planned : goal.returns-clause-planned
 returns-clause-planned g c =
@@ -77,3 +93,24 @@ loop-group-preserved g c =
       could = could_next e ss n rate rows c.in-Ok.table c.group_rate-rate.ensures.rate c.outputs.ensures.rows c.loop-group.invariant.could c.in-Ok.ensures;
       number = c.push.ensures.number ∙ c.loop-group.invariant.number;
     }
+
+pub sources-sources-requires : goal.sources-sources-requires
+sources-sources-requires g c = tt
+
+pub groups-group-end-requires : goal.groups-group-end-requires
+groups-group-end-requires g c = tt
+
+pub in_group-requires : goal.in_group-requires
+in_group-requires g c = tt
+
+pub returns-in-Err-clause-planned : goal.returns-in-Err-clause-planned
+returns-in-Err-clause-planned g c = tt
+
+pub returns-clause-fault : goal.returns-clause-fault
+returns-clause-fault g c = tt
+
+pub empty-plan-requires : goal.empty-plan-requires
+empty-plan-requires g c = plan_fits g c.before
+
+pub loop-group-smaller : goal.loop-group-smaller
+loop-group-smaller g c = falls (length c.groups-group-end.result.now) c.loop-group.group c.loop-group-test.true

@@ -1,4 +1,5 @@
-use Rattle.std.proofs.Common.{◌≡◌, ◌+◌, ◌*◌, ◌%◌, ◌^◌, ◌<◌, ◌≤◌, ◌∙◌, ℕ, List, None, Some, ap, arith, get_or, length, sym, subst}
+use borrow.Author.Rules.{scaled_Fits}
+use Rattle.std.proofs.Common.{◌≡◌, ◌+◌, ◌*◌, ◌%◌, ◌^◌, ◌<◌, ◌≤◌, ◌∙◌, ℕ, List, None, Some, ap, arith, get_or, length, refl, sym, subst, zero-le}
 use Rattle.std.specs.Prelude.{Option, IfSome}
 use Rattle.std.proofs.lemmas.List.{get_or-take}
 use Rattle.std.proofs.lemmas.Option.{none-some}
@@ -11,6 +12,7 @@ use Rattle.a429_slots.specs.Kept.{HoldsCell, IsTable}
 use Rattle.a429_slots.proofs.Cells.{HasEach, cell_found, cell_empty, cell_outside}
 use Rattle.a429_slots.proofs.Columns.{count_kept, length-table}
 use Rattle.a429_slots.proofs.group_plan.GroupPlan.at_counted.Goals as goal
+use Rattle.a429_slots.proofs.group_plan.GroupPlan.at_counted.Goals.{Start}
 
 pub place_of_cell-requires : goal.place_of_cell-requires
 place_of_cell-requires g c =
@@ -23,6 +25,13 @@ bounds-self-inside-place g c =
     subst (λ (r : Option ℕ). IfSome r (Holds c.self.inside.sums c.place_of_cell.result)) c.in-Some.is c.find_counted-found.ensures.found in
     omega (arith, found.0, c.self.invariant.table.room, length-table c.self.inside)
 
+-- the array takes less than half of the addresses, as the table that it is a part of
+room : (g : _) → Start g → g.row.N * 8 < 2 ^ 63
+room g c = omega arith
+
+pub offset_bounds-self-inside-place : goal.offset_bounds-self-inside-place
+offset_bounds-self-inside-place g c = scaled_Fits _ g.row.N _ (bounds-self-inside-place g c) (room g c.before.before.before.before.before.before.before.before)
+
 -- the demands are those of the table
 demands : {n : ℕ} (p : Inside n) → AreColumns n p → p.sums ≡ demands_of (table_in p)
 demands {n} p w = sym (ap (λ (q : Inside n). q.sums) w.kept)
@@ -34,6 +43,18 @@ returns-then-bus-self-clause-cell g c =
     let each : HasEach t = c.orders_name_each_once.ensures (length t.outputs) t.order w.order in
     subst (λ (u : SlotTable). None ≡ cell_at u c.args.bus c.args.slot) c.self.view_is
     (sym (cell_outside g.row.N t w each (c.stretches_are_apart.ensures.within (demands_of t)) c.args.bus c.args.slot c.if-bus-self.true))
+
+pub returns-then-bus-self-clause-known : goal.returns-then-bus-self-clause-known
+returns-then-bus-self-clause-known g c = tt
+
+pub returns-then-bus-self-clause-probes : goal.returns-then-bus-self-clause-probes
+returns-then-bus-self-clause-probes g c digits few = zero-le
+
+pub returns-then-bus-self-clause-least : goal.returns-then-bus-self-clause-least
+returns-then-bus-self-clause-least g c = tt
+
+pub returns-then-bus-self-clause-outside : goal.returns-then-bus-self-clause-outside
+returns-then-bus-self-clause-outside g c none = refl
 
 -- the place of the layout that was found
 found : (g : _) (c : goal.After-new g) → HoldsCell (table_in c.self.inside) c.in-Some.place c.args.bus c.args.slot
@@ -74,6 +95,9 @@ returns-in-Some-clause-least g c =
     subst (λ (r : Option ℕ). IfSome r (λ _. length c.self.inside.sums < 2 ^ (c.find_counted-found.result.1 + 1))) c.in-Some.is c.find_counted-found.ensures.least in
     omega (arith, least, count_kept c.self.inside c.args.self.now c.self.view_is)
 
+pub returns-in-Some-clause-outside : goal.returns-in-Some-clause-outside
+returns-in-Some-clause-outside g c none = absurd (none-some c.new.result (sym none))
+
 pub returns-in-None-clause-cell : goal.returns-in-None-clause-cell
 returns-in-None-clause-cell g c =
     let t : SlotTable = table_in c.self.inside in
@@ -88,6 +112,12 @@ returns-in-None-clause-cell g c =
 pub returns-in-None-clause-probes : goal.returns-in-None-clause-probes
 returns-in-None-clause-probes g c digits few =
     c.find_counted-found.ensures.probes digits (omega (arith, count_kept c.self.inside c.args.self.now c.self.view_is, few))
+
+pub returns-in-None-clause-known : goal.returns-in-None-clause-known
+returns-in-None-clause-known g c = tt
+
+pub returns-in-None-clause-least : goal.returns-in-None-clause-least
+returns-in-None-clause-least g c = tt
 
 pub returns-in-None-clause-outside : goal.returns-in-None-clause-outside
 returns-in-None-clause-outside g c none = c.find_counted-found.ensures.outside c.in-None.is

@@ -1,7 +1,12 @@
-use Rattle.std.proofs.Common.{ap, arith, sym, ◌∙◌}
+use mathlib.Core.List.{not-mem-nil}
+use prog.Memory.{size}
+use denote.Param.{layout, number, param}
+use Rattle.std.proofs.Common.{◌^◌, ◌*◌, ◌<◌, ap, arith, sym, ◌∙◌}
+use Rattle.a429_pack.specs.contracts.sums.SumTable.{the_row}
 use Rattle.a429_slots.specs.Tables.{SlotTable, cell_at}
 use Rattle.a429_slots.proofs.CachedCells.{same_cells, arrays_same, arrays_not_other}
 use Rattle.a429_slots.proofs.group_plan.GroupPlan.has_cells_of.Goals as goal
+use Rattle.a429_slots.proofs.group_plan.GroupPlan.has_cells_of.Goals.{Start}
 
 pub returns : goal.returns
 returns g c bus slot is =
@@ -15,3 +20,25 @@ returns g c bus slot is =
       periods = arrays_same a.periods b.periods c.eq.result c.eq.ensures is;
     }) bus slot
     ∙ ap (λ (t : SlotTable). cell_at t bus slot) c.other.view_is
+
+-- the running sums, and a column of a word to each output, take less than half of the addresses
+sums_fit : (g : _) → Start g → size (layout (the_row (param 0 (number g.row.N)))) < 2 ^ 63
+sums_fit g c = omega arith
+
+room : (g : _) → Start g → g.row.N * 4 < 2 ^ 63
+room g c = omega arith
+
+start : (g : _) → goal.Else-len g → Start g
+start g c = c.before.before.before.before.before
+
+pub len-requires : goal.len-requires
+len-requires g c = sums_fit g c.before
+
+pub len-requires-2 : goal.len-requires-2
+len-requires-2 g c = sums_fit g c.before.before.before
+
+pub ne-requires : goal.ne-requires
+ne-requires g c κs = ((room g (start g c), tt), (λ a none. absurd (not-mem-nil none)))
+
+pub ne-requires-2 : goal.ne-requires-2
+ne-requires-2 g c κs = ((room g (start g c.before.before), tt), (λ a none. absurd (not-mem-nil none)))

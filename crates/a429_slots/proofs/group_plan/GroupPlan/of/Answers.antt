@@ -1,10 +1,14 @@
-use Rattle.std.proofs.Common.{◌≡◌, arith, length, map, subst, sym}
+use prog.Memory.{size}
+use denote.Param.{layout, number, param}
+use Rattle.a429_pack.specs.contracts.sums.SumTable.{the_row}
+use Rattle.std.proofs.Common.{◌≡◌, ◌∙◌, ◌*◌, ◌^◌, ◌<◌, ◌≤◌, ℕ, arith, length, map, subst, sym}
 use Rattle.a429_pack.specs.Demands.{exponent_of}
 use Rattle.a429_slots.specs.declared.group_plan.GroupPlan.TheInside.{Inside}
 use Rattle.a429_slots.specs.Columns.{AreColumns, table_in}
 use Rattle.a429_slots.specs.Asked.{IsTableOf}
 use Rattle.a429_slots.proofs.Tabled.{AreFilled, are_columns, is_table_of, laid_in}
 use Rattle.a429_slots.proofs.group_plan.GroupPlan.of.Goals as goal
+use Rattle.a429_slots.proofs.group_plan.GroupPlan.of.Goals.{After-spacings_are_least, Start}
 
 abbrev columns : (g : _) (c : goal.After-limits_in g) → Inside g.row.N
 columns g c = record {
@@ -59,3 +63,57 @@ returns-clause-table g c =
 
 pub returns-clause-sound : goal.returns-clause-sound
 returns-clause-sound g c = (invariant_of-result g c).table
+
+pub none_is_above_the_greatest-requires : goal.none_is_above_the_greatest-requires
+none_is_above_the_greatest-requires g c = tt
+
+pub orders_name_each_once-requires : goal.orders_name_each_once-requires
+orders_name_each_once-requires g c = tt
+
+pub stretches_are_apart-requires : goal.stretches_are_apart-requires
+stretches_are_apart-requires g c = tt
+
+pub spacings_are_least-requires : goal.spacings_are_least-requires
+spacings_are_least-requires g c = tt
+
+-- the widest column takes less than half of the addresses, and so does each
+wide : (g : _) → Start g → g.row.N * 12 < 2 ^ 63
+wide g c = omega arith
+
+eight : (n : ℕ) → n * 12 < 2 ^ 63 → n * 8 < 2 ^ 63
+eight n all = omega arith
+
+four : (n : ℕ) → n * 12 < 2 ^ 63 → n * 4 < 2 ^ 63
+four n all = omega arith
+
+start : (g : _) → After-spacings_are_least g → Start g
+start g c = c.before.before.before.before
+
+pub places_in-on_bus-requires : goal.places_in-on_bus-requires
+places_in-on_bus-requires g c = (assumption, four g.row.N (wide g (start g c)))
+
+pub frame-requires : goal.frame-requires
+frame-requires g c = assumption
+
+pub buses-requires : goal.buses-requires
+buses-requires g c = assumption
+
+-- the running sums take less than half of the addresses, as the layout that they are a part of
+sums_fit : (g : _) → Start g → size (layout (the_row (param 0 (number g.row.N)))) < 2 ^ 63
+sums_fit g c = omega arith
+
+pub sums-requires : goal.sums-requires
+sums-requires g c = (assumption, sums_fit g (start g c.before.before.before))
+
+pub order_in-requires : goal.order_in-requires
+order_in-requires g c = (assumption, eight g.row.N (wide g (start g c.before.before.before.before.before)))
+
+pub sources_in-requires : goal.sources_in-requires
+sources_in-requires g c = (eight g.row.N (wide g (start g c.before.before.before.before.before.before)), c.requires.room)
+
+pub periods_in-requires : goal.periods_in-requires
+periods_in-requires g c =
+    (four g.row.N (wide g (start g c.before.before.before.before.before.before.before)), subst (λ (k : ℕ). k ≤ g.row.N) (c.requires.outputs ∙ sym c.requires.asked) c.requires.room)
+
+pub limits_in-requires : goal.limits_in-requires
+limits_in-requires g c = (wide g (start g c.before.before.before.before.before.before.before.before), (c.requires.room, (c.requires.intervals, c.requires.rate)))

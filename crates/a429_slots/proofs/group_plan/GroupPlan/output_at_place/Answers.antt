@@ -1,4 +1,5 @@
-use Rattle.std.proofs.Common.{◌≡◌, ◌<◌, ◌∙◌, ℕ, ap, arith, get_or, length, sym, subst}
+use borrow.Author.Rules.{scaled_Fits}
+use Rattle.std.proofs.Common.{◌≡◌, ◌*◌, ◌^◌, ◌<◌, ◌∙◌, ℕ, ap, arith, get_or, length, lt_of_lt_of_le, sym, subst}
 use Rattle.std.specs.Prelude.{Some, slice_get}
 use Rattle.std.proofs.lemmas.List.{get_or-take}
 use Rattle.std.proofs.lemmas.Option.{slice_get-get_or}
@@ -7,9 +8,17 @@ use Rattle.a429_slots.specs.Tables.{SlotTable, outputs_of, order_of}
 use Rattle.a429_slots.proofs.Cells.{HasEach}
 use Rattle.a429_slots.proofs.Columns.{count_kept, length-table}
 use Rattle.a429_slots.proofs.group_plan.GroupPlan.output_at_place.Goals as goal
+use Rattle.a429_slots.proofs.group_plan.GroupPlan.output_at_place.Goals.{Start}
 
 pub prove-unreachable-requires : goal.prove-unreachable-requires
 prove-unreachable-requires g c = omega (arith, count_kept c.self.inside c.args.self.now c.self.view_is, c.requires, c.len.ensures.value, c.if-prove.true)
+
+-- the array takes less than half of the addresses, as the table that it is a part of
+room : (g : _) → Start g → g.row.N * 8 < 2 ^ 63
+room g c = omega arith
+
+pub offset_bounds-self-inside-k : goal.offset_bounds-self-inside-k
+offset_bounds-self-inside-k g c = scaled_Fits _ _ _ (lt_of_lt_of_le c.if-prove.false c.len.ensures.few) (room g c.before.before.before.before)
 
 below : (g : _) (c : goal.After-new g) → c.args.k < length c.self.inside.sums
 below g c = omega (arith, c.len.ensures.value, c.if-prove.false)

@@ -1,4 +1,8 @@
-use Rattle.std.proofs.Common.{◌≡◌, ◌<◌, ◌≤◌, ◌∙◌, ◌^◌, ℕ, ap, arith, get_or, length, sym, subst}
+use borrow.Author.Rules.{scaled_Fits}
+use prog.Memory.{size}
+use denote.Param.{layout, number, param}
+use Rattle.a429_pack.specs.contracts.sums.SumTable.{the_row}
+use Rattle.std.proofs.Common.{◌≡◌, ◌<◌, ◌≤◌, ◌∙◌, ◌*◌, ◌^◌, ℕ, ap, arith, get_or, length, lt_of_lt_of_le, sym, subst}
 use Rattle.std.specs.Prelude.{Some}
 use Rattle.std.proofs.Math.Nat.{pow-le-pow_right}
 use Rattle.a429_slots.specs.Columns.{table_in}
@@ -7,10 +11,42 @@ use Rattle.a429_slots.specs.Kept.{StandsJustAt}
 use Rattle.a429_slots.proofs.Cells.{stands_just_at}
 use Rattle.a429_slots.proofs.Columns.{count_kept, length-table, part_kept, placed_kept}
 use Rattle.a429_slots.proofs.group_plan.GroupPlan.place.Goals as goal
+use Rattle.a429_slots.proofs.group_plan.GroupPlan.place.Goals.{Start}
 
 pub prove-unreachable-requires : goal.prove-unreachable-requires
 prove-unreachable-requires g c =
     omega (arith, count_kept c.self.inside c.args.self.now c.self.view_is, c.requires, c.len.ensures.value, c.if-prove.true, c.number-number.ensures)
+
+-- the running sums, and each array, take less than half of the addresses, as the table that they are a part of
+sums_fit : (g : _) → Start g → size (layout (the_row (param 0 (number g.row.N)))) < 2 ^ 63
+sums_fit g c = omega arith
+
+pub len-requires : goal.len-requires
+len-requires g c = sums_fit g c.before.before.before.before
+
+room : (g : _) → Start g → g.row.N * 4 < 2 ^ 63
+room g c = omega arith
+
+start : (g : _) (c : goal.Else-prove g) → Start g
+start g c = c.before.before.before.before.before.before
+
+pub bounds-self-inside-number : goal.bounds-self-inside-number
+bounds-self-inside-number g c = lt_of_lt_of_le c.if-prove.false c.len.ensures.few
+
+pub offset_bounds-self-inside-number : goal.offset_bounds-self-inside-number
+offset_bounds-self-inside-number g c = scaled_Fits _ _ _ (lt_of_lt_of_le c.if-prove.false c.len.ensures.few) (room g (start g c))
+
+pub bounds-self-inside-number-2 : goal.bounds-self-inside-number-2
+bounds-self-inside-number-2 g c = lt_of_lt_of_le c.if-prove.false c.len.ensures.few
+
+pub offset_bounds-self-inside-number-2 : goal.offset_bounds-self-inside-number-2
+offset_bounds-self-inside-number-2 g c = scaled_Fits _ _ _ (lt_of_lt_of_le c.if-prove.false c.len.ensures.few) (room g (start g c.before))
+
+pub bounds-self-inside-number-3 : goal.bounds-self-inside-number-3
+bounds-self-inside-number-3 g c = lt_of_lt_of_le c.if-prove.false c.len.ensures.few
+
+pub offset_bounds-self-inside-number-3 : goal.offset_bounds-self-inside-number-3
+offset_bounds-self-inside-number-3 g c = scaled_Fits _ _ _ (lt_of_lt_of_le c.if-prove.false c.len.ensures.few) (room g (start g c.before.before))
 
 pub of_digits-requires : goal.of_digits-requires
 of_digits-requires g c =

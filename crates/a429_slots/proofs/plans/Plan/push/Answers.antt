@@ -1,9 +1,22 @@
-use Rattle.std.proofs.Common.{◌≡◌, ℕ, ◌+◌, ◌<◌, ◌≤◌, List, ◌∷◌, [], ◌++◌, length, take, arith, ap, subst, sym, ◌∙◌}
+use prog.Memory.{size, up}
+use denote.Param.{layout, number, param}
+use Rattle.a429_slots.specs.contracts.group_plan.GroupPlan.{the_row}
+use Rattle.a429_slots.specs.contracts.plans.Plan as plan
+use Rattle.std.proofs.Common.{◌≡◌, ℕ, ◌+◌, ◌*◌, ◌^◌, ◌<◌, ◌≤◌, List, ◌∷◌, [], ◌++◌, length, take, arith, ap, subst, sym, ◌∙◌}
 use Rattle.std.proofs.lemmas.List.{take_more_set}
 use Rattle.a429_pack.specs.Kept.{length-kept, length-padded, padded}
 use Rattle.a429_slots.specs.Tables.{SlotTable, groups_of, no_table}
 use Rattle.a429_slots.proofs.Columns.{padded_more}
 use Rattle.a429_slots.proofs.plans.Plan.push.Goals as goal
+
+-- eight of them take less than half of the addresses, as the plan that they are a part of
+parts_fit : (s : ℕ) → up 8 (up 8 (8 + 8 * s) + 8) < 2 ^ 63 → 8 * s < 2 ^ 63
+parts_fit s all = omega arith
+
+pub whole_as_slice-put : goal.whole_as_slice-put
+whole_as_slice-put g c =
+    let all : size (layout (plan.the_row (param 0 (number g.row.N)))) < 2 ^ 63 = assumption in
+    parts_fit (size (layout (the_row (param 0 (number g.row.N))))) all
 
 -- groups that leave room for one more
 record LeaveRoom (groups : List SlotTable) (count : ℕ) : Type 0 where
@@ -19,7 +32,7 @@ leave_room groups count kept room =
 pub put-requires : goal.put-requires
 put-requires g c =
     let room = leave_room c.self.inside.groups c.self.inside.count c.self.invariant (subst (λ p. length (groups_of p) < 8) (sym c.self.view_is) c.requires) in
-    omega (arith, room.below, room.inside)
+    (assumption, room.inside)
 
 pub overflow_add-self : goal.overflow_add-self
 overflow_add-self g c =
