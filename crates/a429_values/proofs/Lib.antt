@@ -6,3 +6,4 @@ pub mod Meeting
 pub mod Accepting
 pub mod Staying
 pub mod Decoding
+pub mod Dealing
