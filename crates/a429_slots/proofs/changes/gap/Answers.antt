@@ -30,7 +30,7 @@ place-new-requires g c = (assumption, c.requires.after)
 pub frame-requires : goal.frame-requires
 frame-requires g c = assumption
 
--- of a period of s slots and an offset o in it, and of an offset n in a period of k slots, which is no longer than a frame of f slots
+-- an offset o in a period of s slots, and an offset n in a period of k slots; a frame has f slots, at least k
 no_room : (n k t f : ℕ) → n < k → k ≤ t → f ≡ t → f ≤ n → ⊥
 no_room n k t f below short frame past = omega arith
 
