@@ -7,12 +7,23 @@ use bstr::ByteSlice;
 use std::io::ErrorKind;
 
 /// What a command did.
-#[derive(Drop)]
 pub struct Outcome {
     pub out: CountedWriter<Taken>,
     pub err: CountedWriter<Taken>,
     pub reported: Reported,
     pub status: u8,
+}
+
+// Written by hand, a drop is one call in the proofs of its owners.
+impl Drop for Outcome {
+    fn drop(self) {
+        let Self {
+            out: _,
+            err: _,
+            reported: _,
+            status: _,
+        } = self;
+    }
 }
 
 impl Outcome {

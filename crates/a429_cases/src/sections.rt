@@ -2,6 +2,7 @@
 
 use crate::parts::share_part;
 use a429_cli::MemoryFiles;
+use a429_text::Gathered;
 use std::alloc::{AllocError, Global};
 
 /// A case before it is read: the fields of its row go to the places of its text.
@@ -42,14 +43,14 @@ pub fn read_sections<'a>(
     texts: &mut MemoryFiles,
     text: &'a str,
 ) -> Result<Vec<Written<'a>>, AllocError> {
-    let mut cases = Vec::new(alloc);
+    let mut cases = Gathered::new(alloc);
     for section in text.split("\n=== ").skip(1) {
         let section = section.trim_end_matches('\n');
         if !shares_text(alloc, texts, section) {
-            push_rows(&mut cases, section)?;
+            gather_rows(&mut cases, section);
         }
     }
-    Ok(cases)
+    cases.into_vec()
 }
 
 /// Keeps the text of a section. `false` if the section is a case, or if the text cannot be read.
@@ -60,12 +61,11 @@ fn shares_text(alloc: Global, texts: &mut MemoryFiles, section: &str) -> bool {
     }
 }
 
-/// Appends a case for each row of a section, or one if it has no rows.
-fn push_rows<'a>(cases: &mut Vec<Written<'a>>, section: &'a str) -> Result<(), AllocError> {
+/// Gathers a case for each row of a section, or one if it has no rows.
+fn gather_rows<'a>(cases: &mut Gathered<Written<'a>>, section: &'a str) {
     let (title, text) = section.split_once('\n').unwrap_or((section, ""));
     let (text, rows) = text.split_once("\n--- rows\n").unwrap_or((text, ""));
     for row in rows.split('\n') {
-        cases.push(Written { title, text, row })?;
+        cases.push(Written { title, text, row });
     }
-    Ok(())
 }

@@ -163,10 +163,19 @@ impl<T: Drop> From<AllocFailed<T>> for CommandRefusal {
 }
 
 /// A refusal, and what a hint needs beyond it. Clauses see the refusal.
-#[derive(Drop)]
 pub struct Refused {
     refusal: CommandRefusal,
     evidence: Evidence,
+}
+
+// Written by hand, a drop is one call in the proofs of its owners.
+impl Drop for Refused {
+    fn drop(self) {
+        let Self {
+            refusal: _,
+            evidence: _,
+        } = self;
+    }
 }
 
 impl Model for Refused {
@@ -205,21 +214,24 @@ impl Refused {
     pub fn of_second_table(self) -> Refused
         ensures { result ≡ self }
     {
-        Refused::with(self.refusal, self.evidence.of_second_table())
+        let Self { refusal, evidence } = self;
+        Refused::with(refusal, evidence.of_second_table())
     }
 
     /// The same of a log after this number of other logs.
     pub fn after_logs(self, before: usize) -> Refused
         ensures { result ≡ self }
     {
-        Refused::with(self.refusal, self.evidence.after_logs(before))
+        let Self { refusal, evidence } = self;
+        Refused::with(refusal, evidence.after_logs(before))
     }
 
     /// The same, with the plan of the table as evidence if it has none.
     pub fn or_plan(self, proposal: Proposal<OUTPUTS>) -> Refused
         ensures { result ≡ self }
     {
-        Refused::with(self.refusal, self.evidence.or_plan(proposal))
+        let Self { refusal, evidence } = self;
+        Refused::with(refusal, evidence.or_plan(proposal))
     }
 
     /// The refusal without the evidence.
@@ -238,7 +250,8 @@ impl Refused {
     pub fn into_parts(self) -> (CommandRefusal, Evidence)
         ensures { result.0 ≡ self }
     {
-        (self.refusal, self.evidence)
+        let Self { refusal, evidence } = self;
+        (refusal, evidence)
     }
 }
 

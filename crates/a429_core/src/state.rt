@@ -26,7 +26,6 @@ pub type StationState = State<COUNT_BITS>;
 
 /// A station in operation: the last accepted word of each source, the place of each group in its frame and what it sent
 /// last, and the newest plan. It counts the words of a source in `C` bits, 1 to 41.
-#[derive(Drop)]
 pub struct State<const C: u32> {
     equipment: Equipment,
     limit: u64,
@@ -34,6 +33,20 @@ pub struct State<const C: u32> {
     groups: Vec<Sender>,
     sends: Vec<GroupSends>,
     newest: Box<Plan<OUTPUTS>>,
+}
+
+// Written by hand, a drop is one call in the proofs of its owners.
+impl<const C: u32> Drop for State<C> {
+    fn drop(self) {
+        let Self {
+            equipment: _,
+            limit: _,
+            sources: _,
+            groups: _,
+            sends: _,
+            newest: _,
+        } = self;
+    }
 }
 
 impl<const C: u32> Model for State<C> {

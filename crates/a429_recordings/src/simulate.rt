@@ -95,10 +95,19 @@ struct SimulationInput<'a> {
 }
 
 /// What is simulated, before anything has happened: what the lines are written with, and a timeline on a station.
-#[derive(Drop)]
 struct Simulation {
     setting: Setting,
     player: Player,
+}
+
+// Written by hand, a drop is one call in the proofs of its owners.
+impl Drop for Simulation {
+    fn drop(self) {
+        let Self {
+            setting: _,
+            player: _,
+        } = self;
+    }
 }
 
 /// Reads the files of these names.

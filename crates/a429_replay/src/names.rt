@@ -60,11 +60,21 @@ impl SourceName {
 }
 
 /// The names of a station's receivers, sources and groups, each in table order.
-#[derive(Drop)]
 pub struct Names {
     receivers: NameList,
     sources: Vec<SourceName>,
     groups: NameList,
+}
+
+// Written by hand, a drop is one call in the proofs of its owners.
+impl Drop for Names {
+    fn drop(self) {
+        let Self {
+            receivers: _,
+            sources: _,
+            groups: _,
+        } = self;
+    }
 }
 
 impl Model for Names {

@@ -10,10 +10,19 @@ use std::alloc::Global;
 use std::marker::Model;
 
 /// An equipment with the plan of its own groups.
-#[derive(Drop)]
 pub struct Proposal<const N: usize> {
     equipment: Equipment,
     plan: Box<Plan<N>>,
+}
+
+// Written by hand, a drop is one call in the proofs of its owners.
+impl<const N: usize> Drop for Proposal<N> {
+    fn drop(self) {
+        let Self {
+            equipment: _,
+            plan: _,
+        } = self;
+    }
 }
 
 impl<const N: usize> Model for Proposal<N> {
@@ -82,6 +91,7 @@ impl<const N: usize> Proposal<N> {
         ensures plan { result.1.value ≡ self.entry.plan }
         ensures own { IsPlanOf self.entry.station self.entry.plan }
     {
-        (self.equipment, self.plan)
+        let Self { equipment, plan } = self;
+        (equipment, plan)
     }
 }

@@ -10,11 +10,17 @@ use std::marker::Model;
 
 /// A text that is written at its end. Clauses see all that was written. Writing a part has no error: if an allocation
 /// fails, the text is dropped, and the call that takes the text returns the error.
-#[derive(Drop)]
 pub struct Text {
     kept: Vec<u8>,
     /// All that was written, if an allocation failed.
     lost: Option<Said>,
+}
+
+// Written by hand, a drop is one call in the proofs of its owners.
+impl Drop for Text {
+    fn drop(self) {
+        let Self { kept: _, lost: _ } = self;
+    }
 }
 
 impl Model for Text {

@@ -75,6 +75,11 @@ pub enum Warning {
     ShortIntervals(Name),
 }
 
+/// Notes a warning, unless an allocation fails.
+fn note(warnings: &mut Vec<Warning>, warning: Warning) {
+    let _ = warnings.push(warning);
+}
+
 impl Warning {
     /// Notes a further table whose plan cannot be published, unless an allocation fails.
     pub fn note_further(
@@ -83,20 +88,23 @@ impl Warning {
         cause: FurtherCause,
         table: TableEvidence,
     ) {
-        let _ = warnings.push(Warning::Further(FurtherFault {
-            number,
-            cause,
-            table,
-        }));
+        note(
+            warnings,
+            Warning::Further(FurtherFault {
+                number,
+                cause,
+                table,
+            }),
+        );
     }
 
     /// Notes a receiver to which words come too closely, unless an allocation fails.
     pub fn note_close_words(warnings: &mut Vec<Warning>, receiver: Name) {
-        let _ = warnings.push(Warning::CloseWords(receiver));
+        note(warnings, Warning::CloseWords(receiver));
     }
 
     /// Notes a group whose intervals may be milliseconds, unless an allocation fails.
     pub fn note_short_intervals(warnings: &mut Vec<Warning>, group: Name) {
-        let _ = warnings.push(Warning::ShortIntervals(group));
+        note(warnings, Warning::ShortIntervals(group));
     }
 }
