@@ -1,23 +1,24 @@
 -- Of each command: what the rules of the command line have for its row. All of it is computed.
 use Rattle.std.proofs.Common.{◌≡◌, ◌∙◌, ap, refl, sym, true, false, ℕ, List, [], ◌∷◌, ◌++◌, ◌+◌, map, inl, inr}
-use Rattle.std.specs.Prelude.{Option, Some, None, Bool, ◌&&◌, ◌||◌, min, not, ⊤}
+use Rattle.std.specs.Prelude.{Option, Some, None, Bool, ◌&&◌, ◌||◌, if◌then◌else◌, min, not, ⊤}
 use Rattle.std.specs.List.{AllByRecursion, list_all}
 use Rattle.std.specs.Str.{bytes_eq}
 use Rattle.std.proofs.lemmas.Bool.{and_parts}
+use Rattle.std.proofs.lemmas.Option.{same_Some}
 use Rattle.clap.specs.Lexer.{usize_max}
 use Rattle.clap.specs.Words.{Rule, Shape, Text}
 use Rattle.clap.specs.Simple.{filled, with_index}
 use Rattle.clap.specs.Takes.{default_passes}
 use Rattle.clap.specs.Walk.{arg_by_id, arg_by_index}
 use Rattle.clap.proofs.OnLiterals.{clap_on_literals}
-use Rattle.a429_arguments.specs.CommandLine.{All, AsText, Bcd, Bits, Bnr, Channels, Code, Csv, Data, Events, From, Group, Html, Inputs, Json, Limit, MakesNames, Maps, OptionName, Rate, Rows, Sdi, Sent, Slack, Slots, Ssm, Summary, Time, Tolerance, Until, Width, command_line, many_rule, number_rule, options_of, required_rule, row_app, row_of}
+use Rattle.a429_arguments.specs.CommandLine.{All, AsText, Code, Csv, Events, Html, Json, MakesNames, Rows, Sent, Summary, command_line, many_rule, number_rule, options_of, required_rule, row_app, row_of, verbs}
 use Rattle.a429_arguments.specs.declared.forms.Verb.{Verb}
 use Rattle.a429_arguments.specs.declared.forms.Verb.TheVariants as verb
 use Rattle.a429_arguments.proofs.CommandWords.{IsNamed, leaf}
 use Rattle.a429_arguments.proofs.FoundRows.{HasPlainDefault, use_id}
-use Rattle.a429_arguments.proofs.OptionWords.{AreFound, id_of}
+use Rattle.a429_arguments.proofs.OptionWords.{AreFound, all_options, id_of}
 use Rattle.a429_arguments.proofs.SettledWords.{IsMany, IsSingle}
-use Rattle.a429_arguments.proofs.UsedRows.{all_new, has_id, not_so, same_text}
+use Rattle.a429_arguments.proofs.UsedRows.{all_new, has_id, not_so}
 
 -- the command, as it is built
 abbrev pub shape : Verb → Shape
@@ -114,9 +115,6 @@ plain_parts s all =
       defaults = fourth.1;
     }
 
-abbrev pub all_options : List OptionName
-all_options = Csv ∷ Json ∷ All ∷ Group ∷ Slots ∷ Width ∷ Html ∷ Time ∷ From ∷ Until ∷ Sent ∷ Summary ∷ Code ∷ Limit ∷ Rate ∷ Rows ∷ Slack ∷ Inputs ∷ Channels ∷ Maps ∷ AsText ∷ MakesNames ∷ Tolerance ∷ Events ∷ Sdi ∷ Ssm ∷ Data ∷ Bnr ∷ Bits ∷ Bcd ∷ []
-
 -- no two arguments have one id
 abbrev pub ids_are_new : Verb → List (Rule × Text) → Bool
 ids_are_new v us = all_new [] (map use_id us ++ (ids_if (row_of v).more ++ map id_of (options_of v)))
@@ -166,31 +164,17 @@ known named at more options plain checked = record { named = named; at = at; mor
 
 -- ---- the commands, one by one
 
--- no two commands have one name
-by_name : (v w : Verb) → bytes_eq (row_of v).name (row_of w).name ≡ true → v ≡ w
-by_name verb.Word verb.Word is = refl
-by_name verb.Encode verb.Encode is = refl
-by_name verb.Lines verb.Lines is = refl
-by_name verb.Import verb.Import is = refl
-by_name verb.Plan verb.Plan is = refl
-by_name verb.Check verb.Check is = refl
-by_name verb.Icd verb.Icd is = refl
-by_name verb.Margin verb.Margin is = refl
-by_name verb.Load verb.Load is = refl
-by_name verb.Slots verb.Slots is = refl
-by_name verb.Buses verb.Buses is = refl
-by_name verb.Lint verb.Lint is = refl
-by_name verb.Diff verb.Diff is = refl
-by_name verb.Draw verb.Draw is = refl
-by_name verb.Replay verb.Replay is = refl
-by_name verb.Simulate verb.Simulate is = refl
-by_name verb.Survey verb.Survey is = refl
-by_name verb.Judge verb.Judge is = refl
-by_name verb.Live verb.Live is = refl
-by_name _ _ is = absurd (cc is)
+abbrev verb_named : Text → List Verb → Option Verb
+verb_named name [] = None
+verb_named name (v ∷ vs) = if bytes_eq (row_of v).name name then Some v else verb_named name vs
 
+named_back : (v : Verb) → verb_named (row_of v).name verbs ≡ Some v
+named_back verb.Word = refl
+named_back _ = refl
+
+-- no two commands have one name
 pub same_verb : (v w : Verb) → (row_of v).name ≡ (row_of w).name → v ≡ w
-same_verb v w named = by_name v w (ap (bytes_eq (row_of v).name) (sym named) ∙ same_text (row_of v).name)
+same_verb v w named = same_Some v w (sym (named_back v) ∙ ap (λ name. verb_named name verbs) named ∙ named_back w)
 
 module _ (first second third number : Text) where
   -- of each: its arguments with one word each, the repeated names, its options, and the default value of each of its rules

@@ -15,11 +15,11 @@ use Rattle.a429_text.specs.declared.sheets.SheetForm.{SheetForm}
 use Rattle.a429_text.specs.declared.sheets.SheetForm.TheVariants as form
 use Rattle.a429_arguments.specs.declared.forms.Verb.{Verb}
 use Rattle.a429_arguments.specs.declared.forms.Verb.TheVariants as verb
-use Rattle.a429_arguments.proofs.CommandFacts.{Facts, all_options, new, others, ids_after, ids_if, shape}
+use Rattle.a429_arguments.proofs.CommandFacts.{Facts, new, others, ids_after, ids_if, shape}
 use Rattle.a429_arguments.proofs.CommandWords.{row, row_of_words}
 use Rattle.a429_arguments.proofs.Decimals.{number_of_decimal}
 use Rattle.a429_arguments.proofs.FoundRows.{flag_unset, option_found, option_missing, still_found, still_missing, use_row, uses_found, uses_still_found, with_defaults}
-use Rattle.a429_arguments.proofs.OptionWords.{id_of, rows_of_options, rows_of_word, same_option}
+use Rattle.a429_arguments.proofs.OptionWords.{all_options, id_of, rows_of_options, rows_of_word, same_option}
 use Rattle.a429_arguments.proofs.PassingOptions.{from_zero, origin_of_word, unit_of_word, width_of_decimal}
 use Rattle.a429_arguments.proofs.UsedRows.{Within, not_so, found_before, found_behind, has_id, is_new, missing_in_both, none_found, row_at, same_text}
 use Rattle.a429_arguments.proofs.WordRows.{AreNamesIf, new_after, rows_are, rows_if, within_if, within_uses}

@@ -1,8 +1,9 @@
 -- The arguments that are options of a command, by the rules of the options.
-use Rattle.std.proofs.Common.{◌≡◌, refl, codes, subst, sym, true, false, List, [], ◌∷◌, ◌++◌, append-nil, append_assoc, map}
-use Rattle.std.specs.Prelude.{ℕ, Option, Some, None, Bool, IfSome, ⊤}
+use Rattle.std.proofs.Common.{◌≡◌, ◌∙◌, ap, refl, codes, subst, sym, true, false, List, [], ◌∷◌, ◌++◌, append-nil, append_assoc, map}
+use Rattle.std.specs.Prelude.{ℕ, Option, Some, None, Bool, IfSome, ⊤, if◌then◌else◌}
 use Rattle.std.specs.Str.{bytes_eq}
 use Rattle.std.proofs.lemmas.Option.{same_Some}
+use Rattle.std.proofs.lemmas.Slice.Eq.{bytes_eq-Decides}
 use Rattle.clap.specs.Words.{Row, Rule, Shape, Text}
 use Rattle.clap.specs.Simple.{filled}
 use Rattle.clap.specs.Takes.{value_passes}
@@ -53,39 +54,23 @@ kind_of_option o AsText word given = record { range = refl; action = refl; readi
 kind_of_option o MakesNames word given = record { range = refl; action = refl; reading = refl; missing = refl; passes = refl }
 kind_of_option o _ word given = record { range = refl; action = refl; reading = refl; trailing = refl }
 
+abbrev pub all_options : List OptionName
+all_options = Csv ∷ Json ∷ All ∷ Group ∷ Slots ∷ Width ∷ Html ∷ Time ∷ From ∷ Until ∷ Sent ∷ Summary ∷ Code ∷ Limit ∷ Rate ∷ Rows ∷ Slack ∷ Inputs ∷ Channels ∷ Maps ∷ AsText ∷ MakesNames ∷ Tolerance ∷ Events ∷ Sdi ∷ Ssm ∷ Data ∷ Bnr ∷ Bits ∷ Bcd ∷ []
+
+abbrev option_named : Text → List OptionName → Option OptionName
+option_named id [] = None
+option_named id (name ∷ names) = if bytes_eq (id_of name) id then Some name else option_named id names
+
+-- the proof of each pair of options would be 900 cases
+named_back : (name : OptionName) → option_named (id_of name) all_options ≡ Some name
+named_back Csv = refl
+named_back _ = refl
+
 -- no two have one name
 pub same_option : (a b : OptionName) → bytes_eq (id_of a) (id_of b) ≡ true → a ≡ b
-same_option Csv Csv is = refl
-same_option Json Json is = refl
-same_option All All is = refl
-same_option Group Group is = refl
-same_option Slots Slots is = refl
-same_option Width Width is = refl
-same_option Html Html is = refl
-same_option Time Time is = refl
-same_option From From is = refl
-same_option Until Until is = refl
-same_option Sent Sent is = refl
-same_option Summary Summary is = refl
-same_option Code Code is = refl
-same_option Limit Limit is = refl
-same_option Rate Rate is = refl
-same_option Rows Rows is = refl
-same_option Slack Slack is = refl
-same_option Inputs Inputs is = refl
-same_option Tolerance Tolerance is = refl
-same_option Events Events is = refl
-same_option Channels Channels is = refl
-same_option Maps Maps is = refl
-same_option AsText AsText is = refl
-same_option MakesNames MakesNames is = refl
-same_option Sdi Sdi is = refl
-same_option Ssm Ssm is = refl
-same_option Data Data is = refl
-same_option Bnr Bnr is = refl
-same_option Bits Bits is = refl
-same_option Bcd Bcd is = refl
-same_option _ _ is = absurd (cc is)
+same_option a b is =
+    let same = (bytes_eq-Decides (id_of a) (id_of b)).0 is in
+    same_Some a b (sym (named_back a) ∙ ap (λ id. option_named id all_options) same ∙ named_back b)
 
 flag_text : (b : Bool) (word : Text) → flag_word b ≡ Some word → word ≡ codes "true"
 flag_text true word given = sym (same_Some (codes "true") word given)

@@ -1,6 +1,6 @@
 -- The walk over groups.
 use Rattle.std.proofs.Common.{◌≡◌, ℕ, zero, suc, ◌+◌, ◌<◌, ◌≤◌, Bool, true, false, cond, eqb, List, [], ◌∷◌, ◌++◌, length, get_or, take, drop, Option, Some, None, Result, Ok, Err, refl, sym, ap, subst, ◌∙◌, arith}
-use Rattle.std.specs.Prelude.{MatchResult}
+use Rattle.std.specs.Prelude.{MatchResult, IsErrAnd}
 use Rattle.std.specs.List.{onto_first}
 use Rattle.std.proofs.lemmas.List.{drop_more, drop-drop, length-append}
 use Rattle.std.proofs.lemmas.List.Sums.{sum_by_more, sum_by-take-le}
@@ -32,6 +32,12 @@ stops_front n xs ys (stops.Refused a) h = end_front n xs ys a h
 pub stops_along : (o p : Option No) (s : CheckStop) → o ≡ p → Stops s p → Stops s o
 stops_along o p s e h = subst (λ (x : Option No). Stops s x) (sym e) h
 
+-- if memory ran out, the check may end at any line
+pub memory_ends : {A : Type 0} (r : Result A CheckStop) (o : Option No) → IsErrAnd r (λ s. s ≡ stops.Memory) → EndsCheckBy r o
+memory_ends (Ok x) o h = absurd h
+memory_ends (Err stops.Memory) o h = tt
+memory_ends (Err (stops.Refused a)) o h = absurd cc
+
 pub gives_along : (o p : Option No) (r : Result (Unit {0}) CheckStop) → o ≡ p → EndsCheckBy r p → EndsCheckBy r o
 gives_along o p r e h = subst (λ (x : Option No). EndsCheckBy r x) (sym e) h
 
@@ -42,6 +48,15 @@ pub passes : {T : Type 0} (r : Result T Reason) (x : T) (o : Option Reason) (a :
     → (o ≡ None) × P x
 passes (Ok y) x o a P e f h = let same : y ≡ x = cc in (f, subst P same h)
 passes (Err q) x o a P e f h = absurd cc
+
+-- the reason against a line is what ends the check there
+pub fails : {T : Type 0} (r : Result T Reason) (s : CheckStop) (o : Option Reason) (n : ℕ) (fs : List (Option Reason))
+    → MatchResult r (λ y. ◌≡◌ {A = Result T CheckStop} (Err s) (Ok y)) (λ q. ◌≡◌ {A = Result T CheckStop} (Err s) (Err (stops.Refused (record { reason = q; line = n })))) → MatchResult r (λ _. o ≡ None) (λ q. o ≡ Some q)
+    → Stops s (first_no n (o ∷ fs))
+fails (Ok y) s o n fs e f = absurd cc
+fails (Err q) s o n fs e f =
+    let same : s ≡ stops.Refused (record { reason = q; line = n }) = cc in
+    rw (same, f) refl
 
 pub last_gives : (r : Result (Unit {0}) Reason) (s : Result (Unit {0}) CheckStop) (o : Option Reason) (n : ℕ)
     → MatchResult r (λ y. s ≡ Ok y) (λ q. s ≡ Err (stops.Refused (record { reason = q; line = n }))) → MatchResult r (λ _. o ≡ None) (λ q. o ≡ Some q)

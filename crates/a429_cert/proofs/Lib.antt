@@ -7,6 +7,7 @@ pub mod Listed
 pub mod Walk
 pub mod Noted
 pub mod Classes
+pub mod OutputFaults
 pub mod Groups
 pub mod DuePlans
 pub mod CheckedPlans

@@ -1,10 +1,11 @@
 -- A step of the walk over the lines of a group's outputs.
-use Rattle.std.proofs.Common.{◌≡◌, ℕ, suc, ◌+◌, ◌-◌, ◌<◌, List, [], ◌∷◌, ◌++◌, length, take, drop, Option, Some, None, refl, ap, ◌∙◌, arith, inl, inr}
+use Rattle.std.proofs.Common.{◌≡◌, ℕ, suc, ◌+◌, ◌-◌, ◌<◌, List, [], ◌∷◌, ◌++◌, length, take, drop, ◌≤◌, Option, Some, None, refl, ap, ◌∙◌, arith, inl, inr}
 use Rattle.std.specs.List.{filter_map}
 use Rattle.std.proofs.lemmas.Bool.{cases_lt}
 use Rattle.std.proofs.lemmas.List.{get_or_past, get_or-drop, take_more, drop-drop}
 use Rattle.std.proofs.lemmas.List.Elements.{filter_map-append}
 use Rattle.a429_cert.specs.declared.verdicts.Reason.{Reason}
+use Rattle.a429_cert.specs.declared.verdicts.No.{No}
 use Rattle.a429_cert.specs.declared.due.DueGroup.{DueGroup}
 use Rattle.a429_cert.specs.Spelling.{Listing}
 use Rattle.a429_cert.specs.Reading.{output_line, word_after, after}
@@ -23,6 +24,21 @@ listed_more version lines j l e =
       | inl lt ↦ rw (take_more lines j [] lt, filter_map-append, e) refl
       | inr le ↦ absurd (let absent = get_or_past lines j [] le in cc (absent_output version, ap (output_line version) absent))
     ]
+
+-- no line is read
+pub walk_starts : (version : ℕ) (g : DueGroup) (buses number n : ℕ) (lines : List (List ℕ))
+    → first_no number (output_faults version g buses lines 0 n) ≡ first_no (number + 0) (output_faults version g buses lines 0 (n - 0))
+walk_starts version g buses number n lines =
+    let count : number + 0 ≡ number = omega arith in
+    let all : n - 0 ≡ n = omega arith in
+    rw (count, all) refl
+
+-- all lines are read
+pub walk_done : (version : ℕ) (g : DueGroup) (buses number j n : ℕ) (lines : List (List ℕ)) (o : Option No) → n ≤ j
+    → o ≡ first_no (number + j) (output_faults version g buses lines j (n - j)) → o ≡ None
+walk_done version g buses number j n lines o all e =
+    let left : n - j ≡ 0 = omega arith in
+    rw left at e
 
 -- a line without a fault
 pub step_on : (version : ℕ) (g : DueGroup) (buses number j n : ℕ) (lines : List (List ℕ)) → j < n

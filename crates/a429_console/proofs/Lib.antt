@@ -6,3 +6,4 @@ pub mod RefusalEndings
 pub mod SoFar
 pub mod EntryLines
 pub mod CallEnds
+mod NamesFound

@@ -1,7 +1,9 @@
 -- Refusals that are handed on.
 use Rattle.std.proofs.Common.{◌≡◌, sym, subst, ℕ, List, inl, inr}
 use Rattle.std.specs.Prelude.{Result, Ok, Err, IfOk, OnOk, MatchResult}
-use Rattle.a429_console.specs.Tables.{IsTableFault, IsTableRefusal}
+use Rattle.a429_equipment.specs.TableRecord.{TableRecord}
+use Rattle.a429_table.specs.Reading.{reading}
+use Rattle.a429_console.specs.Tables.{IsPlanRefusal, IsTableFault, IsTableRefusal}
 use Rattle.a429_console.specs.RefusalText.{IsToldOf, OrMemory}
 use Rattle.a429_console.specs.declared.refusals.CommandRefusal.{CommandRefusal}
 use Rattle.a429_console.specs.declared.refusals.CommandRefusal.TheVariants as refused
@@ -69,3 +71,7 @@ table_fault_refuses table refused.Memory f = absurd f
 pub matched_both : {X : Type 0} (result : Result X CommandRefusal) (P Q : X → Type 0) (F G : CommandRefusal → Type 0) → ((x : X) → P x → Q x) → ((e : CommandRefusal) → F e → G e) → MatchResult result P F → MatchResult result Q G
 matched_both (Ok x) P Q F G more other p = more x p
 matched_both (Err e) P Q F G more other p = other e p
+
+pub plan_refuses : (table : List ℕ) (t : TableRecord) (r : CommandRefusal) → reading table ≡ Ok t → IsPlanRefusal t r → IsTableRefusal table r
+plan_refuses table t (refused.Table kind place) read f = absurd f
+plan_refuses table t _ read f = (t, read, f)

@@ -6,6 +6,7 @@ pub mod Leaving
 pub mod CellSteps
 pub mod Steps
 pub mod Opening
+pub mod Asked
 pub mod SentCells
 pub mod InOrder
 pub mod InTurn

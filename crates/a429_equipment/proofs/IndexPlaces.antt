@@ -1,8 +1,8 @@
 -- The places of an index while its sources are numbered.
-use Rattle.std.proofs.Common.{◌≡◌, ◌==◌, ℕ, ◌+◌, ◌*◌, ◌<◌, ◌≤◌, ⊎_elim, Bool, true, false, cond, eqb, ltb, List, length, drop, set, drop_of_length-le, Option, Some, None, refl, sym, ◌∙◌, arith}
-use Rattle.std.proofs.lemmas.Bool.{and_parts, and_right, and_from, eqb-true, eq-eqb, cases_eq, false_from_ne_true, lt-ltb, le-ltb, ne_eqb, cases_order}
+use Rattle.std.proofs.Common.{◌≡◌, ◌==◌, ℕ, ◌+◌, ◌*◌, ◌<◌, ◌≤◌, ⊎_elim, Bool, true, false, cond, eqb, ltb, List, ◌∷◌, length, drop, get_or, replicate, set, drop_of_length-le, Fits, w8, Option, Some, None, refl, sym, subst, ap, ◌∙◌, arith}
+use Rattle.std.proofs.lemmas.Bool.{and_parts, and_right, and_from, eqb-true, eq-eqb, cases_eq, cases_lt, false_from_ne_true, lt-ltb, le-ltb, ne_eqb, cases_order}
 use Rattle.std.proofs.lemmas.Grind.{get_or-set_at}
-use Rattle.std.proofs.lemmas.List.{get_or-set_other}
+use Rattle.std.proofs.lemmas.List.{at_drop_more, get_or-replicate, get_or-set_other, get_or_past, length-replicate}
 use Rattle.std.proofs.lemmas.Iterator.Adapters.{position_from-zero}
 use Rattle.std.specs.List.{position, position_from}
 use Rattle.std.specs.Option.{option_map_or, option_or}
@@ -94,3 +94,42 @@ or_none (Some x) = refl
 pub all_noted : (o : Option ℕ) (p : SourceRow → Bool) (n : ℕ) (sources : List SourceRow) → length sources ≤ n → option_or o (position_from p n (drop n sources)) ≡ position_from p 0 sources
     → o ≡ position p sources
 all_noted o p n sources end h = or_none o ∙ (rw (drop_of_length-le sources end) at h) ∙ sym (position_from-zero p sources)
+
+-- ---- the loop over the sources
+
+-- at first no place has a number
+pub none_noted : (places : List (Option ℕ)) (n p : ℕ) (rest : Option ℕ) → places ≡ replicate n None → option_or (get_or places p None) rest ≡ rest
+none_noted places n p rest free =
+    let nowhere : List (Option ℕ) = replicate n None in
+    let long : length nowhere ≡ n = length-replicate n None in
+    let none : get_or nowhere p None ≡ None = ⊎_elim (λ below. get_or-replicate n p None None below) (λ past. get_or_past nowhere p None (subst (λ m. m ≤ p) (sym long) past)) (cases_lt p n) in
+    rw (free, none) refl
+
+gives_more : (o : Option ℕ) (b : Bool) (n : ℕ) (rest : Option ℕ) → option_or (option_or o (cond b (Some n) None)) rest ≡ option_or o (cond b (Some n) rest)
+gives_more None true n rest = refl
+gives_more None false n rest = refl
+gives_more (Some m) b n rest = refl
+
+pub source_noted : (old new : List (Option ℕ)) (number : ℕ) (s : SourceRow) (sources : List SourceRow) (r label k : ℕ) → number < length sources → s ≡ get_or sources number s
+    → entry_at new r label k ≡ given_at old number s r label k
+    → option_or (entry_at old r label k) (position_from (has_words r label k) number (drop number sources)) ≡ position_from (has_words r label k) 0 sources
+    → option_or (entry_at new r label k) (position_from (has_words r label k) (number + 1) (drop (number + 1) sources)) ≡ position_from (has_words r label k) 0 sources
+source_noted old new number s sources r label k below is given before =
+    let p = has_words r label k in
+    let entry = entry_at old r label k in
+    let rest = drop (number + 1) sources in
+    ap (λ e. option_or e (position_from p (number + 1) rest)) given
+    ∙ gives_more entry (p s) number (position_from p (number + 1) rest)
+    ∙ ap (λ x. option_or entry (position_from p number (x ∷ rest))) is
+    ∙ sym (at_drop_more (λ xs. option_or entry (position_from p number xs)) sources number s below)
+    ∙ before
+
+pub number_fits : (number count : ℕ) → number < count → count ≤ 256 → Fits w8 number
+number_fits number count below few = omega arith
+
+-- a source has a receiver, so the places have room for its words
+pub places_fit : (places : List (Option ℕ)) (sources : List SourceRow) (number receivers : ℕ) (s : SourceRow) → ((k : ℕ) (d : SourceRow) → k < length sources → (get_or sources k d).receiver < receivers) → number < length sources → s ≡ get_or sources number s
+    → receivers ≤ 16 → length places ≡ 1024 * receivers → (s.receiver < 16) × (1024 * s.receiver + 1024 ≤ length places)
+places_fit places sources number receivers s known below is few size =
+    let own : s.receiver < receivers = subst (λ (x : SourceRow). x.receiver < receivers) (sym is) (known number s below) in
+    (omega arith, omega arith)

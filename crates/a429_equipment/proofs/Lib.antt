@@ -5,3 +5,5 @@ pub mod Cutting
 pub mod Lasting
 pub mod Receiving
 pub mod Stations
+mod Sorting
+mod Groups

@@ -138,6 +138,10 @@ headed_skipped None read o lines line some known headed = cc some
 headed_skipped (Some e) read None lines line some known headed = absurd (subst (λ (ls : List CsvLine). HaveFault e ls) headed known)
 headed_skipped (Some e) read (Some h) lines line some known headed = (headed.0 ++ line ∷ [], ap (λ (ls : List CsvLine). ls ++ line ∷ []) headed.1)
 
+pub unfaulted : (fault : Option ImportFault) (read : LinesRead) (lines : List CsvLine) → is_some fault ≡ false → AreRead fault read lines → HaveRows read.heading read lines
+unfaulted None read lines none known = known
+unfaulted (Some e) read lines none known = cc none
+
 -- ---- the end
 
 pub no_lines : (read : LinesRead) (lines : List CsvLine) (e : ImportFault) → HaveRows None read lines → e ≡ Csv 1 Column (Some Group) → IsImportOf lines (Err e)
@@ -167,3 +171,7 @@ one_filled line is = rw is refl
 
 pub not_filled : (lines : List CsvLine) (line : CsvLine) → has_text (fields_of line.fields) ≡ false → lines ++ filter is_filled (line ∷ []) ≡ lines
 not_filled lines line is = rw is (append-nil lines)
+
+pub fault_kept : (fault : Option ImportFault) (read : LinesRead) (lines : List CsvLine) → AreRead fault read lines → AreRead fault (record read { fault = fault }) lines
+fault_kept None read lines known = other_fault read.heading read None lines known
+fault_kept (Some e) read lines known = known

@@ -1,10 +1,10 @@
 -- The tree that rows state: how it is built, and how deep it is.
-use Rattle.std.proofs.Common.{codes, ◌≡◌, ◌==◌, ◌+◌, ◌++◌, append_assoc, cond, drop, length, sym, ℕ, ◌≤◌, Bool, true, false, List, [], ◌∷◌, map, Option, None, Some, String, Global, string_bytes, Ordering, Less, Equal, Greater, arith, ap, refl, ◌∙◌}
+use Rattle.std.proofs.Common.{codes, ◌≡◌, ◌==◌, ◌+◌, ◌++◌, append-nil, append_assoc, cond, drop, length, sym, ℕ, ◌≤◌, Bool, true, false, List, [], ◌∷◌, map, Option, None, Some, String, Global, string_bytes, Ordering, Less, Equal, Greater, arith, ap, refl, ◌∙◌}
 use Rattle.std.specs.Prelude.{filter, if◌then◌else◌, slice_get}
 use Rattle.std.specs.Ordering.{is_lt, match_ordering}
 use Rattle.std.specs.BTreeMap.{insert_entry}
 use Rattle.std.specs.String.{string_cmp}
-use Rattle.std.proofs.lemmas.List.{map-append}
+use Rattle.std.proofs.lemmas.List.{drop_all, map-append}
 use Rattle.std.proofs.lemmas.List.Elements.{filter-append}
 use Rattle.toml.specs.Data.{Data, Members, no_members, member, string, depth, items_depth, members_depth, is_before}
 use Rattle.toml.specs.View.{items_of, members_view, view}
@@ -138,3 +138,7 @@ picked_more p f rows k row old new whole there so now =
     ∙ ap (map f) (filter-append p (row ∷ []) (drop (k + 1) rows))
     ∙ map-append f (filter p (row ∷ [])) (filter p (drop (k + 1) rows)) in
     ap (λ (ds : List Data). ds ++ others) now ∙ append_assoc old first others ∙ ap (λ (ds : List Data). old ++ ds) (sym left) ∙ so
+
+-- no row is left
+pub picked_all : (p : ImportRow → Bool) (f : ImportRow → Data) (rows : List ImportRow) (k : ℕ) (old whole : List Data) → length rows ≤ k → old ++ map f (filter p (drop k rows)) ≡ whole → old ≡ whole
+picked_all p f rows k old whole past so = sym (append-nil old) ∙ ap (λ (rs : List ImportRow). old ++ map f (filter p rs)) (sym (drop_all k rows past)) ∙ so

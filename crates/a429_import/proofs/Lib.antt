@@ -14,6 +14,8 @@ pub mod Knowing
 pub mod KnownClashes
 pub mod KnownRows
 pub mod Flags
+mod Lookups
+mod FirstLimits
 mod FullRows
 pub mod ImportForms
 pub mod ImportWidths

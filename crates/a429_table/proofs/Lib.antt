@@ -12,6 +12,7 @@ pub mod Apart
 pub mod Own
 pub mod SoundRows
 pub mod Soundness
+pub mod RowFlags
 pub mod ShortNames
 pub mod RepeatedRows
 pub mod AtKeys

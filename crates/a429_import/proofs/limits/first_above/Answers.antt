@@ -1,8 +1,34 @@
-use Rattle.std.proofs.Common.{◌≤◌, ◌∙◌, ap, subst, sym}
+use Rattle.std.proofs.Common.{◌≤◌, ◌∙◌, ap, refl, subst, sym, zero-le}
 use Rattle.std.specs.List.{position_from}
 use Rattle.std.specs.Prelude.{nat_lt}
-use Rattle.a429_import.proofs.Flags.{flagged_end}
+use Rattle.std.proofs.lemmas.Option.{slice_get-get_or}
+use Rattle.a429_import.proofs.Flags.{below_both, counted_below, flagged_end, flagged_found, flagged_passed}
 use Rattle.a429_import.proofs.limits.first_above.Goals as goal
+
+pub loop-place-init : goal.loop-place-init
+loop-place-init c = (zero-le, refl)
+
+pub bounds-flags-place : goal.bounds-flags-place
+bounds-flags-place c = (below_both c.loop-place.place _ _ _ c.min-place-end.ensures c.loop-place-test.true).0
+
+pub bounds-outputs-place : goal.bounds-outputs-place
+bounds-outputs-place c = (below_both c.loop-place.place _ _ _ c.min-place-end.ensures c.loop-place-test.true).1
+
+pub returns-then-is_above_at : goal.returns-then-is_above_at
+returns-then-is_above_at c =
+    let below = below_both c.loop-place.place _ _ _ c.min-place-end.ensures c.loop-place-test.true in
+    flagged_found (nat_lt 128) c.args.flags.now c.args.outputs.now c.loop-place.place c.loop-place.number _ _ _
+    (slice_get-get_or c.args.flags.now c.loop-place.place _ below.0) (slice_get-get_or c.args.outputs.now c.loop-place.place _ below.1)
+    (sym c.is_above_at.ensures ∙ c.if-is_above_at.true) c.loop-place.invariant.1
+
+pub loop-place-preserved : goal.loop-place-preserved
+loop-place-preserved c =
+    let below = below_both c.loop-place.place _ _ _ c.min-place-end.ensures c.loop-place-test.true in (
+      counted_below c.loop-place.number c.loop-place.place c.from-number.result _ c.loop-place.invariant.0 c.from-number.ensures,
+      flagged_passed (nat_lt 128) c.args.flags.now c.args.outputs.now c.loop-place.place c.loop-place.number c.from-number.result _ _ _
+          (slice_get-get_or c.args.flags.now c.loop-place.place _ below.0) (slice_get-get_or c.args.outputs.now c.loop-place.place _ below.1)
+          (sym c.is_above_at.ensures ∙ c.if-is_above_at.false) c.from-number.ensures c.loop-place.invariant.1,
+    )
 
 pub returns : goal.returns
 returns c =

@@ -1,6 +1,6 @@
-use Rattle.std.proofs.Common.{rules}
+use Rattle.std.proofs.Common.{◌++◌, ◌∷◌, [], rules}
 use Rattle.a429_import.specs.declared.reading.LinesRead.{LinesRead}
-use Rattle.a429_import.proofs.ImportReading.{headed_skipped, line_skipped}
+use Rattle.a429_import.proofs.ImportReading.{fault_kept, headed_skipped, line_skipped, unfaulted}
 use Rattle.a429_import.proofs.reading.take_line.Goals as goal
 
 pub returns-else-is_none-clause-read : goal.returns-else-is_none-clause-read
@@ -11,3 +11,14 @@ returns-else-is_none-clause-read c = λ lines known.
 
 pub returns-else-is_none-clause-heading : goal.returns-else-is_none-clause-heading
 returns-else-is_none-clause-heading c = λ lines known headed. headed_skipped c.args.read.now.fault c.args.read.now c.args.read.now.heading lines c.args.line (search rules) known headed
+
+pub next_line-fault-requires : goal.next_line-fault-requires
+next_line-fault-requires c = (c.requires.0, unfaulted c.args.read.now.fault c.args.read.now c.requires.0 c.if-is_none.ensures c.requires.1)
+
+pub returns-then-is_none-clause-read : goal.returns-then-is_none-clause-read
+returns-then-is_none-clause-read c = λ lines known.
+    fault_kept c.next_line-fault.result c.next_line-fault.new.read (lines ++ c.args.line ∷ [])
+    (c.next_line-fault.ensures.read lines (unfaulted c.args.read.now.fault c.args.read.now lines c.if-is_none.ensures known))
+
+pub returns-then-is_none-clause-heading : goal.returns-then-is_none-clause-heading
+returns-then-is_none-clause-heading c = λ lines known headed. c.next_line-fault.ensures.heading lines headed

@@ -15,17 +15,10 @@ use Rattle.a429_equipment.specs.declared.rows.SourceRow.{SourceRow}
 use Rattle.a429_slots.proofs.Planning.{rate_in_group, all_planned, room_for, rated_at, fault_in, planned_next, could_next}
 use Rattle.a429_slots.specs.Faults.{IsFaultOf}
 use Rattle.a429_slots.proofs.planner.plan.Goals as goal
-use Rattle.a429_slots.proofs.planner.plan.Goals.{Start}
 
 -- eight of them take less than half of the addresses
 part_fits : (s : ℕ) → up 8 (up 8 (8 + 8 * s) + 8) < 2 ^ 63 → s < 2 ^ 63
 part_fits s all = omega arith
-
-plan_fits : (g : _) → Start g → size (layout (plan.the_row (param 0 (number g.row.N)))) < 2 ^ 63
-plan_fits g c = assumption
-
-start : (g : _) → goal.After-outputs g → Start g
-start g c = c.before.before.before.before.before.before.before
 
 pub group_rate-rate-requires : goal.group_rate-rate-requires
 group_rate-rate-requires g c = subst (λ (rows : List GroupRow). c.loop-group.group < length rows) c.groups-group-end.ensures.rows c.loop-group-test.true
@@ -42,13 +35,14 @@ loop-group-init g c = record {
 
 pub group_plan-requires : goal.group_plan-requires
 group_plan-requires g c =
+    let all : size (layout (plan.the_row (param 0 (number g.row.N)))) < 2 ^ 63 = assumption in
     let e = c.args.equipment.now in
     let sound : IsSound e = c.sources-sources.ensures.sound in
     let limits : (1 ≤ length c.outputs.result.now) × (length c.outputs.result.now ≤ 128) =
     all_at (λ rows. (1 ≤ length rows) × (length rows ≤ 128)) e.outputs c.loop-group.group c.outputs.result.now sound.some_outputs c.outputs.ensures.rows in
     let known : AllByRecursion (λ o. o.source < length e.sources) c.outputs.result.now =
     all_at (AllByRecursion (λ o. o.source < length e.sources)) e.outputs c.loop-group.group c.outputs.result.now sound.known_sources c.outputs.ensures.rows in (
-      part_fits (size (layout (the_row (param 0 (number g.row.N))))) (plan_fits g (start g c)),
+      part_fits (size (layout (the_row (param 0 (number g.row.N))))) all,
       (
         limits.0,
         (
@@ -66,9 +60,10 @@ group_plan-requires g c =
 
 pub push-requires : goal.push-requires
 push-requires g c =
+    let all : size (layout (plan.the_row (param 0 (number g.row.N)))) < 2 ^ 63 = assumption in
     let e = c.args.equipment.now in
     let below : c.loop-group.group < length e.groups = subst (λ (rows : List GroupRow). c.loop-group.group < length rows) c.groups-group-end.ensures.rows c.loop-group-test.true in
-    (plan_fits g (start g c.before.before.before), (part_fits (size (layout (the_row (param 0 (number g.row.N))))) (plan_fits g (start g c.before.before.before)), room_for e c.sources-sources.result.now c.loop-group.group (groups_of c.loop-group.plan) c.sources-sources.ensures.sound below c.loop-group.invariant.planned))
+    (all, (part_fits (size (layout (the_row (param 0 (number g.row.N))))) all, room_for e c.sources-sources.result.now c.loop-group.group (groups_of c.loop-group.plan) c.sources-sources.ensures.sound below c.loop-group.invariant.planned))
 
 pub returns-clause-planned : goal.returns-clause-planned
 returns-clause-planned g c =
@@ -110,7 +105,7 @@ pub returns-clause-fault : goal.returns-clause-fault
 returns-clause-fault g c = tt
 
 pub empty-plan-requires : goal.empty-plan-requires
-empty-plan-requires g c = plan_fits g c.before
+empty-plan-requires g c = assumption
 
 pub loop-group-smaller : goal.loop-group-smaller
 loop-group-smaller g c = falls (length c.groups-group-end.result.now) c.loop-group.group c.loop-group-test.true

@@ -5,6 +5,7 @@ use Rattle.std.specs.Vec.Iter.{into_iter_items}
 use Rattle.std.proofs.lemmas.List.{nil_from_length}
 use Rattle.a429_values.specs.Ends as ends
 use Rattle.a429_station.specs.Resubmitting.{Running}
+use Rattle.a429_station.specs.Faults.{first_fault}
 use Rattle.a429_station.specs.Working.{IsJoined, IsOver, IsReceiverAt}
 use Rattle.a429_station.specs.Numbered.{AllNumbered}
 use Rattle.a429_station.specs.declared.working.Emitted.{Emitted}
@@ -62,3 +63,32 @@ pub returns-clause-joined : goal.returns-clause-joined
 returns-clause-joined g c =
     let empty : into_iter_items c.loop-done.done-iterator ≡ [] = nil_from_length (into_iter_items c.loop-done.done-iterator) (search rules) in
     c.loop-done.invariant.joined (subst (AllByRecursion (λ (d : Emitted g.row.B.Denot). IsJoined c.args.hub.now.station c.args.station.now.planner.list c.args.receivers.now d.transmit)) (sym empty) tt)
+
+pub returns-in-Err-clause-totals : goal.returns-in-Err-clause-totals
+returns-in-Err-clause-totals g c = tt
+
+pub returns-in-Err-clause-sinks : goal.returns-in-Err-clause-sinks
+returns-in-Err-clause-sinks g c = tt
+
+pub returns-in-Err-clause-joined : goal.returns-in-Err-clause-joined
+returns-in-Err-clause-joined g c = tt
+
+-- nothing was told yet, and all is to come
+told_first : {D T S : Type 0} (h : T → S) (f : D → S) (told : List T) (before all : List D) → told ≡ [] → before ≡ all → map h told ++ map f before ≡ map f all
+told_first {D} {T} h f told before all none same = ap (λ (l : List T). map h l ++ map f before) none ∙ ap (λ (l : List D). map f l) same
+
+kept_first : {D S : Type 0} (f : D → S) (kept : List S) (before all : List D) → kept ≡ [] → before ≡ all → kept ++ map f before ≡ map f all
+kept_first {D} {S} f kept before all none same = ap (λ (l : List S). l ++ map f before) none ∙ ap (λ (l : List D). map f l) same
+
+pub loop-done-init : goal.loop-done-init
+loop-done-init g c =
+    let same : into_iter_items c.into_iter-done-iterator.result ≡ c.args.sent.items = c.into_iter-done-iterator.ensures.into_iter_gives.0 in
+    record {
+      totals = told_first (λ t. Ok t) (λ d. d.answer) c.new.result.items (into_iter_items c.into_iter-done-iterator.result) c.args.sent.items c.new.ensures.items same;
+      sinks = kept_first (λ d. d.sink) c.new-2.result.items (into_iter_items c.into_iter-done-iterator.result) c.args.sent.items c.new-2.ensures.items same;
+      first = ap (λ (l : List (Emitted g.row.B.Denot)). first_fault (map (λ d. d.answer) l)) same;
+      over = subst (AllByRecursion (λ (d : Emitted g.row.B.Denot). IsOver c.args.hub.now c.args.station.now.planner d.transmit d.answer)) (sym same) c.requires.groups;
+      joined = subst (AllByRecursion (λ (d : Emitted g.row.B.Denot). IsJoined c.args.hub.now.station c.args.station.now.planner.list c.args.receivers.now d.transmit)) same;
+      receivers = refl;
+      station = refl;
+    }

@@ -1,10 +1,11 @@
-use Rattle.std.proofs.Common.{◌≡◌, ◌∙◌, ◌∷◌, [], ℕ, length, replicate, sym, ap, subst}
+use Rattle.std.proofs.Common.{◌≡◌, ◌<◌, ◌∙◌, ◌∷◌, [], ℕ, List, length, replicate, sym, ap, subst}
 use Rattle.std.specs.Prelude.{Some, slice_get}
+use Rattle.std.proofs.lemmas.List.{length-replicate}
 use Rattle.std.proofs.lemmas.Option.{same_Some}
 use mathlib.Core.List.{IsPrefix}
 use Rattle.a429_slots.specs.Tables.{PlanTable, groups_of}
 use Rattle.a429_slots.specs.FrameStates.{FrameState, begun}
-use Rattle.a429_slots.specs.Recalling.{never}
+use Rattle.a429_slots.specs.Recalling.{Recent, never}
 use Rattle.a429_slots.proofs.Remembering.{AreRecalled}
 use Rattle.a429_workers.specs.Transmitting.{HasMade, IsKnownTable}
 use Rattle.a429_workers.proofs.Changing.{first_known, nothing_made}
@@ -28,3 +29,9 @@ returns-clause-stands c = λ p own known.
     let frame : begun c.args.first_slot p ≡ c.in_ok-sender.sender = sym (c.in_ok-sender.ensures ∙ ap (begun c.args.first_slot) table) in
     subst (λ (n : ℕ). HasMade (record { opened = w.opened; group = t.number; table = p; first = c.args.first_slot; before = t.loads }) [] (record { transmitter = t; watcher = w; frame = c.in_ok-sender.sender; number = n; sends = c.in_ok-sends.sends })) numbered
     (subst (λ (f : FrameState). HasMade (record { opened = w.opened; group = t.number; table = p; first = c.args.first_slot; before = t.loads }) [] (record { transmitter = t; watcher = w; frame = f; number = w.opened.number; sends = c.in_ok-sends.sends })) frame made)
+
+pub invariant_of-result : goal.invariant_of-result
+invariant_of-result c = (
+  ap (λ (rs : List Recent). length rs) c.in_ok-sends.ensures ∙ (length-replicate c.sources.result never ∙ c.sources.ensures),
+  subst (λ (n : ℕ). n < length (groups_of c.args.watcher.opened)) c.requires.group c.requires.planned,
+)
