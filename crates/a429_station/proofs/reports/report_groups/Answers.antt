@@ -73,7 +73,7 @@ returns-in-Err-clause-sinks g c = tt
 pub returns-in-Err-clause-joined : goal.returns-in-Err-clause-joined
 returns-in-Err-clause-joined g c = tt
 
--- nothing was told yet, and all is to come
+-- no worker has ended yet, and all are to come
 told_first : {D T S : Type 0} (h : T → S) (f : D → S) (told : List T) (before all : List D) → told ≡ [] → before ≡ all → map h told ++ map f before ≡ map f all
 told_first {D} {T} h f told before all none same = ap (λ (l : List T). map h l ++ map f before) none ∙ ap (λ (l : List D). map f l) same
 
