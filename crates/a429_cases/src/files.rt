@@ -1,35 +1,54 @@
 //! The files that a command finds.
 
+use crate::parts::find_file;
 use a429_cli::{FileFault, FileReader, FileTrouble, MemoryFiles};
+use std::alloc::Global;
+
+/// What no file is named.
+const NO_TEXT: &[u8] = b"\xff";
 
 /// Files in memory. After `given` reads memory runs out.
 #[derive(Drop)]
 pub struct CaseFiles<'a> {
-    pub files: MemoryFiles,
-    pub given: usize,
-    pub reads: usize,
+    alloc: Global,
+    files: &'a MemoryFiles,
+    given: usize,
+    reads: usize,
     /// The arguments that may name a file. A read takes the argument of its name away.
-    pub unread: Vec<&'a [u8]>,
+    unread: Vec<&'a [u8]>,
     /// Whether a file was read more often than the arguments name it.
     pub has_reread: bool,
 }
 
 impl<'a> CaseFiles<'a> {
-    /// Before a command with these arguments runs.
-    pub fn begin(&mut self, words: &[&'a [u8]]) {
-        self.reads = 0;
-        self.unread.clear();
-        self.has_reread = self.unread.extend_from_slice(words).is_err();
+    /// The files of a command with these arguments.
+    pub fn new(
+        alloc: Global,
+        files: &'a MemoryFiles,
+        given: usize,
+        words: &[&'a [u8]],
+    ) -> CaseFiles<'a> {
+        let mut unread = Vec::new(alloc);
+        let has_reread = unread.extend_from_slice(words).is_err();
+        CaseFiles {
+            alloc,
+            files,
+            given,
+            reads: 0,
+            unread,
+            has_reread,
+        }
     }
 
     /// Takes the argument of this name away.
     fn mark_read(&mut self, name: &str) {
-        match self.unread.iter().position(|word| is_named(word, name)) {
-            Some(place) => {
-                self.unread.swap_remove(place);
+        for word in &mut self.unread {
+            if is_named(word, name) {
+                *word = NO_TEXT;
+                return;
             }
-            None => self.has_reread = true,
         }
+        self.has_reread = true;
     }
 }
 
@@ -53,13 +72,19 @@ impl FileReader for CaseFiles<'_> {
 
     ghost known = { λ _ _ _ _ told _. not_told told };
 
-    fn read(&mut self, name: &str, most: usize) -> Result<Vec<u8>, FileFault> {
+    fn read(&mut self, name: &str, _most: usize) -> Result<Vec<u8>, FileFault> {
         self.mark_read(name);
         self.reads = self.reads.saturating_add(1);
         if self.reads > self.given {
             return Err(FileFault::NoMemory);
         }
-        self.files.read(name, most)
+        match find_file(self.files, name) {
+            Some(bytes) => match Vec::from_slice(self.alloc, bytes) {
+                Ok(bytes) => Ok(bytes),
+                Err(_) => Err(FileFault::NoMemory),
+            },
+            None => Err(FileFault::Refused),
+        }
     }
 
     fn trouble(&self, name: &str) -> FileTrouble {

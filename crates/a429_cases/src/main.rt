@@ -14,24 +14,39 @@ mod outputs;
 mod parts;
 mod playing;
 mod reported;
-mod sections;
+mod reports;
 mod spelling;
+mod written;
 
-use a429_cli::MemoryFiles;
+use a429_cli::{MemoryFiles, given_words};
+use a429_text::Text;
 use playing::take_file;
+use reports::print_report;
 use std::process::ExitCode;
-use std::{env, io};
+use std::rt::Files;
+use std::sync::Wait;
+use std::thread::Threads;
 
-fn main(rt: HostRuntime) -> io::Result<ExitCode> {
+fn main(rt: HostRuntime) -> ExitCode {
+    match given_words(rt.alloc(), &rt) {
+        Ok(paths) => take_files(&rt, &paths),
+        Err(_) => {
+            let _ = println!(rt; "the arguments cannot be read");
+            ExitCode::FAILURE
+        }
+    }
+}
+
+fn take_files<R: Files + Print + AllocGlobal + Threads + Wait>(
+    rt: &R,
+    paths: &[String],
+) -> ExitCode {
     let mut texts = MemoryFiles {
         files: Vec::new(rt.alloc()),
     };
-    let mut are_met = true;
-    for path in env::args(&rt)?.skip(1) {
-        are_met = take_file(&rt, &mut texts, &path) && are_met;
+    let mut report = Text::new(rt.alloc());
+    for path in paths {
+        take_file(rt, &mut texts, &mut report, path);
     }
-    if are_met {
-        println!(rt; "all cases are met")?;
-    }
-    Ok(ExitCode::from(u8::from(!are_met)))
+    print_report(rt, &report)
 }

@@ -7,23 +7,14 @@ use bstr::ByteSlice;
 use std::io::ErrorKind;
 
 /// What a command did.
+#[derive(Drop)]
 pub struct Outcome {
     pub out: CountedWriter<Taken>,
     pub err: CountedWriter<Taken>,
     pub reported: Reported,
     pub status: u8,
-}
-
-// Written by hand, a drop is one call in the proofs of its owners.
-impl Drop for Outcome {
-    fn drop(self) {
-        let Self {
-            out: _,
-            err: _,
-            reported: _,
-            status: _,
-        } = self;
-    }
+    /// Whether a file was read more often than the arguments name it.
+    pub has_reread: bool,
 }
 
 impl Outcome {
@@ -41,19 +32,23 @@ impl Outcome {
 
     /// Whether standard error has each of these lines. Without any it is empty, or has hints.
     pub fn has_errors(&self, lines: Option<&[u8]>) -> bool {
-        let err = str::from_utf8(&self.err.writer.bytes).unwrap_or("not UTF-8");
+        let err = text_of(&self.err.writer.bytes);
         match lines {
-            Some(lines) => !err.is_empty()
-                && has_lines(err, str::from_utf8(lines).unwrap_or("not UTF-8")),
+            Some(lines) => !err.is_empty() && has_lines(err, text_of(lines)),
             None => err.is_empty() || self.may_hint() && are_hints(err),
         }
     }
 
     fn may_hint(&self) -> bool {
-        let out = str::from_utf8(&self.out.writer.bytes).unwrap_or("");
+        let out = text_of(&self.out.writer.bytes);
         let is_refused = self.status == 1 || out.starts_with("refused ") || refuses_a_table(out);
         is_refused && !out.ends_with("refused memory\n")
     }
+}
+
+/// The text that these bytes are.
+pub fn text_of(bytes: &[u8]) -> &str {
+    str::from_utf8(bytes).unwrap_or("not UTF-8")
 }
 
 /// Whether an output is the stated one. A line `...` matches any text.
@@ -77,22 +72,35 @@ fn has_lines(text: &str, lines: &str) -> bool {
     true
 }
 
-/// Whether a line refuses a table. After the refusal of a further table the command goes on.
+/// How lines that refuse a table begin. After the refusal of a further table the command goes on.
+static TABLE_REFUSALS: [&str; 4] = [
+    "refused table ",
+    "refused unfit ",
+    "refused too-many-buses ",
+    "refused station-differs",
+];
+
 fn refuses_a_table(out: &str) -> bool {
-    out.contains("refused table ")
-        || out.contains("refused unfit ")
-        || out.contains("refused too-many-buses ")
-        || out.contains("refused station-differs")
+    for refusal in &TABLE_REFUSALS {
+        if out.contains(*refusal) {
+            return true;
+        }
+    }
+    false
 }
 
 /// Whether each line is a hint.
 fn are_hints(err: &str) -> bool {
     for line in err.split('\n') {
-        if !line.is_empty() && !line.starts_with("a429: ") {
+        if !is_hint(line) {
             return false;
         }
     }
     true
+}
+
+fn is_hint(line: &str) -> bool {
+    line.is_empty() || line.starts_with("a429: ")
 }
 
 /// What standard error gets if standard output failed. If its reader closed it, that is nothing.

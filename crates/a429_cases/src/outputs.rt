@@ -5,46 +5,47 @@ use std::alloc::Global;
 use std::io;
 use std::io::{ErrorKind, Write};
 
-/// How many bytes an output takes in one call, after how many calls it fails, and how. Flushes are calls too.
-#[derive(Clone, Copy)]
-pub struct Limits {
-    pub piece: usize,
-    pub good_calls: usize,
-    pub kind: ErrorKind,
-}
-
-/// An output that takes all.
-pub static NO_LIMITS: Limits = Limits {
-    piece: usize::MAX,
-    good_calls: usize::MAX,
-    kind: ErrorKind::WriteZero,
-};
-
-/// An output in memory: what it took, its calls, and whether the last one was a flush.
+/// An output in memory: what it took, its calls, and whether the last one was a flush. Flushes are calls too.
 #[derive(Drop)]
 pub struct Taken {
     pub bytes: Vec<u8>,
     pub calls: usize,
     pub is_flushed: bool,
-    limits: Limits,
+    /// How many bytes it takes in one call.
+    piece: usize,
+    /// After how many calls it fails, and how.
+    good_calls: usize,
+    kind: ErrorKind,
 }
 
-/// An output in memory with these limits.
-pub fn output(alloc: Global, limits: Limits) -> CountedWriter<Taken> {
+/// An output in memory that takes this number of bytes in one call, and fails after this number of calls.
+pub fn output(
+    alloc: Global,
+    piece: usize,
+    good_calls: usize,
+    kind: ErrorKind,
+) -> CountedWriter<Taken> {
     CountedWriter::new(Taken {
         bytes: Vec::new(alloc),
         calls: 0,
         is_flushed: false,
-        limits,
+        piece,
+        good_calls,
+        kind,
     })
 }
 
 impl Taken {
+    /// Whether it failed after this number of calls, and has the beginning of what the other took.
+    pub fn is_cut_from(&self, all: &Taken, good_calls: usize) -> bool {
+        self.calls == good_calls.saturating_add(1) && all.bytes.starts_with(&self.bytes)
+    }
+
     /// Counts a call, which may fail.
     fn call(&mut self, is_flush: bool) -> io::Result<()> {
         self.calls = self.calls.saturating_add(1);
-        if self.calls > self.limits.good_calls {
-            return Err(io::Error::from(self.limits.kind));
+        if self.calls > self.good_calls {
+            return Err(io::Error::from(self.kind));
         }
         self.is_flushed = is_flush;
         Ok(())
@@ -54,7 +55,7 @@ impl Taken {
 impl Write for Taken {
     fn write(&mut self, buf: &[u8]) -> io::Result<usize> {
         self.call(false)?;
-        let count = self.limits.piece.min(buf.len());
+        let count = self.piece.min(buf.len());
         self.bytes.extend_from_slice(&buf[..count])?;
         Ok(count)
     }

@@ -1,144 +1,216 @@
 //! Plays cases one by one, and reports those that fail.
 
 use crate::case::{Case, case_of};
+use crate::files::CaseFiles;
 use crate::outcome::Outcome;
-use crate::parts::keep_file;
-use crate::sections::{Written, read_sections};
-use crate::spelling::{number_before, spelled};
+use crate::parts::{keep_file, share_part};
+use crate::reports::report_outcome;
+use crate::spelling::{cut, number_before, words_of};
+use crate::written::Written;
 use a429_cli::{MemoryFiles, MemoryWords, run_program};
 use a429_hints::HintLines;
+use a429_text::Text;
+use std::alloc::Global;
 use std::fs;
 use std::io::ErrorKind;
 use std::rt::Files;
 use std::sync::Wait;
 use std::thread::Threads;
 
-/// Plays the cases of a file, or keeps its text for later ones. `false` if a case failed.
-pub fn take_file<R: Files + Print + AllocGlobal + Threads + Wait>(
+/// Plays the cases of a file, or keeps its text for later ones.
+pub fn take_file<R: Files + AllocGlobal + Threads + Wait>(
     rt: &R,
     texts: &mut MemoryFiles,
+    report: &mut Text,
     path: &str,
-) -> bool {
+) {
     let (_, name) = path.rsplit_once('/').unwrap_or(("", path));
-    let Ok(text) = fs::read_to_string(rt, path) else {
-        let _ = println!(rt; "{name}: not a file of text");
-        return false;
-    };
-    if name.ends_with(".cases") {
-        play_file(rt, texts, name, &text)
-    } else {
-        keep_file(rt.alloc(), texts, name, text.into_bytes()).is_some()
+    match fs::read_to_string(rt, path) {
+        Ok(text) => take_text(rt, texts, report, name, text),
+        Err(_) => report.fill(&[name, ": not a file of text\n"], &[]),
     }
 }
 
-/// Whether a file of cases has as many as its first line says: `# 16 cases`.
-fn has_count(text: &str, count: usize) -> bool {
-    let Some(line) = text.strip_prefix("# ") else {
+fn take_text<R: AllocGlobal + Threads + Wait>(
+    rt: &R,
+    texts: &mut MemoryFiles,
+    report: &mut Text,
+    name: &str,
+    text: String,
+) {
+    if name.ends_with(".cases") {
+        play_file(rt, texts, report, name, &text);
+    } else if keep_file(rt.alloc(), texts, name, text.into_bytes()).is_none() {
+        report.fill(&[name, ": cannot be kept\n"], &[]);
+    }
+}
+
+/// Plays the cases of a file. Then it forgets the texts that the file shares.
+fn play_file<R: AllocGlobal + Threads + Wait>(
+    rt: &R,
+    texts: &mut MemoryFiles,
+    report: &mut Text,
+    name: &str,
+    text: &str,
+) {
+    let kept = texts.files.len();
+    let (head, sections) = cut(text, "\n=== ");
+    let count = play_sections(rt, texts, report, sections);
+    texts.files.truncate(kept);
+    if !has_count(head, count) {
+        report.fill(
+            &[
+                "there are ",
+                " cases in ",
+                name,
+                ", which its first line does not say\n",
+            ],
+            &[count as u64],
+        );
+    }
+}
+
+/// Whether the first line of a file of cases says that it has this number: `# 16 cases`.
+fn has_count(head: &str, count: usize) -> bool {
+    let Some(line) = head.strip_prefix("# ") else {
         return false;
     };
-    match number_before(line, " cases\n") {
+    match number_before(line, " cases") {
         Some((stated, _)) => stated == count,
         None => false,
     }
 }
 
-/// Plays the cases of a file. Then it forgets the texts that the file shares. `false` if a case failed, or if there are not as
-/// many as the file says.
-fn play_file<R: Print + AllocGlobal + Threads + Wait>(
+/// Keeps the texts that sections share, and plays their cases. The answer is the number of cases.
+fn play_sections<R: AllocGlobal + Threads + Wait>(
     rt: &R,
     texts: &mut MemoryFiles,
-    name: &str,
-    text: &str,
-) -> bool {
-    let kept = texts.files.len();
-    let Ok(cases) = read_sections(rt.alloc(), texts, text) else {
-        return false;
-    };
-    let mut are_met = true;
-    for written in &cases {
-        are_met = play(rt, texts, written) && are_met;
+    report: &mut Text,
+    sections: &str,
+) -> usize {
+    let mut count: usize = 0;
+    for section in sections.split("\n=== ") {
+        let cases = play_section(rt, texts, report, section.trim_end_matches('\n'));
+        count = count.saturating_add(cases);
     }
-    texts.files.truncate(kept);
-    let count = cases.len();
-    if !has_count(text, count) {
-        let _ = println!(rt; "{name}: {count} cases, which its first line does not say");
-        are_met = false;
-    }
-    are_met
+    count
 }
 
-/// Plays a case, and reports it if it fails.
-fn play<R: Print + AllocGlobal + Threads + Wait>(
+/// Keeps the text that a section shares, or plays its cases. The answer is their number.
+fn play_section<R: AllocGlobal + Threads + Wait>(
+    rt: &R,
+    texts: &mut MemoryFiles,
+    report: &mut Text,
+    section: &str,
+) -> usize {
+    match section.strip_prefix("text ") {
+        Some(part) => {
+            share(rt.alloc(), texts, report, part);
+            0
+        }
+        None => play_rows(rt, texts, report, section),
+    }
+}
+
+/// Keeps a text that cases share.
+fn share(alloc: Global, texts: &mut MemoryFiles, report: &mut Text, part: &str) {
+    if share_part(alloc, texts, part).is_none() {
+        report.fill(&[cut(part, "\n").0, ": cannot be read\n"], &[]);
+    }
+}
+
+/// Plays a case for each row of a section, or one if it has no rows. The answer is their number.
+fn play_rows<R: AllocGlobal + Threads + Wait>(
     rt: &R,
     texts: &MemoryFiles,
+    report: &mut Text,
+    section: &str,
+) -> usize {
+    let (title, text) = cut(section, "\n");
+    let (text, rows) = cut(text, "\n--- rows\n");
+    let mut count: usize = 0;
+    for row in rows.split('\n') {
+        play(rt, texts, report, &Written { title, text, row });
+        count = count.saturating_add(1);
+    }
+    count
+}
+
+/// Plays a case.
+fn play<R: AllocGlobal + Threads + Wait>(
+    rt: &R,
+    texts: &MemoryFiles,
+    report: &mut Text,
     written: &Written<'_>,
-) -> bool {
-    let Ok(text) = written.filled(rt.alloc()) else {
-        return false;
-    };
-    let (line, parts) = text.split_once("\n--- ").unwrap_or((&text, ""));
-    let Ok(line) = spelled(rt.alloc(), line) else {
-        return false;
-    };
-    match case_of(rt.alloc(), texts, &line, parts) {
-        Some(mut case) => play_case(rt, &mut case, written),
-        None => {
-            let _ = println!(rt; "{} {}: cannot be read", written.title, written.row);
-            false
-        }
+) {
+    match case_of(rt.alloc(), texts, written) {
+        Some(case) => play_case(rt, report, written, &case),
+        None => report.fill(
+            &[written.title, " ", written.row, ": cannot be read\n"],
+            &[],
+        ),
     }
 }
 
-fn play_case<R: Print + AllocGlobal + Threads + Wait>(
+fn play_case<R: AllocGlobal + Threads + Wait>(
     rt: &R,
-    case: &mut Case<'_>,
+    report: &mut Text,
     written: &Written<'_>,
-) -> bool {
+    case: &Case,
+) {
     let whole = run(rt, case, usize::MAX, ErrorKind::WriteZero);
-    let is_met = case.is_met(rt.alloc(), &whole) && ends_at_each_failure(rt, case, &whole);
-    if !is_met {
-        report(rt, written, &whole);
+    if !case.is_met(rt.alloc(), &whole) || !ends_at_each_failure(rt, case, &whole) {
+        report_outcome(rt.alloc(), report, written, &whole);
     }
-    is_met
 }
 
 /// Runs the program on a case. The output that is to fail does so after this number of calls.
 fn run<R: AllocGlobal + Threads + Wait>(
     rt: &R,
-    case: &mut Case<'_>,
+    case: &Case,
     good_calls: usize,
     kind: ErrorKind,
 ) -> Outcome {
     let mut outcome = case.begin(rt.alloc(), good_calls, kind);
+    if let Ok(words) = words_of(rt.alloc(), &case.line) {
+        run_words(rt, case, &words, &mut outcome);
+    }
+    outcome
+}
+
+fn run_words<'a, R: AllocGlobal + Threads + Wait>(
+    rt: &R,
+    case: &'a Case,
+    words: &[&'a [u8]],
+    outcome: &mut Outcome,
+) {
+    let mut files = CaseFiles::new(rt.alloc(), &case.files, case.given, words);
     let Outcome {
         out,
         err,
         reported,
         status,
-    } = &mut outcome;
-    let Case { words, files, .. } = case;
+        has_reread,
+    } = outcome;
     *status = run_program(
         rt,
         &MemoryWords { words },
         &HintLines,
-        files,
+        &mut files,
         out,
         err,
         reported,
     );
-    outcome
+    *has_reread = files.has_reread;
 }
 
-/// Whether the command ends at each call that fails, both for an error and for a reader that closed the output.
+/// Whether the command ends at each call that is to fail, both for an error and for a reader that closed the output.
 fn ends_at_each_failure<R: AllocGlobal + Threads + Wait>(
     rt: &R,
-    case: &mut Case<'_>,
+    case: &Case,
     whole: &Outcome,
 ) -> bool {
-    let Some(calls) = case.failing_calls(whole) else {
-        return false;
-    };
-    for good_calls in 0..calls {
+    for good_calls in 0..case.failing_calls(whole) {
         if !ends_short(rt, case, whole, good_calls, ErrorKind::WriteZero)
             || !ends_short(rt, case, whole, good_calls, ErrorKind::BrokenPipe)
         {
@@ -150,23 +222,11 @@ fn ends_at_each_failure<R: AllocGlobal + Threads + Wait>(
 
 fn ends_short<R: AllocGlobal + Threads + Wait>(
     rt: &R,
-    case: &mut Case<'_>,
+    case: &Case,
     whole: &Outcome,
     good_calls: usize,
     kind: ErrorKind,
 ) -> bool {
     let cut = run(rt, case, good_calls, kind);
     case.ends_short(whole, &cut, good_calls, kind)
-}
-
-/// Prints what the program did, in one line.
-fn report<R: Print>(rt: &R, written: &Written<'_>, outcome: &Outcome) {
-    let (title, row, status) = (written.title, written.row, outcome.status);
-    let (out, err) = (
-        outcome.out.writer.bytes.escape_ascii(),
-        outcome.err.writer.bytes.escape_ascii(),
-    );
-    let _ = println!(rt;
-        "{title} {row}: status {status}, wrote \"{out}\", on standard error \"{err}\""
-    );
 }

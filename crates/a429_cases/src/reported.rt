@@ -1,9 +1,8 @@
 //! What a run of a station reports while it works.
 
 use a429_cli::Progress;
+use a429_text::Text;
 use std::alloc::Global;
-use std::io;
-use std::io::Write;
 use std::sync::atomic::{AtomicU64, Ordering};
 
 /// The sums of what was reported.
@@ -28,21 +27,18 @@ impl Reported {
 
     /// Whether the sums are the stated ones.
     pub fn are(&self, alloc: Global, stated: &[u8]) -> bool {
-        match self.text(alloc) {
-            Ok(text) => text.as_slice() == stated,
+        let sums = [
+            load(&self.sent),
+            load(&self.announced),
+            load(&self.accepted),
+            load(&self.ends),
+        ];
+        let mut text = Text::new(alloc);
+        text.fill(&["sent ", " of ", ", accepted ", ", ends ", "\n"], &sums);
+        match text.as_bytes() {
+            Ok(text) => text == stated,
             Err(_) => false,
         }
-    }
-
-    fn text(&self, alloc: Global) -> io::Result<Vec<u8>> {
-        let (announced, sent) = (load(&self.announced), load(&self.sent));
-        let (accepted, ends) = (load(&self.accepted), load(&self.ends));
-        let mut text = Vec::new(alloc);
-        writeln!(
-            text,
-            "sent {sent} of {announced}, accepted {accepted}, ends {ends}"
-        )?;
-        Ok(text)
     }
 }
 
