@@ -114,9 +114,8 @@ fn shared_bytes(alloc: Global, texts: &MemoryFiles, text: &str) -> Option<Vec<u8
 
 /// The bytes of `NAME`, or of `N bytes of NAME`.
 fn named_bytes<'a>(texts: &'a MemoryFiles, text: &str) -> Option<&'a [u8]> {
-    let (count, name) = number_before(text, " bytes of ").unwrap_or((usize::MAX, text));
-    match find_file(texts, name) {
-        Some(bytes) => bytes.get(..count.min(bytes.len())),
-        None => None,
+    match number_before(text, " bytes of ") {
+        Some((count, name)) => find_file(texts, name)?.get(..count),
+        None => find_file(texts, text),
     }
 }

@@ -54,10 +54,9 @@ fn play_file<R: AllocGlobal + Threads + Wait>(
     text: &str,
 ) {
     let kept = texts.files.len();
-    let (head, sections) = cut(text, "\n=== ");
-    let count = play_sections(rt, texts, report, sections);
+    let count = play_sections(rt, texts, report, text);
     texts.files.truncate(kept);
-    if !has_count(head, count) {
+    if !has_count(text, count) {
         report.fill(
             &[
                 "there are ",
@@ -71,25 +70,28 @@ fn play_file<R: AllocGlobal + Threads + Wait>(
 }
 
 /// Whether the first line of a file of cases says that it has this number: `# 16 cases`.
-fn has_count(head: &str, count: usize) -> bool {
-    let Some(line) = head.strip_prefix("# ") else {
+fn has_count(text: &str, count: usize) -> bool {
+    let Some(line) = text.strip_prefix("# ") else {
         return false;
     };
-    match number_before(line, " cases") {
+    match number_before(line, " cases\n") {
         Some((stated, _)) => stated == count,
         None => false,
     }
 }
 
-/// Keeps the texts that sections share, and plays their cases. The answer is the number of cases.
+/// Keeps the texts that the sections of a file share, and plays their cases. Comments are before the first section. The answer
+/// is the number of cases.
 fn play_sections<R: AllocGlobal + Threads + Wait>(
     rt: &R,
     texts: &mut MemoryFiles,
     report: &mut Text,
-    sections: &str,
+    text: &str,
 ) -> usize {
     let mut count: usize = 0;
-    for section in sections.split("\n=== ") {
+    let mut sections = text.split("\n=== ");
+    let _ = sections.next();
+    for section in sections {
         let cases = play_section(rt, texts, report, section.trim_end_matches('\n'));
         count = count.saturating_add(cases);
     }
