@@ -13,26 +13,39 @@ use std::io::ErrorKind;
 /// The status of a case that was not run. No command ends with it.
 const NOT_RUN: u8 = 255;
 
+/// What is before the name of a part.
+const PART: &str = "\n--- ";
+
 /// A case.
-#[derive(Drop)]
 pub struct Case {
     /// The arguments of the program.
     pub line: Vec<u8>,
     /// The parts by their names. Those that are no files of the command have what it must write.
     pub files: MemoryFiles,
-    /// After how many reads of files memory runs out.
-    pub given: usize,
     status: u8,
+    failing: Failing,
+}
+
+/// The output that is to fail.
+#[derive(Clone, Copy)]
+struct Failing {
+    /// How many calls it has at least. 0: none is to fail.
+    least_calls: usize,
     /// How many bytes an output takes in one call.
     piece: usize,
-    /// How many calls the output that is to fail has at least. 0: none is to fail.
-    least_calls: usize,
-    /// Whether that is standard error.
+    /// Whether it is standard error.
     is_err: bool,
 }
 
+/// No output is to fail.
+const NOT_FAILING: Failing = Failing {
+    least_calls: 0,
+    piece: usize::MAX,
+    is_err: false,
+};
+
 /// The case that was written so. `None` if it cannot be read.
-pub fn case_of(alloc: Global, texts: &MemoryFiles, written: &Written<'_>) -> Option<Case> {
+pub fn case_of(alloc: Global, texts: &MemoryFiles, written: Written<'_>) -> Option<Case> {
     match written.filled(alloc) {
         Ok(text) => case_of_text(alloc, texts, &text),
         Err(_) => None,
@@ -40,11 +53,9 @@ pub fn case_of(alloc: Global, texts: &MemoryFiles, written: &Written<'_>) -> Opt
 }
 
 fn case_of_text(alloc: Global, texts: &MemoryFiles, text: &str) -> Option<Case> {
-    let (line, parts) = cut(text, "\n--- ");
-    match spelled(alloc, line) {
-        Ok(line) => case_of_parts(alloc, texts, line, parts),
-        Err(_) => None,
-    }
+    let (line, parts) = cut(text, PART);
+    let line = spelled(alloc, line)?;
+    case_of_parts(alloc, texts, line, parts)
 }
 
 fn case_of_parts(alloc: Global, texts: &MemoryFiles, line: Vec<u8>, parts: &str) -> Option<Case> {
@@ -53,11 +64,8 @@ fn case_of_parts(alloc: Global, texts: &MemoryFiles, line: Vec<u8>, parts: &str)
         files: MemoryFiles {
             files: Vec::new(alloc),
         },
-        given: usize::MAX,
         status: 0,
-        piece: usize::MAX,
-        least_calls: 0,
-        is_err: false,
+        failing: NOT_FAILING,
     };
     if case.take_parts(alloc, texts, parts) {
         Some(case)
@@ -66,14 +74,32 @@ fn case_of_parts(alloc: Global, texts: &MemoryFiles, line: Vec<u8>, parts: &str)
     }
 }
 
+impl Drop for Case {
+    fn drop(self) {
+        let Self {
+            line: _,
+            files: _,
+            status: _,
+            failing: _,
+        } = self;
+    }
+}
+
 impl Case {
     /// Reads parts. `false` if one cannot be read.
     fn take_parts(&mut self, alloc: Global, texts: &MemoryFiles, parts: &str) -> bool {
-        let mut are_read = true;
-        for part in parts.split("\n--- ") {
-            are_read = self.take(alloc, texts, part).is_some() && are_read;
+        let mut rest = parts;
+        for _ in 0..parts.len() {
+            let (part, after) = cut(rest, PART);
+            if self.take(alloc, texts, part).is_none() {
+                return false;
+            }
+            rest = after;
+            if rest.is_empty() {
+                break;
+            }
         }
-        are_read
+        true
     }
 
     /// Reads a part.
@@ -82,17 +108,14 @@ impl Case {
         match name {
             "out" => self.take_out(alloc, texts, form),
             "fails" => self.take_failing(form),
-            "memory" => self.take_memory(form),
             _ => self.keep(alloc, texts, name, form),
         }
     }
 
     /// Keeps the bytes of a part under this name.
     fn keep(&mut self, alloc: Global, texts: &MemoryFiles, name: &str, form: &str) -> Option<()> {
-        match part_bytes(alloc, texts, form) {
-            Some(bytes) => keep_file(alloc, &mut self.files, name.trim_matches('"'), bytes),
-            None => None,
-        }
+        let bytes = part_bytes(alloc, texts, form);
+        keep_file(alloc, &mut self.files, name, bytes)
     }
 
     /// Reads ` STATUS FORM`.
@@ -105,60 +128,45 @@ impl Case {
         self.keep(alloc, texts, "out", form)
     }
 
-    /// Reads ` READS`.
-    fn take_memory(&mut self, part: &str) -> Option<()> {
-        match part.trim().parse::<usize>() {
-            Ok(reads) => {
-                self.given = reads;
-                Some(())
-            }
-            Err(_) => None,
-        }
-    }
-
-    /// Reads ` OUTPUT PIECE CALLS`.
+    /// Reads ` CALLS calls of PIECE OUTPUT`.
     fn take_failing(&mut self, part: &str) -> Option<()> {
-        let (output, numbers) = cut(part.trim_start(), " ");
-        self.is_err = output == "err";
-        match number_before(numbers, " ") {
-            Some((piece, calls)) => self.take_calls(piece, calls),
-            None => None,
-        }
-    }
-
-    fn take_calls(&mut self, piece: usize, calls: &str) -> Option<()> {
-        self.piece = piece;
-        match calls.trim().parse::<usize>() {
-            Ok(calls) => {
-                self.least_calls = calls;
-                Some(())
-            }
-            Err(_) => None,
+        let (least_calls, rest) = number_before(part, " calls of ", 0);
+        let (piece, output) = number_before(rest, " ", 0);
+        self.failing = Failing {
+            least_calls,
+            piece,
+            is_err: output == "err",
+        };
+        if least_calls > 0 && piece > 0 {
+            Some(())
+        } else {
+            None
         }
     }
 
     /// Before the command runs. The output that is to fail does so after this number of calls.
     pub fn begin(&self, alloc: Global, good_calls: usize, kind: ErrorKind) -> Outcome {
-        let (out_calls, err_calls) = if self.is_err {
+        let Failing { piece, is_err, .. } = self.failing;
+        let (out_calls, err_calls) = if is_err {
             (usize::MAX, good_calls)
         } else {
             (good_calls, usize::MAX)
         };
         Outcome {
-            out: output(alloc, self.piece, out_calls, kind),
-            err: output(alloc, self.piece, err_calls, kind),
+            out: output(alloc, piece, out_calls, kind),
+            err: output(alloc, piece, err_calls, kind),
             reported: Reported::new(),
             status: NOT_RUN,
             has_reread: false,
         }
     }
 
-    /// Whether the program did what the case states.
+    /// Whether the program did what the case states, if no output failed.
     pub fn is_met(&self, alloc: Global, outcome: &Outcome) -> bool {
         outcome.status == self.status
             && !outcome.has_reread
             && outcome.is_flushed()
-            && outcome.outputs(self.is_err).0.calls >= self.least_calls
+            && outcome.outputs(self.failing.is_err).0.calls >= self.failing.least_calls
             && self.has_output(outcome)
             && outcome.has_errors(find_file(&self.files, "err"))
             && self.has_reports(alloc, outcome)
@@ -180,10 +188,10 @@ impl Case {
 
     /// How many calls of the output are to fail, one in each run.
     pub fn failing_calls(&self, whole: &Outcome) -> usize {
-        if self.least_calls == 0 {
+        if self.failing.least_calls == 0 {
             0
         } else {
-            whole.outputs(self.is_err).0.calls
+            whole.outputs(self.failing.is_err).0.calls
         }
     }
 
@@ -195,9 +203,9 @@ impl Case {
         good_calls: usize,
         kind: ErrorKind,
     ) -> bool {
-        let (failed, other) = cut.outputs(self.is_err);
-        let (all, rest) = whole.outputs(self.is_err);
-        let is_told = if self.is_err {
+        let (failed, other) = cut.outputs(self.failing.is_err);
+        let (all, rest) = whole.outputs(self.failing.is_err);
+        let is_told = if self.failing.is_err {
             other.bytes == rest.bytes
         } else {
             is_told(&other.bytes, kind)

@@ -7,13 +7,14 @@ use std::alloc::Global;
 /// What no file is named.
 const NO_TEXT: &[u8] = b"\xff";
 
-/// Files in memory. After `given` reads memory runs out.
+/// The text of a file for which memory runs out.
+const NO_MEMORY: &[u8] = b"\xffno memory";
+
+/// Files in memory.
 #[derive(Drop)]
 pub struct CaseFiles<'a> {
     alloc: Global,
     files: &'a MemoryFiles,
-    given: usize,
-    reads: usize,
     /// The arguments that may name a file. A read takes the argument of its name away.
     unread: Vec<&'a [u8]>,
     /// Whether a file was read more often than the arguments name it.
@@ -22,34 +23,27 @@ pub struct CaseFiles<'a> {
 
 impl<'a> CaseFiles<'a> {
     /// The files of a command with these arguments.
-    pub fn new(
-        alloc: Global,
-        files: &'a MemoryFiles,
-        given: usize,
-        words: &[&'a [u8]],
-    ) -> CaseFiles<'a> {
+    pub fn new(alloc: Global, files: &'a MemoryFiles, words: &[&'a [u8]]) -> CaseFiles<'a> {
         let mut unread = Vec::new(alloc);
         let has_reread = unread.extend_from_slice(words).is_err();
         CaseFiles {
             alloc,
             files,
-            given,
-            reads: 0,
             unread,
             has_reread,
         }
     }
+}
 
-    /// Takes the argument of this name away.
-    fn mark_read(&mut self, name: &str) {
-        for word in &mut self.unread {
-            if is_named(word, name) {
-                *word = NO_TEXT;
-                return;
-            }
+/// Takes the argument of this name away. `false` if there is none.
+fn mark_read(unread: &mut [&[u8]], name: &str) -> bool {
+    for place in 0..unread.len() {
+        if is_named(unread[place], name) {
+            unread[place] = NO_TEXT;
+            return true;
         }
-        self.has_reread = true;
     }
+    false
 }
 
 /// Whether an argument is the name of a file, alone or after `--OPTION=`.
@@ -73,21 +67,26 @@ impl FileReader for CaseFiles<'_> {
     ghost known = { λ _ _ _ _ told _. not_told told };
 
     fn read(&mut self, name: &str, _most: usize) -> Result<Vec<u8>, FileFault> {
-        self.mark_read(name);
-        self.reads = self.reads.saturating_add(1);
-        if self.reads > self.given {
-            return Err(FileFault::NoMemory);
+        if !mark_read(&mut self.unread, name) {
+            self.has_reread = true;
         }
         match find_file(self.files, name) {
-            Some(bytes) => match Vec::from_slice(self.alloc, bytes) {
-                Ok(bytes) => Ok(bytes),
-                Err(_) => Err(FileFault::NoMemory),
-            },
+            Some(bytes) => read_bytes(self.alloc, bytes),
             None => Err(FileFault::Refused),
         }
     }
 
     fn trouble(&self, name: &str) -> FileTrouble {
         self.files.trouble(name)
+    }
+}
+
+fn read_bytes(alloc: Global, bytes: &[u8]) -> Result<Vec<u8>, FileFault> {
+    if bytes == NO_MEMORY {
+        return Err(FileFault::NoMemory);
+    }
+    match Vec::from_slice(alloc, bytes) {
+        Ok(bytes) => Ok(bytes),
+        Err(_) => Err(FileFault::NoMemory),
     }
 }

@@ -2,12 +2,13 @@
 
 use crate::outputs::Taken;
 use crate::reported::Reported;
+use crate::spelling::cut;
 use a429_cli::CountedWriter;
+use a429_text::Text;
 use bstr::ByteSlice;
 use std::io::ErrorKind;
 
 /// What a command did.
-#[derive(Drop)]
 pub struct Outcome {
     pub out: CountedWriter<Taken>,
     pub err: CountedWriter<Taken>,
@@ -15,6 +16,18 @@ pub struct Outcome {
     pub status: u8,
     /// Whether a file was read more often than the arguments name it.
     pub has_reread: bool,
+}
+
+impl Drop for Outcome {
+    fn drop(self) {
+        let Self {
+            out: _,
+            err: _,
+            reported: _,
+            status: _,
+            has_reread: _,
+        } = self;
+    }
 }
 
 impl Outcome {
@@ -41,33 +54,45 @@ impl Outcome {
 
     fn may_hint(&self) -> bool {
         let out = text_of(&self.out.writer.bytes);
-        let is_refused = self.status == 1 || out.starts_with("refused ") || refuses_a_table(out);
-        is_refused && !out.ends_with("refused memory\n")
+        (self.status != 0 || refuses_a_table(out)) && !out.ends_with("refused memory\n")
+    }
+
+    /// Reports its status and what it wrote.
+    pub fn report(&self, failed: &mut Text) {
+        failed.put_number(u64::from(self.status));
+        failed.put("\n");
+        failed.put_bytes(&self.out.writer.bytes);
+        failed.put("--- err\n");
+        failed.put_bytes(&self.err.writer.bytes);
     }
 }
 
 /// The text that these bytes are.
-pub fn text_of(bytes: &[u8]) -> &str {
+fn text_of(bytes: &[u8]) -> &str {
     str::from_utf8(bytes).unwrap_or("not UTF-8")
 }
 
 /// Whether an output is the stated one. A line `...` matches any text.
 pub fn is_output(stated: &[u8], out: &[u8]) -> bool {
-    let Some((start, end)) = stated.split_once_str(b"...\n") else {
-        return stated == out;
-    };
-    match out.strip_prefix(start) {
-        Some(rest) => rest.ends_with(end),
-        None => false,
+    match stated.split_once_str(b"...\n") {
+        Some((start, end)) => {
+            out.len() >= start.len().saturating_add(end.len())
+                && out.starts_with(start)
+                && out.ends_with(end)
+        }
+        None => stated == out,
     }
 }
 
 /// Whether each of these lines is found in a text.
 fn has_lines(text: &str, lines: &str) -> bool {
-    for line in lines.split('\n') {
+    let mut rest = lines;
+    for _ in 0..lines.len() {
+        let (line, after) = cut(rest, "\n");
         if !text.contains(line) {
             return false;
         }
+        rest = after;
     }
     true
 }
@@ -91,16 +116,17 @@ fn refuses_a_table(out: &str) -> bool {
 
 /// Whether each line is a hint.
 fn are_hints(err: &str) -> bool {
-    for line in err.split('\n') {
-        if !is_hint(line) {
+    let mut rest = err;
+    for _ in 0..err.len() {
+        if rest.is_empty() {
+            break;
+        }
+        if !rest.starts_with("a429: ") {
             return false;
         }
+        rest = cut(rest, "\n").1;
     }
     true
-}
-
-fn is_hint(line: &str) -> bool {
-    line.is_empty() || line.starts_with("a429: ")
 }
 
 /// What standard error gets if standard output failed. If its reader closed it, that is nothing.

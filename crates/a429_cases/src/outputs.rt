@@ -41,26 +41,31 @@ impl Taken {
         self.calls == good_calls.saturating_add(1) && all.bytes.starts_with(&self.bytes)
     }
 
-    /// Counts a call, which may fail.
-    fn call(&mut self, is_flush: bool) -> io::Result<()> {
+    /// Counts a call. `false` if it fails.
+    fn is_good_call(&mut self, is_flush: bool) -> bool {
         self.calls = self.calls.saturating_add(1);
-        if self.calls > self.good_calls {
-            return Err(io::Error::from(self.kind));
-        }
         self.is_flushed = is_flush;
-        Ok(())
+        self.calls <= self.good_calls
     }
 }
 
 impl Write for Taken {
     fn write(&mut self, buf: &[u8]) -> io::Result<usize> {
-        self.call(false)?;
+        if !self.is_good_call(false) {
+            return Err(io::Error::from(self.kind));
+        }
         let count = self.piece.min(buf.len());
-        self.bytes.extend_from_slice(&buf[..count])?;
-        Ok(count)
+        match self.bytes.extend_from_slice(&buf[..count]) {
+            Ok(()) => Ok(count),
+            Err(error) => Err(io::Error::from(error)),
+        }
     }
 
     fn flush(&mut self) -> io::Result<()> {
-        self.call(true)
+        if self.is_good_call(true) {
+            Ok(())
+        } else {
+            Err(io::Error::from(self.kind))
+        }
     }
 }

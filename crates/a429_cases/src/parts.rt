@@ -1,6 +1,6 @@
 //! The bytes of a part of a case, and the files that have them.
 
-use crate::spelling::{cut, edited, number_before, spelled};
+use crate::spelling::{after, cut, edited, number_before, spelled};
 use a429_cli::MemoryFiles;
 use a429_text::Text;
 use std::alloc::Global;
@@ -15,8 +15,14 @@ pub fn find_file<'a>(files: &'a MemoryFiles, name: &str) -> Option<&'a [u8]> {
     None
 }
 
-/// Keeps a file under its name. `None` if there is one of this name, or if an allocation failed.
-pub fn keep_file(alloc: Global, files: &mut MemoryFiles, name: &str, bytes: Vec<u8>) -> Option<()> {
+/// Keeps a file under its name. `None` if there are no bytes, if there is a file of this name, or if an allocation failed.
+pub fn keep_file(
+    alloc: Global,
+    files: &mut MemoryFiles,
+    name: &str,
+    bytes: Option<Vec<u8>>,
+) -> Option<()> {
+    let bytes = bytes?;
     if find_file(files, name).is_some() {
         return None;
     }
@@ -32,18 +38,9 @@ pub fn name_and_form(part: &str) -> (&str, &str) {
     part.split_at_checked(end).unwrap_or((part, ""))
 }
 
-/// Keeps a text that cases share.
-pub fn share_part(alloc: Global, texts: &mut MemoryFiles, part: &str) -> Option<()> {
-    let (name, form) = name_and_form(part);
-    match part_bytes(alloc, texts, form) {
-        Some(bytes) => keep_file(alloc, texts, name, bytes),
-        None => None,
-    }
-}
-
 /// The bytes of a part, of which this follows the name: spelled, of a shared text, or lines. `None` if it is none of these.
 pub fn part_bytes(alloc: Global, texts: &MemoryFiles, form: &str) -> Option<Vec<u8>> {
-    match form.strip_prefix(' ') {
+    match after(form, " ") {
         Some(form) => formed_bytes(alloc, texts, form),
         None => lines_bytes(alloc, form),
     }
@@ -53,53 +50,46 @@ pub fn part_bytes(alloc: Global, texts: &MemoryFiles, form: &str) -> Option<Vec<
 fn formed_bytes(alloc: Global, texts: &MemoryFiles, form: &str) -> Option<Vec<u8>> {
     let (kind, text) = cut(form, " ");
     match kind {
-        "has" => spelled(alloc, text).ok(),
+        "has" => spelled(alloc, text),
         "is" => shared_bytes(alloc, texts, text),
         _ => None,
     }
 }
 
-/// The bytes of lines, each with its line feed.
+/// The bytes of lines, each with its line feed. The first line is that of the name.
 fn lines_bytes(alloc: Global, form: &str) -> Option<Vec<u8>> {
     let mut bytes = Text::new(alloc);
-    if put_lines(alloc, &mut bytes, form) {
-        bytes.into_bytes().ok()
-    } else {
-        None
-    }
+    put_lines(alloc, &mut bytes, cut(form, "\n").1);
+    bytes.into_bytes().ok()
 }
 
-/// Writes the lines after the first one. `false` if memory runs out for a spelled one.
-fn put_lines(alloc: Global, bytes: &mut Text, form: &str) -> bool {
-    let mut lines = form.split('\n');
-    let _ = lines.next();
-    for line in lines {
-        if !put_line(alloc, bytes, line) {
-            return false;
+fn put_lines(alloc: Global, bytes: &mut Text, lines: &str) {
+    let mut rest = lines;
+    for _ in 0..lines.len() {
+        if rest.is_empty() {
+            break;
         }
+        let (line, after) = cut(rest, "\n");
+        put_line(alloc, bytes, line);
+        rest = after;
     }
-    true
 }
 
 /// Writes a line. If it begins with a backslash, the rest of it is spelled and has no line feed.
-fn put_line(alloc: Global, bytes: &mut Text, line: &str) -> bool {
-    match line.strip_prefix('\\') {
+fn put_line(alloc: Global, bytes: &mut Text, line: &str) {
+    match after(line, "\\") {
         Some(text) => put_spelled(alloc, bytes, text),
         None => {
             bytes.put(line);
             bytes.put("\n");
-            true
         }
     }
 }
 
-fn put_spelled(alloc: Global, bytes: &mut Text, text: &str) -> bool {
+fn put_spelled(alloc: Global, bytes: &mut Text, text: &str) {
     match spelled(alloc, text) {
-        Ok(text) => {
-            bytes.put_bytes(&text);
-            true
-        }
-        Err(_) => false,
+        Some(text) => bytes.put_bytes(&text),
+        None => bytes.put("more than memory has room for"),
     }
 }
 
@@ -114,8 +104,9 @@ fn shared_bytes(alloc: Global, texts: &MemoryFiles, text: &str) -> Option<Vec<u8
 
 /// The bytes of `NAME`, or of `N bytes of NAME`.
 fn named_bytes<'a>(texts: &'a MemoryFiles, text: &str) -> Option<&'a [u8]> {
-    match number_before(text, " bytes of ") {
-        Some((count, name)) => find_file(texts, name)?.get(..count),
-        None => find_file(texts, text),
+    let (count, name) = number_before(text, " bytes of ", usize::MAX);
+    match find_file(texts, name) {
+        Some(bytes) if count < usize::MAX => bytes.get(..count),
+        bytes => bytes,
     }
 }

@@ -1,6 +1,7 @@
 //! Texts that are spelled in one line, their edits, and arguments.
 
 use a429_text::Gathered;
+use a429_text::cut::cut_at;
 use bstr::{ByteSlice, ByteVec};
 use std::alloc::{AllocError, Global};
 
@@ -9,53 +10,78 @@ pub fn cut<'a>(text: &'a str, mark: &str) -> (&'a str, &'a str) {
     text.split_once(mark).unwrap_or((text, ""))
 }
 
-/// The number before the first mark of a text, and the text after the mark. `None` if no number is before it.
-pub fn number_before<'a>(text: &'a str, mark: &str) -> Option<(usize, &'a str)> {
-    match text.split_once(mark) {
-        Some((number, rest)) => match number.trim().parse::<usize>() {
-            Ok(number) => Some((number, rest)),
-            Err(_) => None,
-        },
-        None => None,
+/// What follows this beginning of a text, if the text begins so.
+pub fn after<'a>(text: &'a str, start: &str) -> Option<&'a str> {
+    text.strip_prefix(start)
+}
+
+/// The number before the first mark of a text, and the text after the mark. If one of them is missing, it is the other number,
+/// and the whole text.
+pub fn number_before<'a>(text: &'a str, mark: &str, other: usize) -> (usize, &'a str) {
+    let (number, rest) = cut(text, mark);
+    match number.trim().parse::<usize>() {
+        Ok(number) if !rest.is_empty() => (number, rest),
+        _ => (other, text),
     }
 }
 
 /// The bytes that a spelled text means: `;` is a line feed, `\xHH` the byte with these hexadecimal digits, and
 /// `N of PART` is the part N times.
-pub fn spelled(alloc: Global, text: &str) -> Result<Vec<u8>, AllocError> {
-    let (count, part) = number_before(text, " of ").unwrap_or((1, text));
+pub fn spelled(alloc: Global, text: &str) -> Option<Vec<u8>> {
+    let (count, part) = number_before(text, " of ", 1);
     match unescaped(alloc, part) {
-        Ok(part) => part.as_slice().repeatn(alloc, count),
-        Err(error) => Err(error),
+        Ok(part) => part.as_slice().repeatn(alloc, count).ok(),
+        Err(_) => None,
     }
 }
 
 fn unescaped(alloc: Global, part: &str) -> Result<Vec<u8>, AllocError> {
-    let part = part.replace(alloc, ';', "\n")?;
-    Vec::unescape_bytes(alloc, &part)
+    match part.replace(alloc, ';', "\n") {
+        Ok(part) => Vec::unescape_bytes(alloc, &part),
+        Err(error) => Err(error),
+    }
 }
 
 /// A text after edits, separated by bars. `None` if one of them cannot be made.
 pub fn edited(alloc: Global, text: &[u8], edits: &str) -> Option<Vec<u8>> {
     let mut all = Vec::from_slice(alloc, text).ok()?;
-    for edit in edits.split_terminator('|') {
-        all = edited_once(alloc, &all, edit)?;
+    if edit_all(alloc, &mut all, edits) {
+        Some(all)
+    } else {
+        None
     }
-    Some(all)
+}
+
+fn edit_all(alloc: Global, text: &mut Vec<u8>, edits: &str) -> bool {
+    let mut rest = edits;
+    for _ in 0..edits.len() {
+        let (edit, after) = cut(rest, "|");
+        match edited_once(alloc, text, edit) {
+            Some(all) => *text = all,
+            None => return false,
+        }
+        rest = after;
+        if rest.is_empty() {
+            break;
+        }
+    }
+    true
 }
 
 /// A text after an edit `OLD => NEW`: the first OLD becomes NEW. `None` if OLD is not in it.
 fn edited_once(alloc: Global, text: &[u8], edit: &str) -> Option<Vec<u8>> {
-    let (old, new) = edit.split_once("=>")?;
-    match (spelled(alloc, old.trim()), spelled(alloc, new.trim())) {
-        (Ok(old), Ok(new)) => with_new(alloc, text, &old, &new),
-        _ => None,
+    let (old, new) = cut(edit, "=>");
+    match spelled(alloc, old.trim()) {
+        Some(old) => with_new(alloc, text, &old, new.trim()),
+        None => None,
     }
 }
 
-fn with_new(alloc: Global, text: &[u8], old: &[u8], new: &[u8]) -> Option<Vec<u8>> {
-    let (before, after) = text.split_once_str(&old)?;
-    [before, new, after].concat(alloc).ok()
+fn with_new(alloc: Global, text: &[u8], old: &[u8], new: &str) -> Option<Vec<u8>> {
+    match spelled(alloc, new) {
+        Some(new) if text.contains_str(old) => text.replacen(alloc, old, &new, 1).ok(),
+        _ => None,
+    }
 }
 
 /// The path of the program, and the arguments of a line. Spaces separate them. Text between quotes is one argument, which
@@ -68,23 +94,20 @@ pub fn words_of(alloc: Global, line: &[u8]) -> Result<Vec<&[u8]>, AllocError> {
 }
 
 fn gather_words<'a>(words: &mut Gathered<&'a [u8]>, line: &'a [u8]) {
-    let mut first = 0;
-    let mut is_quoted = false;
-    for (place, byte) in line.iter().enumerate() {
-        let is_quote = *byte == b'"';
-        if is_quote || *byte == b' ' && !is_quoted {
-            gather(words, line.get(first..place), is_quoted);
-            first = place.saturating_add(1);
-            is_quoted = is_quote && !is_quoted;
-        }
+    let mut rest = line;
+    for _ in 0..line.len() {
+        rest = match rest.strip_prefix(b"\"") {
+            Some(quoted) => gather(words, quoted, b'"'),
+            None => gather(words, rest, b' '),
+        };
     }
-    gather(words, line.get(first..), false);
 }
 
-/// Gathers an argument. Only quotes have an empty one between them.
-fn gather<'a>(words: &mut Gathered<&'a [u8]>, word: Option<&'a [u8]>, is_quoted: bool) {
-    match word {
-        Some(word) if is_quoted || !word.is_empty() => words.push(word),
-        _ => {}
+/// Gathers the argument before a mark. The answer is the rest after the mark. Only quotes have an empty argument between them.
+fn gather<'a>(words: &mut Gathered<&'a [u8]>, text: &'a [u8], mark: u8) -> &'a [u8] {
+    let (word, rest) = cut_at(text, mark).unwrap_or((text, &[]));
+    if mark == b'"' || !word.is_empty() {
+        words.push(word);
     }
+    rest
 }

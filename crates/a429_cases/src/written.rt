@@ -1,6 +1,7 @@
 //! A case as a file has it, before it is read.
 
 use crate::spelling::cut;
+use a429_text::Text;
 use std::alloc::{AllocError, Global};
 
 /// A case before it is read: the fields of its row go to the places of its text.
@@ -20,9 +21,14 @@ static PLACES: [(&str, &str); 4] = [
 ];
 
 impl Written<'_> {
+    /// Reports it: its title, its row, and what happened to it.
+    pub fn report(self, failed: &mut Text, what: &str) {
+        failed.fill(&["=== ", self.title, " ", self.row, what], &[]);
+    }
+
     /// The text with the fields of the row in their places. Bars separate the fields; the last field that the text uses
     /// has the rest of the row.
-    pub fn filled(&self, alloc: Global) -> Result<String, AllocError> {
+    pub fn filled(self, alloc: Global) -> Result<String, AllocError> {
         let mut text = String::from_str(alloc, self.text);
         let mut rest = self.row;
         for (mark, further) in &PLACES {
