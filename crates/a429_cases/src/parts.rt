@@ -59,37 +59,48 @@ fn formed_bytes(alloc: Global, texts: &MemoryFiles, form: &str) -> Option<Vec<u8
 /// The bytes of lines, each with its line feed. The first line is that of the name.
 fn lines_bytes(alloc: Global, form: &str) -> Option<Vec<u8>> {
     let mut bytes = Text::new(alloc);
-    put_lines(alloc, &mut bytes, cut(form, "\n").1);
-    bytes.into_bytes().ok()
+    if put_lines(alloc, &mut bytes, cut(form, "\n").1) {
+        bytes.into_bytes().ok()
+    } else {
+        None
+    }
 }
 
-fn put_lines(alloc: Global, bytes: &mut Text, lines: &str) {
+/// Writes lines. `false` if memory runs out for a spelled one.
+fn put_lines(alloc: Global, bytes: &mut Text, lines: &str) -> bool {
     let mut rest = lines;
     for _ in 0..lines.len() {
         if rest.is_empty() {
             break;
         }
         let (line, after) = cut(rest, "\n");
-        put_line(alloc, bytes, line);
+        if !put_line(alloc, bytes, line) {
+            return false;
+        }
         rest = after;
     }
+    true
 }
 
 /// Writes a line. If it begins with a backslash, the rest of it is spelled and has no line feed.
-fn put_line(alloc: Global, bytes: &mut Text, line: &str) {
+fn put_line(alloc: Global, bytes: &mut Text, line: &str) -> bool {
     match after(line, "\\") {
         Some(text) => put_spelled(alloc, bytes, text),
         None => {
             bytes.put(line);
             bytes.put("\n");
+            true
         }
     }
 }
 
-fn put_spelled(alloc: Global, bytes: &mut Text, text: &str) {
+fn put_spelled(alloc: Global, bytes: &mut Text, text: &str) -> bool {
     match spelled(alloc, text) {
-        Some(text) => bytes.put_bytes(&text),
-        None => bytes.put("more than memory has room for"),
+        Some(text) => {
+            bytes.put_bytes(&text);
+            true
+        }
+        None => false,
     }
 }
 
