@@ -15,7 +15,8 @@ use Rattle.std.proofs.lemmas.List.Sums.{fails_before_first, passes_at_first, pre
 use Rattle.a429_word.proofs.Lists.{range_next}
 use Rattle.a429_judge.specs.declared.facts.Facts.{Facts}
 use Rattle.a429_judge.specs.declared.facts.Mark.{Mark}
-use Rattle.a429_judge.specs.Judging.{is_answered, is_in_reach, is_right, mark_at, no_mark, time_at}
+use Rattle.a429_judge.specs.declared.facts.Span.{Span}
+use Rattle.a429_judge.specs.Judging.{due_since, is_answered, is_in_reach, is_right, mark_at, no_mark, time_at}
 use Rattle.a429_judge.specs.Figures.{answer_to, delay_of}
 use Rattle.a429_judge.proofs.Scanning.{any_at, false_unless, none_at, right_from}
 
@@ -59,36 +60,36 @@ pub first_none : {X : Type 0} (p : X → Bool) (xs : List X) (k : ℕ) → k ≤
 first_none p xs k le most = omega (arith, le, most, first_within p xs)
 
 -- if each element that passes the second test passes the first, the first place of the first test is no later
-pub first_earlier : (p q : Mark → Bool) (xs : List Mark) → ((x : Mark) → q x ≡ true → p x ≡ true) → position_or_len p xs ≤ position_or_len q xs
-first_earlier p q xs h = elim (cases_lt (position_or_len q xs) (position_or_len p xs)) [
+pub first_earlier : {X : Type 0} (p q : X → Bool) (xs : List X) (d : X) → ((x : X) → q x ≡ true → p x ≡ true) → position_or_len p xs ≤ position_or_len q xs
+first_earlier p q xs d h = elim (cases_lt (position_or_len q xs) (position_or_len p xs)) [
   | inl less ↦
       let within : position_or_len q xs < length xs = omega (arith, less, first_within p xs) in
-      let passes : q (get_or xs (position_or_len q xs) no_mark) ≡ true = passes_at_first q xs no_mark within in
-      absurd (true≢false (sym (h (get_or xs (position_or_len q xs) no_mark) passes) ∙ fails_before_first p xs (position_or_len q xs) no_mark less))
+      let passes : q (get_or xs (position_or_len q xs) d) ≡ true = passes_at_first q xs d within in
+      absurd (true≢false (sym (h (get_or xs (position_or_len q xs) d) passes) ∙ fails_before_first p xs (position_or_len q xs) d less))
   | inr most ↦ most
 ]
 
 pub answer_stays : (f : Facts) (accepted sends : List Mark) (word answer : ℕ) → answer ≡ position_or_len (λ s. is_right f s (drop word accepted)) sends → answer ≤ position_or_len (λ s. is_right f s (drop (word + 1) accepted)) sends
 answer_stays f accepted sends word answer is =
-    let later = first_earlier (λ s. is_right f s (drop word accepted)) (λ s. is_right f s (drop (word + 1) accepted)) sends (λ s h. right_from f s word (word + 1) accepted (omega arith) h) in
+    let later = first_earlier (λ s. is_right f s (drop word accepted)) (λ s. is_right f s (drop (word + 1) accepted)) sends no_mark (λ s h. right_from f s word (word + 1) accepted (omega arith) h) in
     omega (arith, is, later)
 
 -- ---- the first of the sends in order decides
 
-reach_before : (f : Facts) (a : Mark) (t u : ℕ) → t ≤ u → is_in_reach f a u ≡ true → is_in_reach f a t ≡ true
-reach_before f a t u le h =
+reach_before : (f : Facts) (since t u : ℕ) → t ≤ u → is_in_reach f since u ≡ true → is_in_reach f since t ≡ true
+reach_before f since t u le h =
     let product : t * f.rate ≤ u * f.rate = mul-le-mul_right f.rate le in
     grind (arith, nat_tests, product)
 
-decides_at : (f : Facts) (accepted sends : List Mark) (word answer : ℕ) (b : Bool) → IsNonDecreasingBy (λ (s : Mark). s.time) sends → answer ≡ position_or_len (λ s. is_right f s (drop word accepted)) sends → answer < length sends
-    → is_in_reach f (mark_at accepted word) (get_or sends answer no_mark).time ≡ b → is_answered f accepted sends word ≡ b
-decides_at f accepted sends word answer true rise is lt reach =
+decides_at : (f : Facts) (span : Span) (accepted sends : List Mark) (word answer : ℕ) (b : Bool) → IsNonDecreasingBy (λ (s : Mark). s.time) sends → answer ≡ position_or_len (λ s. is_right f s (drop word accepted)) sends → answer < length sends
+    → is_in_reach f (due_since span (mark_at accepted word)) (get_or sends answer no_mark).time ≡ b → is_answered f span accepted sends word ≡ b
+decides_at f span accepted sends word answer true rise is lt reach =
     let right : is_right f (get_or sends answer no_mark) (drop word accepted) ≡ true =
     subst (λ (n : ℕ). is_right f (get_or sends n no_mark) (drop word accepted) ≡ true) (sym is) (passes_at_first (λ s. is_right f s (drop word accepted)) sends no_mark (omega (arith, is, lt))) in
-    let both : (is_in_reach f (mark_at accepted word) (get_or sends answer no_mark).time && is_right f (get_or sends answer no_mark) (drop word accepted)) ≡ true = grind (arith, reach, right) in
-    any_at (λ s. is_in_reach f (mark_at accepted word) s.time && is_right f s (drop word accepted)) sends answer no_mark lt both
-decides_at f accepted sends word answer false rise is lt reach =
-    none_at (λ s. is_in_reach f (mark_at accepted word) s.time && is_right f s (drop word accepted)) sends (λ k d within. elim (cases_lt k answer) [
+    let both : (is_in_reach f (due_since span (mark_at accepted word)) (get_or sends answer no_mark).time && is_right f (get_or sends answer no_mark) (drop word accepted)) ≡ true = grind (arith, reach, right) in
+    any_at (λ s. is_in_reach f (due_since span (mark_at accepted word)) s.time && is_right f s (drop word accepted)) sends answer no_mark lt both
+decides_at f span accepted sends word answer false rise is lt reach =
+    none_at (λ s. is_in_reach f (due_since span (mark_at accepted word)) s.time && is_right f s (drop word accepted)) sends (λ k d within. elim (cases_lt k answer) [
       | inl before ↦
           let wrong : is_right f (get_or sends k d) (drop word accepted) ≡ false = fails_before_first (λ s. is_right f s (drop word accepted)) sends k d (omega (arith, is, before)) in
           grind (arith, wrong)
@@ -96,19 +97,19 @@ decides_at f accepted sends word answer false rise is lt reach =
           let later : (get_or sends answer d).time ≤ (get_or sends k d).time = rise answer k d after within in
           let same : get_or sends answer d ≡ get_or sends answer no_mark = get_or_default sends answer d no_mark lt in
           let times : (get_or sends answer no_mark).time ≤ (get_or sends k d).time = subst (λ (m : Mark). m.time ≤ (get_or sends k d).time) same later in
-          let far : is_in_reach f (mark_at accepted word) (get_or sends k d).time ≡ false =
-          false_unless (is_in_reach f (mark_at accepted word) (get_or sends k d).time) (λ e. true≢false (sym (reach_before f (mark_at accepted word) (get_or sends answer no_mark).time (get_or sends k d).time times e) ∙ reach)) in
+          let far : is_in_reach f (due_since span (mark_at accepted word)) (get_or sends k d).time ≡ false =
+          false_unless (is_in_reach f (due_since span (mark_at accepted word)) (get_or sends k d).time) (λ e. true≢false (sym (reach_before f (due_since span (mark_at accepted word)) (get_or sends answer no_mark).time (get_or sends k d).time times e) ∙ reach)) in
           grind (arith, far)
     ])
 
-pub first_decides : (f : Facts) (accepted sends : List Mark) (word answer : ℕ) → IsNonDecreasingBy (λ (s : Mark). s.time) sends → answer ≡ position_or_len (λ s. is_right f s (drop word accepted)) sends → answer < length sends
-    → is_in_reach f (mark_at accepted word) (get_or sends answer no_mark).time ≡ is_answered f accepted sends word
-first_decides f accepted sends word answer rise is lt =
-    sym (decides_at f accepted sends word answer (is_in_reach f (mark_at accepted word) (get_or sends answer no_mark).time) rise is lt refl)
+pub first_decides : (f : Facts) (span : Span) (accepted sends : List Mark) (word answer : ℕ) → IsNonDecreasingBy (λ (s : Mark). s.time) sends → answer ≡ position_or_len (λ s. is_right f s (drop word accepted)) sends → answer < length sends
+    → is_in_reach f (due_since span (mark_at accepted word)) (get_or sends answer no_mark).time ≡ is_answered f span accepted sends word
+first_decides f span accepted sends word answer rise is lt =
+    sym (decides_at f span accepted sends word answer (is_in_reach f (due_since span (mark_at accepted word)) (get_or sends answer no_mark).time) rise is lt refl)
 
-pub none_answers : (f : Facts) (accepted sends : List Mark) (word answer : ℕ) → answer ≡ position_or_len (λ s. is_right f s (drop word accepted)) sends → length sends ≤ answer → nat_lt answer (length sends) ≡ is_answered f accepted sends word
-none_answers f accepted sends word answer is most =
-    let none : is_answered f accepted sends word ≡ false = none_at (λ s. is_in_reach f (mark_at accepted word) s.time && is_right f s (drop word accepted)) sends (λ k d within.
+pub none_answers : (f : Facts) (span : Span) (accepted sends : List Mark) (word answer : ℕ) → answer ≡ position_or_len (λ s. is_right f s (drop word accepted)) sends → length sends ≤ answer → nat_lt answer (length sends) ≡ is_answered f span accepted sends word
+none_answers f span accepted sends word answer is most =
+    let none : is_answered f span accepted sends word ≡ false = none_at (λ s. is_in_reach f (due_since span (mark_at accepted word)) s.time && is_right f s (drop word accepted)) sends (λ k d within.
     let wrong : is_right f (get_or sends k d) (drop word accepted) ≡ false = fails_before_first (λ s. is_right f s (drop word accepted)) sends k d (omega (arith, is, within, most)) in
     grind (arith, wrong)) in
     grind (arith, nat_tests, none)

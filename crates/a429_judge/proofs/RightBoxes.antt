@@ -1,10 +1,10 @@
 -- Nothing is found at a right box.
-use Rattle.std.proofs.Common.{◌≡◌, ℕ, zero, suc, ◌+◌, ◌-◌, ◌*◌, ◌/◌, ◌%◌, ◌<◌, ◌≤◌, List, [], ◌∷◌, length, drop, get_or, Bool, true, false, true≢false, refl, sym, ap, subst, ◌∙◌, inl, inr, ◌⊎◌, arith, Some, None, length-drop}
-use Rattle.std.specs.Prelude.{Option, flat_map, if◌then◌else◌, nat_le, not, ◌&&◌, ◌==◌}
+use Rattle.std.proofs.Common.{◌≡◌, ℕ, zero, suc, ◌+◌, ◌-◌, ◌*◌, ◌<◌, ◌≤◌, List, [], ◌∷◌, ◌++◌, length, drop, get_or, Bool, true, false, true≢false, refl, sym, ap, subst, ◌∙◌, inl, inr, ◌⊎◌, arith, Some, None, length-drop}
+use Rattle.std.specs.Prelude.{Option, flat_map, if◌then◌else◌, is_some, max, nat_le, nat_lt, not, slice_get, ◌&&◌, ◌||◌, ◌==◌}
 use Rattle.std.specs.List.{list_any, position_or_len, range_with_len}
 use Rattle.std.specs.Option.{option_map_or}
 use Rattle.std.specs.List.Sorted.{IsNonDecreasingBy}
-use Rattle.std.proofs.Math.Nat.{mul-le-mul_right, mul-lt-mul_of_pos_right, le_of_mul-le-mul_right, one-le-mul}
+use Rattle.std.proofs.Math.Nat.{mul-le-mul, mul-le-mul_left, mul-le-mul_right, mul-lt-mul_of_pos_right, le_of_mul-le-mul_right, one-le-mul}
 use Rattle.std.proofs.lemmas.Bool.{cases_lt}
 use Rattle.std.proofs.lemmas.Bool.Decides.{nat_tests}
 use Rattle.std.proofs.lemmas.List.{get_or-drop, get_or_default}
@@ -15,13 +15,12 @@ use Rattle.a429_judge.specs.declared.facts.Mark.{Mark}
 use Rattle.a429_judge.specs.declared.facts.Span.{Span}
 use Rattle.a429_judge.specs.declared.findings.Finding.{Finding}
 use Rattle.a429_judge.specs.declared.findings.Kind.{Kind}
-use Rattle.a429_judge.specs.declared.findings.Kind.TheVariants.{Missed}
-use Rattle.a429_judge.specs.Judging.{all_missed, findings, finding_if, is_again, is_answered, is_between, is_by, is_equal, is_excused, is_far, is_in_reach, is_late, is_missed, is_of_one, is_past, is_right, is_seen, is_soon, is_twice, mark_at, no_mark, send_findings, since, time_at, value_findings, word_findings}
-use Rattle.a429_judge.specs.declared.judgements.Verdict.TheVariants as verdict
-use Rattle.a429_judge.specs.Judgements.{accepted_by, found_at, is_alike, judgement_by, judgement_of, sent_by, verdict_of}
-use Rattle.a429_judge.specs.Recordings.{Recording, overlapping, span_of}
-use Rattle.a429_judge.specs.Laws.{ArePlanned, IsRightBox}
-use Rattle.a429_judge.proofs.Scanning.{any_at, false_unless, right_here, none_at, right_from, right_value, step_at, twice_from}
+use Rattle.a429_judge.specs.declared.findings.Kind.TheVariants.{Again, Late, Missed, Silent, Soon}
+use Rattle.a429_judge.specs.Judging.{all_missed, due_since, end_findings, findings, finding_if, has_room, is_again, is_answered, is_before_next, is_by, is_ended, is_equal, is_excused, is_far, is_in_reach, is_known, is_late, is_left, is_missed, is_of_one, is_past, is_right, is_seen, is_silent, is_soon, is_twice, mark_at, may_be_used_up, no_mark, send_findings, since, time_at, value_findings, word_findings}
+use Rattle.a429_judge.specs.Judgements.{accepted_by, found_at, is_alike, sent_by}
+use Rattle.a429_judge.specs.Recordings.{Recording, span_of}
+use Rattle.a429_judge.specs.Laws.{AreNear, ArePlanned, AreSlots, IsPieceOf, IsRightBox, length_of}
+use Rattle.a429_judge.proofs.Scanning.{any_at, false_unless, right_here, none_at, right_from, right_value, step_at, twice_from, unknown_value}
 
 -- ---- windows in finer units
 
@@ -57,96 +56,349 @@ twice_at test xs m p q le less lt at_p at_q =
 
 -- ---- slots
 
--- the first slot at or after a moment
-first_slot : (x first from D : ℕ) → 1 ≤ D → first + from * D < x + D → (n : ℕ) × (from ≤ n) × (x ≤ first + n * D) × (first + n * D < x + D)
-first_slot x first from D some lt = elim (cases_lt (first + from * D) x) [
+-- slots do not go back, and each is later than the one before
+slots_grow : (f : Facts) (finer wrong drift : ℕ) (begin : ℕ → ℕ) (n d : ℕ) → AreNear f finer wrong drift → AreSlots f finer drift begin → begin n + d ≤ begin (n + d)
+slots_grow f finer wrong drift begin n zero near s = let e : n ≡ n + 0 = omega arith in let g = ap begin e in omega (arith, g)
+slots_grow f finer wrong drift begin n (suc d) near s =
+    let rest = slots_grow f finer wrong drift begin n d near s in
+    let next = s.soonest (n + d) in
+    let e : n + d + 1 ≡ n + suc d = omega arith in
+    let g = ap begin e in
+    omega (arith, rest, next, near.slower, g)
+
+pub slots_rise : (f : Facts) (finer wrong drift : ℕ) (begin : ℕ → ℕ) (m n : ℕ) → AreNear f finer wrong drift → AreSlots f finer drift begin → m ≤ n → begin m ≤ begin n
+slots_rise f finer wrong drift begin m n near s le =
+    let grow = slots_grow f finer wrong drift begin m (n - m) near s in
+    let e : m + (n - m) ≡ n = omega (arith, le) in
+    let g = ap begin e in
+    omega (arith, grow, g)
+
+-- a slot later than another begins a period later, less the drift
+slots_apart : (f : Facts) (finer wrong drift : ℕ) (begin : ℕ → ℕ) (m n : ℕ) → AreNear f finer wrong drift → AreSlots f finer drift begin → m < n → begin m + length_of f finer ≤ begin n + drift
+slots_apart f finer wrong drift begin m n near s lt =
+    let next = s.soonest m in
+    let rise = slots_rise f finer wrong drift begin (m + 1) n near s (omega (arith, lt)) in
+    omega (arith, next, rise)
+
+-- slots that are d periods apart
+slots_far : (f : Facts) (finer wrong drift : ℕ) (begin : ℕ → ℕ) (m d : ℕ) → AreNear f finer wrong drift → AreSlots f finer drift begin → begin m + d * (length_of f finer - drift) ≤ begin (m + d)
+slots_far f finer wrong drift begin m zero near s = let e : m ≡ m + 0 = omega arith in let g = ap begin e in omega (arith, g)
+slots_far f finer wrong drift begin m (suc d) near s =
+    let rest = slots_far f finer wrong drift begin m d near s in
+    let next = s.soonest (m + d) in
+    let e : m + d + 1 ≡ m + suc d = omega arith in
+    let g = ap begin e in
+    let slower = near.slower in
+    omega (arith, rest, next, g, slower)
+
+-- the first slot from one on that is at or after a moment
+record IsFirstSlot (begin : ℕ → ℕ) (x from n : ℕ) : Type 0 where
+  pub least : from ≤ n
+  pub reached : x ≤ begin n
+  pub first : (n ≡ from) ⊎ ((from < n) × (begin (n - 1) < x))
+
+first_after : (begin : ℕ → ℕ) (x from n : ℕ) → begin from < x → IsFirstSlot begin x (from + 1) n → IsFirstSlot begin x from n
+first_after begin x from n before s = record {
+  least = omega (arith, s.least);
+  reached = s.reached;
+  first = elim s.first [
+    | inl is ↦
+        let e : n - 1 ≡ from = omega (arith, is) in
+        let g = ap begin e in
+        inr (omega (arith, is), omega (arith, before, g))
+    | inr later ↦ inr (omega (arith, later.0), later.1)
+  ];
+}
+
+first_slot : (begin : ℕ → ℕ) (x from d : ℕ) → x ≤ begin (from + d) → (n : ℕ) × IsFirstSlot begin x from n
+first_slot begin x from zero le =
+    let e : from + 0 ≡ from = omega arith in
+    let g = ap begin e in
+    (from, record { least = omega arith; reached = omega (arith, le, g); first = inl refl })
+first_slot begin x from (suc d) le = elim (cases_lt (begin from) x) [
   | inl before ↦
-      let y = x - (first + from * D) + D - 1 in
-      let parts : D * (y / D) + y % D ≡ y = omega (arith, some) in
-      let rest : y % D < D = omega (arith, some) in
-      (from + y / D, omega arith, omega (arith, parts, rest, before), omega (arith, parts, rest, before))
-  | inr after ↦ (from, omega arith, after, lt)
+      let e : from + suc d ≡ from + 1 + d = omega arith in
+      let g = ap begin e in
+      let rest = first_slot begin x (from + 1) d (omega (arith, le, g)) in
+      (rest.0, first_after begin x from rest.0 before rest.1)
+  | inr after ↦ (from, record { least = omega arith; reached = after; first = inl refl })
 ]
 
 -- ---- the sends of a right box
 
 some_units : (f : Facts) (span : Span) (accepted sends : List Mark) → ArePlanned f → (b : IsRightBox f span accepted sends) → 1 ≤ f.rate * b.finer
-some_units f span accepted sends plan b = one-le-mul plan.rate b.fine
+some_units f span accepted sends plan b = one-le-mul plan.rate b.near.fine
 
-word_by : (f : Facts) (span : Span) (accepted sends : List Mark) (k : ℕ) → ArePlanned f → (b : IsRightBox f span accepted sends) → k < length sends → time_at accepted (b.word k) ≤ time_at sends k + f.tolerance
+word_by : (f : Facts) (span : Span) (accepted sends : List Mark) (k : ℕ) → ArePlanned f → (b : IsRightBox f span accepted sends) → k < length sends → time_at b.words (b.word k) ≤ time_at sends k + f.tolerance
 word_by f span accepted sends k plan b lt =
     let since = b.since k lt in
     let early = b.early k lt in
-    by_end f (f.rate * b.finer) (time_at sends k) (mark_at accepted (b.word k)) (some_units f span accepted sends plan b) (omega (arith, since, early))
+    let time = b.piece.late (b.word k) (b.known k lt) in
+    let bounded = b.near.bounded in
+    by_end f (f.rate * b.finer) (time_at sends k) (mark_at b.words (b.word k)) (some_units f span accepted sends plan b) (omega (arith, since, early, time, bounded))
 
-later_not_past : (f : Facts) (span : Span) (accepted sends : List Mark) (k j : ℕ) → (b : IsRightBox f span accepted sends) → k < length sends → b.word k < j → j < length accepted → is_past f (time_at sends k) (mark_at accepted j) ≡ false
+later_not_past : (f : Facts) (span : Span) (accepted sends : List Mark) (k j : ℕ) → (b : IsRightBox f span accepted sends) → k < length sends → b.word k < j → j < length b.words → is_past f (time_at sends k) (mark_at b.words j) ≡ false
 later_not_past f span accepted sends k j b lt more within =
     let until = b.until k j lt more within in
     let late = b.late k lt in
+    let time = b.piece.early j within in
+    let bounded = b.near.bounded in
     let short = b.short in
-    not_past f b.finer (time_at sends k) (mark_at accepted j) b.fine (omega (arith, until, late, short))
+    not_past f b.finer (time_at sends k) (mark_at b.words j) b.near.fine (omega (arith, until, late, time, bounded, short))
 
-box_right : (f : Facts) (span : Span) (accepted sends : List Mark) (k i : ℕ) → ArePlanned f → (b : IsRightBox f span accepted sends) → k < length sends → i ≤ b.word k → is_right f (mark_at sends k) (drop i accepted) ≡ true
-box_right f span accepted sends k i plan b lt le =
-    let by : time_at accepted (b.word k) ≤ time_at sends k + f.tolerance = word_by f span accepted sends k plan b lt in
-    right_at f (mark_at sends k) accepted i (b.word k) le (b.known k lt) (b.same k lt) (grind (arith, nat_tests, by)) (λ j more within. later_not_past f span accepted sends k j b lt more within)
+-- the place of a word in the log
+record IsLogged (f : Facts) (span : Span) (accepted sends : List Mark) (b : IsRightBox f span accepted sends) (k : ℕ) : Type 0 where
+  pub least : b.piece.skipped ≤ b.word k
+  pub most : b.word k < b.piece.skipped + length accepted
 
--- a slot later than another begins a period later at least
-slots_apart : (f : Facts) (span : Span) (accepted sends : List Mark) (b : IsRightBox f span accepted sends) (m n : ℕ) → m < n → b.begin m + f.period * 36000000 * b.finer ≤ b.begin n
-slots_apart f span accepted sends b m n less =
-    let next : m + 1 ≤ n = omega (arith, less) in
-    let product : (m + 1) * (f.period * 36000000 * b.finer) ≤ n * (f.period * 36000000 * b.finer) = mul-le-mul_right (f.period * 36000000 * b.finer) next in
-    omega (arith, product, b.begins m, b.begins n)
+same_at : (f : Facts) (span : Span) (accepted sends : List Mark) (b : IsRightBox f span accepted sends) (j : ℕ) → b.piece.skipped ≤ j → j < b.piece.skipped + length accepted
+    → mark_at accepted (j - b.piece.skipped) ≡ mark_at b.words j
+same_at f span accepted sends b j least most =
+    let e : b.piece.skipped + (j - b.piece.skipped) ≡ j = omega (arith, least) in
+    b.piece.same (j - b.piece.skipped) (omega (arith, least, most)) ∙ ap (mark_at b.words) e
+
+-- a word that was accepted by a moment before the end of the log is not after its piece
+is_before_rest : (f : Facts) (span : Span) (accepted sends : List Mark) (b : IsRightBox f span accepted sends) (j : ℕ) → j < length b.words → time_at b.words j < span.heard → j < b.piece.skipped + length accepted
+is_before_rest f span accepted sends b j within before = elim (cases_lt j (b.piece.skipped + length accepted)) [
+  | inl less ↦ less
+  | inr more ↦ let rest = b.piece.rest j more within in absurd {A = j < b.piece.skipped + length accepted} (omega (arith, rest, before))
+]
+
+first_known : (f : Facts) (t : ℕ) (xs : List Mark) → option_map_or (is_past f t) (slice_get xs 0) false ≡ true → (0 < length xs) × (is_past f t (mark_at xs 0) ≡ true)
+first_known f t [] h = absurd (true≢false (sym h))
+first_known f t (x ∷ xs) h = (omega arith, h)
+
+known_parts : (f : Facts) (span : Span) (xs : List Mark) (t : ℕ) → is_known f span xs t ≡ true → (0 < length xs) × (is_past f t (mark_at xs 0) ≡ true) × (t + f.tolerance < span.heard)
+known_parts f span xs t h =
+    let first : option_map_or (is_past f t) (slice_get xs 0) false ≡ true = grind (arith, h) in
+    let end : nat_lt (t + f.tolerance) span.heard ≡ true = grind (arith, h) in
+    let parts = first_known f t xs first in
+    (parts.0, parts.1, grind (arith, nat_tests, end))
+
+known_is_logged : (f : Facts) (span : Span) (accepted sends : List Mark) (k : ℕ) → ArePlanned f → (b : IsRightBox f span accepted sends) → k < length sends → is_known f span accepted (time_at sends k) ≡ true → IsLogged f span accepted sends b k
+known_is_logged f span accepted sends k plan b lt h =
+    let parts = known_parts f span accepted (time_at sends k) h in
+    let by = word_by f span accepted sends k plan b lt in record {
+      least = elim (cases_lt (b.word k) b.piece.skipped) [
+        | inl less ↦
+            let within : b.piece.skipped < length b.words = omega (arith, parts.0, b.piece.within) in
+            let e : b.piece.skipped + 0 ≡ b.piece.skipped = omega arith in
+            let at : mark_at accepted 0 ≡ mark_at b.words b.piece.skipped = b.piece.same 0 parts.0 ∙ ap (mark_at b.words) e in
+            let out : is_past f (time_at sends k) (mark_at accepted 0) ≡ false = ap (is_past f (time_at sends k)) at ∙ later_not_past f span accepted sends k b.piece.skipped b lt less within in
+            absurd (true≢false (sym parts.1 ∙ out))
+        | inr most ↦ most
+      ];
+      most = is_before_rest f span accepted sends b (b.word k) (b.known k lt) (omega (arith, by, parts.2));
+    }
+
+-- a send of a word in the log is right
+logged_right : (f : Facts) (span : Span) (accepted sends : List Mark) (k i : ℕ) → ArePlanned f → (b : IsRightBox f span accepted sends) → k < length sends → IsLogged f span accepted sends b k → i ≤ b.word k - b.piece.skipped
+    → is_right f (mark_at sends k) (drop i accepted) ≡ true
+logged_right f span accepted sends k i plan b lt l le =
+    let place = b.word k - b.piece.skipped in
+    let same : mark_at accepted place ≡ mark_at b.words (b.word k) = same_at f span accepted sends b (b.word k) l.least l.most in
+    let times = ap (λ (m : Mark). m.time) same in
+    let raws : (mark_at accepted place).raw ≡ (mark_at sends k).raw = ap (λ (m : Mark). m.raw) same ∙ b.same k lt in
+    let by_word = word_by f span accepted sends k plan b lt in
+    let by : time_at accepted place ≤ time_at sends k + f.tolerance = omega (arith, times, by_word) in
+    right_at f (mark_at sends k) accepted i place le (omega (arith, l.least, l.most)) raws (grind (arith, nat_tests, by)) (λ j more within.
+    ap (is_past f (time_at sends k)) (b.piece.same j within)
+    ∙ later_not_past f span accepted sends k (b.piece.skipped + j) b lt (omega (arith, more, l.least)) (omega (arith, within, b.piece.within)))
+
+right_if_known : (f : Facts) (span : Span) (accepted sends : List Mark) (k : ℕ) (known : Bool) → ArePlanned f → (b : IsRightBox f span accepted sends) → k < length sends → is_known f span accepted (time_at sends k) ≡ known → value_findings f span accepted (mark_at sends k) ≡ []
+right_if_known f span accepted sends k true plan b lt e =
+    right_value f span (mark_at sends k) accepted (logged_right f span accepted sends k 0 plan b lt (known_is_logged f span accepted sends k plan b lt e) (omega arith))
+right_if_known f span accepted sends k false plan b lt e = unknown_value f span (mark_at sends k) accepted e
+
+-- ---- intervals
 
 not_soon : (f : Facts) (span : Span) (accepted sends : List Mark) (k : ℕ) → ArePlanned f → (b : IsRightBox f span accepted sends) → k + 1 < length sends → time_at sends k + f.least ≤ time_at sends (k + 1) + f.tolerance
 not_soon f span accepted sends k plan b lt =
     let here : k < length sends = omega (arith, lt) in
-    let apart = slots_apart f span accepted sends b (b.slot k) (b.slot (k + 1)) (b.in_order k lt) in
+    let apart = slots_apart f b.finer b.wrong b.drift b.begin (b.slot k) (b.slot (k + 1)) b.near b.slots (b.in_order k lt) in
     let late = b.late k here in
     let early = b.early (k + 1) lt in
+    let bounded = b.near.bounded in
     let least : f.least * f.rate * b.finer ≤ f.period * 36000000 * b.finer = mul-le-mul_right b.finer plan.least in
-    let all : (time_at sends k + f.least) * (f.rate * b.finer) ≤ (time_at sends (k + 1) + f.tolerance) * (f.rate * b.finer) = omega (arith, apart, late, early, least) in
+    let all : (time_at sends k + f.least) * (f.rate * b.finer) ≤ (time_at sends (k + 1) + f.tolerance) * (f.rate * b.finer) = omega (arith, apart, late, early, least, bounded) in
     le_of_mul-le-mul_right all (some_units f span accepted sends plan b)
 
-not_far : (f : Facts) (span : Span) (accepted sends : List Mark) (k : ℕ) → ArePlanned f → (b : IsRightBox f span accepted sends) → k + 1 < length sends → b.slot (k + 1) ≡ b.slot k + 1
-    → time_at sends (k + 1) ≤ time_at sends k + f.greatest + f.tolerance
-not_far f span accepted sends k plan b lt is =
-    let here : k < length sends = omega (arith, lt) in
-    let begin_next : b.begin (b.slot (k + 1)) ≡ b.first + (b.slot k + 1) * (f.period * 36000000 * b.finer) = b.begins (b.slot (k + 1)) ∙ ap (λ (n : ℕ). b.first + n * (f.period * 36000000 * b.finer)) is in
-    let begin_here = b.begins (b.slot k) in
-    let late = b.late (k + 1) lt in
-    let early = b.early k here in
+-- a time that is at most as late as the record of the slot after a send
+within_reach : (f : Facts) (span : Span) (accepted sends : List Mark) (k t : ℕ) → ArePlanned f → (b : IsRightBox f span accepted sends) → k < length sends → t * (f.rate * b.finer) ≤ b.begin (b.slot k + 1) + b.delay + b.wrong
+    → t ≤ time_at sends k + f.greatest + f.tolerance
+within_reach f span accepted sends k t plan b lt le =
+    let next = b.slots.latest (b.slot k) in
+    let early = b.early k lt in
+    let bounded = b.near.bounded in
     let greatest : f.period * 36000000 * b.finer ≤ f.greatest * f.rate * b.finer = mul-le-mul_right b.finer plan.greatest in
-    let all : time_at sends (k + 1) * (f.rate * b.finer) ≤ (time_at sends k + f.greatest + f.tolerance) * (f.rate * b.finer) = omega (arith, begin_next, begin_here, late, early, greatest) in
+    let all : t * (f.rate * b.finer) ≤ (time_at sends k + f.greatest + f.tolerance) * (f.rate * b.finer) = omega (arith, le, next, early, greatest, bounded) in
     le_of_mul-le-mul_right all (some_units f span accepted sends plan b)
-
--- no word was accepted between the sends of a held one and the next slot
-none_between : (f : Facts) (span : Span) (accepted sends : List Mark) (k hold i : ℕ) → IsNonDecreasingBy (λ (a : Mark). a.time) accepted → ArePlanned f → (b : IsRightBox f span accepted sends) → k + 1 < length sends
-    → f.hold ≡ Some hold → ((j : ℕ) → b.word (k + 1 - hold) < j → j < length accepted → b.begin (b.slot k + 1) < time_at accepted j * (f.rate * b.finer)) → i < length accepted
-    → is_between f (time_at sends (k + 1 - hold)) (time_at sends k) (mark_at accepted i) ≡ false
-none_between f span accepted sends k hold i rise plan b lt is until within =
-    let some = plan.hold hold is in
-    let here : k < length sends = omega (arith, lt) in
-    let first : k + 1 - hold < length sends = omega (arith, lt, some) in
-    false_unless (is_between f (time_at sends (k + 1 - hold)) (time_at sends k) (mark_at accepted i)) (λ e.
-    let before : (time_at accepted i + f.tolerance) * f.rate + 36000000 < time_at sends k * f.rate + f.period * 36000000 = grind (arith, nat_tests, e) in
-    let after : time_at sends (k + 1 - hold) + f.tolerance < time_at accepted i = grind (arith, nat_tests, e) in
-    let by = word_by f span accepted sends (k + 1 - hold) plan b first in
-    elim (cases_lt (b.word (k + 1 - hold)) i) [
-      | inl more ↦
-          let later = until i more within in
-          let begin_next = b.begins (b.slot k + 1) in
-          let begin_here = b.begins (b.slot k) in
-          let late = b.late k here in
-          let short = b.short in
-          let product : ((time_at accepted i + f.tolerance) * f.rate + 36000000) * b.finer < (time_at sends k * f.rate + f.period * 36000000) * b.finer = mul-lt-mul_of_pos_right before b.fine in
-          omega (arith, later, begin_next, begin_here, late, short, product)
-      | inr most ↦
-          let sorted : time_at accepted i ≤ time_at accepted (b.word (k + 1 - hold)) = rise i (b.word (k + 1 - hold)) no_mark most (b.known (k + 1 - hold) first) in
-          omega (arith, sorted, by, after)
-    ])
 
 -- ---- holds
+
+-- why a hold leaves the slot after send k empty
+abbrev IsUsedUp : (f : Facts) (span : Span) (accepted sends : List Mark) → IsRightBox f span accepted sends → ℕ → Type 0
+IsUsedUp f span accepted sends b k =
+    (hold : ℕ) × (f.hold ≡ Some hold) × ((j : ℕ) → b.word k < j → j < length b.words → b.begin (b.slot k + 1) < b.moment j)
+    × (((hold ≤ k + 1) × (b.word (k + 1 - hold) ≡ b.word k))
+    ⊎ ((m : ℕ) × (k + 1 < hold) × (m < b.from) × (m + hold ≤ b.slot k + 1) × (b.moment (b.word k) ≤ b.begin m)))
+
+-- a word that was accepted before the slot after send k is not after the word of that send
+not_newer : (f : Facts) (span : Span) (accepted sends : List Mark) (k j : ℕ) → (b : IsRightBox f span accepted sends) → k < length sends → IsUsedUp f span accepted sends b k → j < length b.words
+    → is_before_next f (time_at sends k) (mark_at b.words j) ≡ true → j ≤ b.word k
+not_newer f span accepted sends k j b lt used within e = elim (cases_lt (b.word k) j) [
+  | inl more ↦
+      let before : (time_at b.words j + f.tolerance) * f.rate + 36000000 < time_at sends k * f.rate + f.period * 36000000 = grind (arith, nat_tests, e) in
+      let product : ((time_at b.words j + f.tolerance) * f.rate + 36000000) * b.finer < (time_at sends k * f.rate + f.period * 36000000) * b.finer = mul-lt-mul_of_pos_right before b.near.fine in
+      let later = used.2 j more within in
+      let next = b.slots.soonest (b.slot k) in
+      let late = b.late k lt in
+      let time = b.piece.early j within in
+      absurd {A = j ≤ b.word k} (omega (arith, product, later, next, late, time, b.near.bounded, b.short))
+  | inr most ↦ most
+]
+
+-- a word that came in before a slot before the log
+unlogged_by : (f : Facts) (span : Span) (accepted sends : List Mark) (k j m : ℕ) → ArePlanned f → (b : IsRightBox f span accepted sends) → k < length sends → j ≤ b.word k → m < b.from → b.moment (b.word k) ≤ b.begin m
+    → time_at b.words j ≤ span.first + f.tolerance
+unlogged_by f span accepted sends k j m plan b lt le before since =
+    let sorted : time_at b.words j ≤ time_at b.words (b.word k) = b.piece.rise j (b.word k) no_mark le (b.known k lt) in
+    let product : time_at b.words j * (f.rate * b.finer) ≤ time_at b.words (b.word k) * (f.rate * b.finer) = mul-le-mul_right (f.rate * b.finer) sorted in
+    let time = b.piece.late (b.word k) (b.known k lt) in
+    let at = b.before m before in
+    by_end f (f.rate * b.finer) span.first (mark_at b.words j) (some_units f span accepted sends plan b) (omega (arith, product, time, at, since, b.near.bounded))
+
+-- a slot of the box is long enough
+step_fits : (f : Facts) (finer wrong drift : ℕ) → AreNear f finer wrong drift → (f.period * 36000000 - f.tolerance * f.rate) * finer ≤ length_of f finer - drift
+step_fits f finer wrong drift near = elim (cases_lt (f.tolerance * f.rate) (f.period * 36000000)) [
+  | inl less ↦
+      let split : (f.period * 36000000 - f.tolerance * f.rate + f.tolerance * f.rate) * finer ≡ f.period * 36000000 * finer = ap (λ (n : ℕ). n * finer) (omega (arith, less)) in
+      omega (arith, split, near.bounded, near.slower)
+  | inr more ↦
+      let none : f.period * 36000000 - f.tolerance * f.rate ≡ 0 = omega (arith, more) in
+      let product : (f.period * 36000000 - f.tolerance * f.rate) * finer ≡ 0 * finer = ap (λ (n : ℕ). n * finer) none in
+      omega (arith, product)
+]
+
+unlogged_fits : (f : Facts) (span : Span) (accepted sends : List Mark) (k j m hold : ℕ) → ArePlanned f → (b : IsRightBox f span accepted sends) → k < length sends → j ≤ b.word k → 1 ≤ hold → m + hold ≤ b.slot k + 1 → b.moment (b.word k) ≤ b.begin m
+    → time_at b.words j * f.rate + (hold - 1) * (f.period * 36000000 - f.tolerance * f.rate) ≤ (time_at sends k + f.tolerance) * f.rate
+unlogged_fits f span accepted sends k j m hold plan b lt le some room since =
+    let step = f.period * 36000000 - f.tolerance * f.rate in
+    let sorted : time_at b.words j ≤ time_at b.words (b.word k) = b.piece.rise j (b.word k) no_mark le (b.known k lt) in
+    let product : time_at b.words j * (f.rate * b.finer) ≤ time_at b.words (b.word k) * (f.rate * b.finer) = mul-le-mul_right (f.rate * b.finer) sorted in
+    let time = b.piece.late (b.word k) (b.known k lt) in
+    let early = b.early k lt in
+    let far = slots_far f b.finer b.wrong b.drift b.begin m (hold - 1) b.near b.slots in
+    let up = slots_rise f b.finer b.wrong b.drift b.begin (m + (hold - 1)) (b.slot k) b.near b.slots (omega (arith, room, some)) in
+    let fits = step_fits f b.finer b.wrong b.drift b.near in
+    let steps : (hold - 1) * (step * b.finer) ≤ (hold - 1) * (length_of f b.finer - b.drift) = mul-le-mul_left (hold - 1) fits in
+    let all : (time_at b.words j * f.rate + (hold - 1) * step) * b.finer ≤ (time_at sends k + f.tolerance) * f.rate * b.finer = omega (arith, product, time, early, far, up, steps, since, b.near.bounded) in
+    le_of_mul-le-mul_right all b.near.fine
+
+used_by : (f : Facts) (span : Span) (sends : List Mark) (n hold : ℕ) (a : Mark) → nat_le hold n ≡ true → is_by f (time_at sends (n - hold)) a ≡ true → may_be_used_up f span sends n hold a ≡ true
+used_by f span sends n hold a test by = rw test by
+
+unused_by : (f : Facts) (span : Span) (sends : List Mark) (n hold : ℕ) (a : Mark) → nat_le hold n ≡ false → is_by f span.first a ≡ true → has_room f hold (time_at sends (n - 1)) a ≡ true → may_be_used_up f span sends n hold a ≡ true
+unused_by f span sends n hold a test by room = rw test (rw by room)
+
+word_is_used_up : (f : Facts) (span : Span) (accepted sends : List Mark) (k j : ℕ) → ArePlanned f → (b : IsRightBox f span accepted sends) → k < length sends → (u : IsUsedUp f span accepted sends b k) → j ≤ b.word k
+    → may_be_used_up f span sends (k + 1) u.0 (mark_at b.words j) ≡ true
+word_is_used_up f span accepted sends k j plan b lt u le = elim u.3 [
+  | inl sent ↦
+      let some = plan.hold u.0 u.1 in
+      let first : k + 1 - u.0 < length sends = omega (arith, lt, some) in
+      let by = word_by f span accepted sends (k + 1 - u.0) plan b first in
+      let sorted : time_at b.words j ≤ time_at b.words (b.word k) = b.piece.rise j (b.word k) no_mark le (b.known k lt) in
+      let at = ap (time_at b.words) sent.1 in
+      let in_time : time_at b.words j ≤ time_at sends (k + 1 - u.0) + f.tolerance = omega (arith, by, sorted, at) in
+      let least = sent.0 in
+      used_by f span sends (k + 1) u.0 (mark_at b.words j) (grind (arith, nat_tests, least)) (grind (arith, nat_tests, in_time))
+  | inr unlogged ↦
+      let some = plan.hold u.0 u.1 in
+      let few = unlogged.1 in
+      let by = unlogged_by f span accepted sends k j unlogged.0 plan b lt le unlogged.2 unlogged.4 in
+      let fits = unlogged_fits f span accepted sends k j unlogged.0 u.0 plan b lt le some unlogged.3 unlogged.4 in
+      let e : k + 1 - 1 ≡ k = omega arith in
+      let at = ap (time_at sends) e in
+      let room_here : has_room f u.0 (time_at sends k) (mark_at b.words j) ≡ true = grind (arith, nat_tests, fits) in
+      let room : has_room f u.0 (time_at sends (k + 1 - 1)) (mark_at b.words j) ≡ true = ap (λ (t : ℕ). has_room f u.0 t (mark_at b.words j)) at ∙ room_here in
+      unused_by f span sends (k + 1) u.0 (mark_at b.words j) (grind (arith, nat_tests, few)) (grind (arith, nat_tests, by)) room
+]
+
+excused_by : (f : Facts) (span : Span) (accepted sends : List Mark) (n hold : ℕ) (held : Option ℕ) → held ≡ Some hold → list_any (is_left f span sends n hold) accepted ≡ false
+    → option_map_or (λ h. not (list_any (is_left f span sends n h) accepted)) held false ≡ true
+excused_by f span accepted sends n hold held is none =
+    ap (λ (o : Option ℕ). option_map_or (λ h. not (list_any (is_left f span sends n h) accepted)) o false) is ∙ ap not none
+
+-- nothing had to be sent
+none_left : (f : Facts) (span : Span) (accepted sends : List Mark) (k i : ℕ) → ArePlanned f → (b : IsRightBox f span accepted sends) → k < length sends → (u : IsUsedUp f span accepted sends b k) → i < length accepted
+    → is_left f span sends (k + 1) u.0 (mark_at accepted i) ≡ false
+none_left f span accepted sends k i plan b lt u within = false_unless (is_left f span sends (k + 1) u.0 (mark_at accepted i)) (λ e.
+    let e_k : k + 1 - 1 ≡ k = omega arith in
+    let at = ap (time_at sends) e_k in
+    let same = b.piece.same i within in
+    let before_next : is_before_next f (time_at sends (k + 1 - 1)) (mark_at accepted i) ≡ true = grind (arith, e) in
+    let out : may_be_used_up f span sends (k + 1) u.0 (mark_at accepted i) ≡ false = grind (arith, e) in
+    let before : is_before_next f (time_at sends k) (mark_at b.words (b.piece.skipped + i)) ≡ true =
+    subst (λ (m : Mark). is_before_next f (time_at sends k) m ≡ true) same (subst (λ (t : ℕ). is_before_next f t (mark_at accepted i) ≡ true) at before_next) in
+    let inside : b.piece.skipped + i < length b.words = omega (arith, within, b.piece.within) in
+    let old = not_newer f span accepted sends k (b.piece.skipped + i) b lt u inside before in
+    let used = word_is_used_up f span accepted sends k (b.piece.skipped + i) plan b lt u old in
+    true≢false (sym used ∙ (ap (may_be_used_up f span sends (k + 1) u.0) (sym same) ∙ out)))
+
+used_is_excused : (f : Facts) (span : Span) (accepted sends : List Mark) (k : ℕ) → ArePlanned f → (b : IsRightBox f span accepted sends) → k < length sends → (u : IsUsedUp f span accepted sends b k) → is_excused f span accepted sends (k + 1) ≡ true
+used_is_excused f span accepted sends k plan b lt u =
+    let none : list_any (is_left f span sends (k + 1) u.0) accepted ≡ false = none_at (is_left f span sends (k + 1) u.0) accepted (λ i d within.
+    ap (is_left f span sends (k + 1) u.0) (get_or_default accepted i d no_mark within) ∙ none_left f span accepted sends k i plan b lt u within) in
+    excused_by f span accepted sends (k + 1) u.0 f.hold u.1 none
+
+-- ---- times
+
+not_late : (f : Facts) (span : Span) (accepted sends : List Mark) (k : ℕ) → ArePlanned f → (b : IsRightBox f span accepted sends) → k + 1 < length sends → is_late f span accepted sends (k + 1) ≡ false
+not_late f span accepted sends k plan b lt =
+    let here : k < length sends = omega (arith, lt) in
+    let before : k + 1 - 1 ≡ k = omega arith in
+    elim (b.next k here) [
+      | inl used ↦
+          let at_slot = ap b.begin used.1 in
+          let late = b.late (k + 1) lt in
+          let near : time_at sends (k + 1) ≤ time_at sends k + f.greatest + f.tolerance = within_reach f span accepted sends k (time_at sends (k + 1)) plan b here (omega (arith, late, at_slot)) in
+          let at : time_at sends (k + 1 - 1) ≡ time_at sends k = ap (time_at sends) before in
+          let not_far : is_far f sends (k + 1) ≡ false = grind (arith, nat_tests, near, at) in
+          rw not_far refl
+      | inr rest ↦ elim rest [
+        | inl ended ↦ absurd (omega (arith, ended.0, lt))
+        | inr held ↦
+            let excused : is_excused f span accepted sends (k + 1) ≡ true = used_is_excused f span accepted sends k plan b here held in
+            grind (arith, excused)
+      ]
+    ]
+
+ends_by : (f : Facts) (span : Span) (accepted sends : List Mark) (k : ℕ) → ArePlanned f → (b : IsRightBox f span accepted sends) → length sends ≡ k + 1 → is_silent f span accepted sends ≡ false
+ends_by f span accepted sends k plan b size =
+    let here : k < length sends = omega (arith, size) in
+    let last : length sends - 1 ≡ k = omega (arith, size) in
+    elim (b.next k here) [
+      | inl used ↦ absurd (omega (arith, used.0, size))
+      | inr rest ↦ elim rest [
+        | inl ended ↦
+            let near : span.last ≤ time_at sends k + f.greatest + f.tolerance = within_reach f span accepted sends k span.last plan b here ended.1 in
+            let at : time_at sends (length sends - 1) ≡ time_at sends k = ap (time_at sends) last in
+            let not_ended : is_ended f span sends ≡ false = grind (arith, nat_tests, near, at) in
+            rw not_ended refl
+        | inr held ↦
+            let excused : is_excused f span accepted sends (length sends) ≡ true = ap (is_excused f span accepted sends) size ∙ used_is_excused f span accepted sends k plan b here held in
+            grind (arith, excused)
+      ]
+    ]
+
+not_silent : (f : Facts) (span : Span) (accepted sends : List Mark) (n : ℕ) → ArePlanned f → (b : IsRightBox f span accepted sends) → length sends ≡ n → is_silent f span accepted sends ≡ false
+not_silent f span accepted sends zero plan b size =
+    let none : is_ended f span sends ≡ false = grind (arith, nat_tests, size) in
+    rw none refl
+not_silent f span accepted sends (suc k) plan b size = ends_by f span accepted sends k plan b (omega (arith, size))
+
+-- ---- words that were sent too often
 
 -- the first place of a test is at most one after a place after which all pass
 first_at_most : (test : Mark → Bool) (xs : List Mark) (p : ℕ) → p < length xs → ((j : ℕ) → p < j → j < length xs → test (mark_at xs j) ≡ true) → position_or_len test xs ≤ p + 1
@@ -158,188 +410,230 @@ first_at_most test xs p lt h = elim (cases_lt (p + 1) (position_or_len test xs))
   | inr most ↦ most
 ]
 
-two_words : (f : Facts) (span : Span) (accepted sends : List Mark) (k j : ℕ) → IsNonDecreasingBy (λ (a : Mark). a.time) accepted → ArePlanned f → (b : IsRightBox f span accepted sends) → k < length sends → j < length sends
+two_words : (f : Facts) (span : Span) (accepted sends : List Mark) (k j : ℕ) → ArePlanned f → (b : IsRightBox f span accepted sends) → k < length sends → j < length sends → IsLogged f span accepted sends b k → IsLogged f span accepted sends b j
     → b.word j < b.word k → (mark_at sends j).raw ≡ (mark_at sends k).raw → is_twice (is_equal f (mark_at sends k)) (since f (time_at sends j) accepted) ≡ true
-two_words f span accepted sends k j rise plan b lt lt_j less raw =
+two_words f span accepted sends k j plan b lt lt_j l l_j less raw =
     let test = is_equal f (mark_at sends k) in
-    let p = b.word j in
-    let q = b.word k in
-    let by_q : time_at accepted q ≤ time_at sends k + f.tolerance = word_by f span accepted sends k plan b lt in
-    let sorted : time_at accepted p ≤ time_at accepted q = rise p q no_mark (omega (arith, less)) (b.known k lt) in
-    let raw_q : (mark_at accepted q).raw ≡ (mark_at sends k).raw = b.same k lt in
-    let raw_p : (mark_at accepted p).raw ≡ (mark_at sends k).raw = b.same j lt_j ∙ raw in
+    let p = b.word j - b.piece.skipped in
+    let q = b.word k - b.piece.skipped in
+    let same_p : mark_at accepted p ≡ mark_at b.words (b.word j) = same_at f span accepted sends b (b.word j) l_j.least l_j.most in
+    let same_q : mark_at accepted q ≡ mark_at b.words (b.word k) = same_at f span accepted sends b (b.word k) l.least l.most in
+    let time_p = ap (λ (m : Mark). m.time) same_p in
+    let time_q = ap (λ (m : Mark). m.time) same_q in
+    let by_word = word_by f span accepted sends k plan b lt in
+    let sorted : time_at b.words (b.word j) ≤ time_at b.words (b.word k) = b.piece.rise (b.word j) (b.word k) no_mark (omega (arith, less)) (b.known k lt) in
+    let by_q : time_at accepted q ≤ time_at sends k + f.tolerance = omega (arith, by_word, time_q) in
+    let by_p : time_at accepted p ≤ time_at sends k + f.tolerance = omega (arith, by_word, sorted, time_p) in
+    let raw_q : (mark_at accepted q).raw ≡ (mark_at sends k).raw = ap (λ (m : Mark). m.raw) same_q ∙ b.same k lt in
+    let raw_p : (mark_at accepted p).raw ≡ (mark_at sends k).raw = ap (λ (m : Mark). m.raw) same_p ∙ b.same j lt_j ∙ raw in
     let at_q : test (mark_at accepted q) ≡ true = grind (arith, nat_tests, by_q, raw_q) in
-    let at_p : test (mark_at accepted p) ≡ true = grind (arith, nat_tests, by_q, sorted, raw_p) in
+    let at_p : test (mark_at accepted p) ≡ true = grind (arith, nat_tests, by_p, raw_p) in
     let first : position_or_len (λ a. not (is_past f (time_at sends j) a)) accepted ≤ p + 1 =
-    first_at_most (λ a. not (is_past f (time_at sends j) a)) accepted p (b.known j lt_j) (λ i more within.
-    let out : is_past f (time_at sends j) (mark_at accepted i) ≡ false = later_not_past f span accepted sends j i b lt_j more within in
+    first_at_most (λ a. not (is_past f (time_at sends j) a)) accepted p (omega (arith, l_j.least, l_j.most)) (λ i more within.
+    let out : is_past f (time_at sends j) (mark_at accepted i) ≡ false = ap (is_past f (time_at sends j)) (b.piece.same i within)
+    ∙ later_not_past f span accepted sends j (b.piece.skipped + i) b lt_j (omega (arith, more, l_j.least)) (omega (arith, within, b.piece.within)) in
     grind (arith, out)) in
-    twice_at test accepted (position_or_len (λ a. not (is_past f (time_at sends j) a)) accepted - 1) p q (omega (arith, first)) less (b.known k lt) at_p at_q
+    twice_at test accepted (position_or_len (λ a. not (is_past f (time_at sends j) a)) accepted - 1) p q (omega (arith, first)) (omega (arith, less, l.least, l_j.least)) (omega (arith, l.least, l.most)) at_p at_q
 
-not_of_one : (f : Facts) (span : Span) (accepted sends : List Mark) (k hold : ℕ) → IsNonDecreasingBy (λ (a : Mark). a.time) accepted → ArePlanned f → (b : IsRightBox f span accepted sends) → k < length sends
-    → f.hold ≡ Some hold → hold ≤ k → is_of_one f accepted (mark_at sends (k - hold)) (mark_at sends k) ≡ false
-not_of_one f span accepted sends k hold rise plan b lt is le =
-    false_unless (is_of_one f accepted (mark_at sends (k - hold)) (mark_at sends k)) (λ e.
+not_of_one : (f : Facts) (span : Span) (accepted sends : List Mark) (k hold : ℕ) → ArePlanned f → (b : IsRightBox f span accepted sends) → k < length sends
+    → f.hold ≡ Some hold → hold ≤ k → is_of_one f span accepted (mark_at sends (k - hold)) (mark_at sends k) ≡ false
+not_of_one f span accepted sends k hold plan b lt is le =
+    false_unless (is_of_one f span accepted (mark_at sends (k - hold)) (mark_at sends k)) (λ e.
     let raw : (mark_at sends (k - hold)).raw ≡ (mark_at sends k).raw = grind (arith, nat_tests, e) in
+    let known_first : is_known f span accepted (time_at sends (k - hold)) ≡ true = grind (arith, e) in
+    let known : is_known f span accepted (time_at sends k) ≡ true = grind (arith, e) in
     let once : is_twice (is_equal f (mark_at sends k)) (since f (time_at sends (k - hold)) accepted) ≡ false = grind (arith, e) in
-    let twice = two_words f span accepted sends k (k - hold) rise plan b lt (omega (arith, lt)) (b.held k hold is le lt) raw in
+    let first : k - hold < length sends = omega (arith, lt) in
+    let twice = two_words f span accepted sends k (k - hold) plan b lt first (known_is_logged f span accepted sends k plan b lt known)
+    (known_is_logged f span accepted sends (k - hold) plan b first known_first) (b.held k hold is le lt) raw in
     true≢false (sym twice ∙ once))
 
-again_by : (f : Facts) (accepted sends : List Mark) (k : ℕ) (held : Option ℕ) → ((hold : ℕ) → held ≡ Some hold → hold ≤ k → is_of_one f accepted (mark_at sends (k - hold)) (mark_at sends k) ≡ false)
-    → option_map_or (λ hold. nat_le hold k && is_of_one f accepted (mark_at sends (k - hold)) (mark_at sends k)) held false ≡ false
-again_by f accepted sends k None h = refl
-again_by f accepted sends k (Some hold) h = elim (cases_lt k hold) [
+again_by : (f : Facts) (span : Span) (accepted sends : List Mark) (k : ℕ) (held : Option ℕ) → ((hold : ℕ) → held ≡ Some hold → hold ≤ k → is_of_one f span accepted (mark_at sends (k - hold)) (mark_at sends k) ≡ false)
+    → option_map_or (λ hold. nat_le hold k && is_of_one f span accepted (mark_at sends (k - hold)) (mark_at sends k)) held false ≡ false
+again_by f span accepted sends k None h = refl
+again_by f span accepted sends k (Some hold) h = elim (cases_lt k hold) [
   | inl less ↦ let more : nat_le hold k ≡ false = grind (arith, nat_tests, less) in rw more refl
-  | inr most ↦ let one : is_of_one f accepted (mark_at sends (k - hold)) (mark_at sends k) ≡ false = h hold refl most in grind (arith, one)
+  | inr most ↦ let one : is_of_one f span accepted (mark_at sends (k - hold)) (mark_at sends k) ≡ false = h hold refl most in grind (arith, one)
 ]
 
-not_again : (f : Facts) (span : Span) (accepted sends : List Mark) (k : ℕ) → IsNonDecreasingBy (λ (a : Mark). a.time) accepted → ArePlanned f → (b : IsRightBox f span accepted sends) → k < length sends → is_again f accepted sends k ≡ false
-not_again f span accepted sends k rise plan b lt = again_by f accepted sends k f.hold (λ hold is le. not_of_one f span accepted sends k hold rise plan b lt is le)
-
--- ---- times
-
-excused_by : (f : Facts) (accepted sends : List Mark) (n hold : ℕ) (held : Option ℕ) → held ≡ Some hold → list_any (is_between f (time_at sends (n - hold)) (time_at sends (n - 1))) accepted ≡ false
-    → option_map_or (λ h. not (list_any (is_between f (time_at sends (n - h)) (time_at sends (n - 1))) accepted)) held false ≡ true
-excused_by f accepted sends n hold held is none =
-    ap (λ (o : Option ℕ). option_map_or (λ h. not (list_any (is_between f (time_at sends (n - h)) (time_at sends (n - 1))) accepted)) o false) is ∙ ap not none
-
-not_late : (f : Facts) (span : Span) (accepted sends : List Mark) (k : ℕ) → IsNonDecreasingBy (λ (a : Mark). a.time) accepted → ArePlanned f → (b : IsRightBox f span accepted sends) → k + 1 < length sends → is_late f accepted sends (k + 1) ≡ false
-not_late f span accepted sends k rise plan b lt =
-    let before : k + 1 - 1 ≡ k = omega arith in
-    elim (b.next k lt) [
-      | inl is ↦
-          let near : time_at sends (k + 1) ≤ time_at sends k + f.greatest + f.tolerance = not_far f span accepted sends k plan b lt is in
-          let at : time_at sends (k + 1 - 1) ≡ time_at sends k = ap (time_at sends) before in
-          let not_far : is_far f sends (k + 1) ≡ false = grind (arith, nat_tests, near, at) in
-          rw not_far refl
-      | inr held ↦
-          let none : list_any (is_between f (time_at sends (k + 1 - held.0)) (time_at sends k)) accepted ≡ false = none_at (is_between f (time_at sends (k + 1 - held.0)) (time_at sends k)) accepted (λ i d within.
-          ap (is_between f (time_at sends (k + 1 - held.0)) (time_at sends k)) (get_or_default accepted i d no_mark within)
-          ∙ none_between f span accepted sends k held.0 i rise plan b lt held.1 held.2 within) in
-          let none_here : list_any (is_between f (time_at sends (k + 1 - held.0)) (time_at sends (k + 1 - 1))) accepted ≡ false =
-          ap (λ (n : ℕ). list_any (is_between f (time_at sends (k + 1 - held.0)) (time_at sends n)) accepted) before ∙ none in
-          let excused : is_excused f accepted sends (k + 1) ≡ true = excused_by f accepted sends (k + 1) held.0 f.hold held.1 none_here in
-          grind (arith, excused)
-    ]
+not_again : (f : Facts) (span : Span) (accepted sends : List Mark) (k : ℕ) → ArePlanned f → (b : IsRightBox f span accepted sends) → k < length sends → is_again f span accepted sends k ≡ false
+not_again f span accepted sends k plan b lt = again_by f span accepted sends k f.hold (λ hold is le. not_of_one f span accepted sends k hold plan b lt is le)
 
 -- ---- accepted words
 
 -- a send at or after an accepted word is of it or of a later one
-word_is_newer : (f : Facts) (span : Span) (accepted sends : List Mark) (k i : ℕ) → (b : IsRightBox f span accepted sends) → k < length sends → i < length accepted → time_at accepted i * (f.rate * b.finer) ≤ b.begin (b.slot k) → i ≤ b.word k
-word_is_newer f span accepted sends k i b lt within reached = elim (cases_lt (b.word k) i) [
-  | inl less ↦ let until = b.until k i lt less within in absurd {A = i ≤ b.word k} (omega (arith, until, reached))
+word_is_newer : (f : Facts) (span : Span) (accepted sends : List Mark) (k j : ℕ) → (b : IsRightBox f span accepted sends) → k < length sends → j < length b.words → b.moment j ≤ b.begin (b.slot k) → j ≤ b.word k
+word_is_newer f span accepted sends k j b lt within reached = elim (cases_lt (b.word k) j) [
+  | inl less ↦ let until = b.until k j lt less within in absurd {A = j ≤ b.word k} (omega (arith, until, reached))
   | inr most ↦ most
 ]
 
+-- until when the log of what was sent must have a word, in the box's units
+abbrev limit_of : Facts → ℕ → Span → Mark → ℕ
+limit_of f finer span a = (due_since span a + f.tolerance) * (f.rate * finer) + (f.period + 1) * 36000000 * finer
+
 -- a send in the first slot at or after a word is in time
-sent_in_time : (f : Facts) (span : Span) (accepted sends : List Mark) (i n k : ℕ) → ArePlanned f → (b : IsRightBox f span accepted sends) → i < length accepted → k < length sends → b.begin (b.slot k) ≡ b.begin n
-    → time_at accepted i * (f.rate * b.finer) ≤ b.begin n → b.begin n < time_at accepted i * (f.rate * b.finer) + f.period * 36000000 * b.finer → is_answered f accepted sends i ≡ true
-sent_in_time f span accepted sends i n k plan b within lt at reached soon =
+sent_in_time : (f : Facts) (span : Span) (accepted sends : List Mark) (i n k : ℕ) → ArePlanned f → (b : IsRightBox f span accepted sends) → i < length accepted → k < length sends → b.slot k ≡ n
+    → b.moment (b.piece.skipped + i) ≤ b.begin n → b.begin n + b.delay + b.wrong < limit_of f b.finer span (mark_at accepted i) → limit_of f b.finer span (mark_at accepted i) ≤ span.heard * (f.rate * b.finer) → is_answered f span accepted sends i ≡ true
+sent_in_time f span accepted sends i n k plan b within lt is reached soon ends =
+    let at = ap b.begin is in
     let late = b.late k lt in
+    let inside : b.piece.skipped + i < length b.words = omega (arith, within, b.piece.within) in
+    let newer = word_is_newer f span accepted sends k (b.piece.skipped + i) b lt inside (omega (arith, reached, at)) in
+    let time = b.piece.late (b.word k) (b.known k lt) in
+    let since = b.since k lt in
+    let before : time_at b.words (b.word k) * (f.rate * b.finer) < span.heard * (f.rate * b.finer) = omega (arith, time, since, at, soon, ends) in
+    let earlier : time_at b.words (b.word k) < span.heard = elim (cases_lt (time_at b.words (b.word k)) span.heard) [
+      | inl less ↦ less
+      | inr more ↦ let product : span.heard * (f.rate * b.finer) ≤ time_at b.words (b.word k) * (f.rate * b.finer) = mul-le-mul_right (f.rate * b.finer) more in absurd {A = time_at b.words (b.word k) < span.heard} (omega (arith, product, before))
+    ] in
+    let logged : IsLogged f span accepted sends b k = record {
+      least = omega (arith, newer);
+      most = is_before_rest f span accepted sends b (b.word k) (b.known k lt) earlier;
+    } in
+    let reach_finer : time_at sends k * f.rate * b.finer ≤ ((due_since span (mark_at accepted i) + f.tolerance) * f.rate + (f.period + 1) * 36000000) * b.finer = omega (arith, late, at, soon) in
+    let reach : time_at sends k * f.rate ≤ (due_since span (mark_at accepted i) + f.tolerance) * f.rate + (f.period + 1) * 36000000 = le_of_mul-le-mul_right reach_finer b.near.fine in
+    let in_reach : is_in_reach f (due_since span (mark_at accepted i)) (time_at sends k) ≡ true = reach_is f (due_since span (mark_at accepted i)) (time_at sends k) reach in
+    let right : is_right f (mark_at sends k) (drop i accepted) ≡ true = logged_right f span accepted sends k i plan b lt logged (omega (arith, newer)) in
+    any_at (λ s. is_in_reach f (due_since span (mark_at accepted i)) s.time && is_right f s (drop i accepted)) sends k no_mark lt (grind (arith, in_reach, right))
+  where
+    reach_is : (f : Facts) (since t : ℕ) → t * f.rate ≤ (since + f.tolerance) * f.rate + (f.period + 1) * 36000000 → is_in_reach f since t ≡ true
+    reach_is f since t le = grind (arith, nat_tests, le)
+
+-- the first slot from `from` on at or after a word begins soon
+begins_soon : (f : Facts) (span : Span) (accepted sends : List Mark) (i n : ℕ) → ArePlanned f → (b : IsRightBox f span accepted sends) → i < length accepted → IsFirstSlot b.begin (b.moment (b.piece.skipped + i)) b.from n
+    → b.begin n + b.delay + b.wrong < limit_of f b.finer span (mark_at accepted i)
+begins_soon f span accepted sends i n plan b within s =
+    let inside : b.piece.skipped + i < length b.words = omega (arith, within, b.piece.within) in
+    let times = ap (λ (m : Mark). m.time) (b.piece.same i within) in
+    let time = b.piece.early (b.piece.skipped + i) inside in
+    let bounded = b.near.bounded in
     let short = b.short in
-    let reach_finer : time_at sends k * f.rate * b.finer ≤ ((time_at accepted i + f.tolerance) * f.rate + (f.period + 1) * 36000000) * b.finer = omega (arith, late, at, soon, short) in
-    let reach : time_at sends k * f.rate ≤ (time_at accepted i + f.tolerance) * f.rate + (f.period + 1) * 36000000 = le_of_mul-le-mul_right reach_finer b.fine in
-    let in_reach : is_in_reach f (mark_at accepted i) (time_at sends k) ≡ true = grind (arith, nat_tests, reach) in
-    let newer : i ≤ b.word k = word_is_newer f span accepted sends k i b lt within (omega (arith, at, reached)) in
-    let right : is_right f (mark_at sends k) (drop i accepted) ≡ true = box_right f span accepted sends k i plan b lt newer in
-    any_at (λ s. is_in_reach f (mark_at accepted i) s.time && is_right f s (drop i accepted)) sends k no_mark lt (grind (arith, in_reach, right))
+    let base : 1 ≤ 36000000 = omega arith in
+    let some : 1 ≤ 36000000 * b.finer = one-le-mul base b.near.fine in
+    let due : time_at accepted i ≤ due_since span (mark_at accepted i) = omega arith in
+    let due_first : span.first ≤ due_since span (mark_at accepted i) = omega arith in
+    let product : time_at accepted i * (f.rate * b.finer) ≤ due_since span (mark_at accepted i) * (f.rate * b.finer) = mul-le-mul_right (f.rate * b.finer) due in
+    let product_first : span.first * (f.rate * b.finer) ≤ due_since span (mark_at accepted i) * (f.rate * b.finer) = mul-le-mul_right (f.rate * b.finer) due_first in
+    let time_same : time_at accepted i * (f.rate * b.finer) ≡ time_at b.words (b.piece.skipped + i) * (f.rate * b.finer) = ap (λ (t : ℕ). t * (f.rate * b.finer)) times in
+    elim s.first [
+      | inl is ↦
+          let at = ap b.begin is in
+          omega (arith, b.opens, at, product_first, bounded, some)
+      | inr later ↦
+          let next = b.slots.latest (n - 1) in
+          let e : n - 1 + 1 ≡ n = omega (arith, later.0) in
+          let at = ap b.begin e in
+          omega (arith, next, at, later.1, time, time_same, product, bounded, short, some)
+    ]
 
-same_begin : (f : Facts) (span : Span) (accepted sends : List Mark) (b : IsRightBox f span accepted sends) (k n : ℕ) → b.slot k ≡ n → b.begin (b.slot k) ≡ b.begin n
-same_begin f span accepted sends b k n is = ap b.begin is
+some_hold : (held : Option ℕ) (hold : ℕ) → held ≡ Some hold → is_some held ≡ true
+some_hold None hold h = absurd (cc)
+some_hold (Some most) hold h = refl
 
--- a slot whose send is surely within the log has one, if it is the first at or after a word
-slot_is_sent : (f : Facts) (span : Span) (accepted sends : List Mark) (i n : ℕ) → ArePlanned f → (b : IsRightBox f span accepted sends) → i < length accepted
-    → ((time_at accepted i + f.tolerance) * f.rate + (f.period + 1) * 36000000) * b.finer ≤ span.last * f.rate * b.finer → b.from ≤ n
-    → time_at accepted i * (f.rate * b.finer) ≤ b.first + n * (f.period * 36000000 * b.finer) → b.first + n * (f.period * 36000000 * b.finer) < time_at accepted i * (f.rate * b.finer) + f.period * 36000000 * b.finer → is_answered f accepted sends i ≡ true
-slot_is_sent f span accepted sends i n plan b within ends from reached soon =
-    let begin_n = b.begins n in
-    let short = b.short in
-    let reached_n : time_at accepted i * (f.rate * b.finer) ≤ b.begin n = omega (arith, begin_n, reached) in
-    let soon_n : b.begin n < time_at accepted i * (f.rate * b.finer) + f.period * 36000000 * b.finer = omega (arith, begin_n, soon) in
-    let sent = b.whole n i from (omega (arith, soon_n, short, ends)) within reached_n soon_n in
-    sent_in_time f span accepted sends i n sent.0 plan b within sent.1 (same_begin f span accepted sends b sent.0 n sent.2) reached_n soon_n
+-- a slot before is not after the word, too, if a hold may leave slots empty
+none_before : (f : Facts) (span : Span) (accepted sends : List Mark) (i n m hold : ℕ) → ArePlanned f → (b : IsRightBox f span accepted sends) → i < length accepted → IsFirstSlot b.begin (b.moment (b.piece.skipped + i)) b.from n
+    → is_seen f span (mark_at accepted i) ≡ true → f.hold ≡ Some hold → m < n → b.moment (b.piece.skipped + i) ≤ b.begin m → ⊥
+none_before f span accepted sends i n m hold plan b within s seen is less reached =
+    let held = some_hold f.hold hold is in
+    let after_bit : nat_lt (span.first + f.tolerance) (time_at accepted i) ≡ true = grind (arith, seen, held) in
+    let after : span.first + f.tolerance < time_at accepted i = grind (arith, nat_tests, after_bit) in
+    elim s.first [
+      | inl at ↦
+          let inside : b.piece.skipped + i < length b.words = omega (arith, within, b.piece.within) in
+          let times = ap (λ (a : Mark). a.time) (b.piece.same i within) in
+          let time = b.piece.late (b.piece.skipped + i) inside in
+          let before = b.before m (omega (arith, at, less)) in
+          let some = some_units f span accepted sends plan b in
+          let next_after : span.first + f.tolerance + 1 ≤ time_at accepted i = omega (arith, after) in
+          let product : (span.first + f.tolerance + 1) * (f.rate * b.finer) ≤ time_at accepted i * (f.rate * b.finer) = mul-le-mul_right (f.rate * b.finer) next_after in
+          let time_same : time_at accepted i * (f.rate * b.finer) ≡ time_at b.words (b.piece.skipped + i) * (f.rate * b.finer) = ap (λ (t : ℕ). t * (f.rate * b.finer)) times in
+          omega (arith, time, before, some, product, time_same, reached, b.near.bounded)
+      | inr later ↦
+          let rise = slots_rise f b.finer b.wrong b.drift b.begin m (n - 1) b.near b.slots (omega (arith, less)) in
+          omega (arith, rise, later.1, reached)
+    ]
 
-answered : (f : Facts) (span : Span) (accepted sends : List Mark) (i : ℕ) → ArePlanned f → (b : IsRightBox f span accepted sends) → i < length accepted → is_seen f span (mark_at accepted i) ≡ true → is_answered f accepted sends i ≡ true
-answered f span accepted sends i plan b within seen =
-    let some : 1 ≤ f.rate * b.finer = some_units f span accepted sends plan b in
-    let some_period : 1 ≤ f.period * 36000000 = omega (arith, plan.period) in
-    let some_length : 1 ≤ f.period * 36000000 * b.finer = one-le-mul some_period b.fine in
-    let after : span.first + f.tolerance < time_at accepted i = grind (arith, nat_tests, seen) in
-    let ends : (time_at accepted i + f.tolerance) * f.rate + (f.period + 1) * 36000000 ≤ span.last * f.rate = grind (arith, nat_tests, seen) in
-    let ends_finer : ((time_at accepted i + f.tolerance) * f.rate + (f.period + 1) * 36000000) * b.finer ≤ span.last * f.rate * b.finer = mul-le-mul_right b.finer ends in
-    let next_after : span.first + f.tolerance + 1 ≤ time_at accepted i = omega (arith, after) in
-    let after_finer : (span.first + f.tolerance + 1) * (f.rate * b.finer) ≤ time_at accepted i * (f.rate * b.finer) = mul-le-mul_right (f.rate * b.finer) next_after in
-    let from_begin = b.from_begin in
-    let begin_from = b.begins b.from in
-    let slot = first_slot (time_at accepted i * (f.rate * b.finer)) b.first b.from (f.period * 36000000 * b.finer) some_length (omega (arith, from_begin, begin_from, after_finer, some)) in
-    slot_is_sent f span accepted sends i slot.0 plan b within ends_finer slot.1 slot.2 slot.3
+answered : (f : Facts) (span : Span) (accepted sends : List Mark) (i : ℕ) → ArePlanned f → (b : IsRightBox f span accepted sends) → span.heard ≤ span.last → i < length accepted → is_seen f span (mark_at accepted i) ≡ true → is_answered f span accepted sends i ≡ true
+answered f span accepted sends i plan b order within seen =
+    let x = b.moment (b.piece.skipped + i) in
+    let grow = slots_grow f b.finer b.wrong b.drift b.begin b.from x b.near b.slots in
+    let slot = first_slot b.begin x b.from x (omega (arith, grow)) in
+    let inside : b.piece.skipped + i < length b.words = omega (arith, within, b.piece.within) in
+    let seen_bit : nat_le ((due_since span (mark_at accepted i) + f.tolerance) * f.rate + (f.period + 1) * 36000000) (span.heard * f.rate) ≡ true = grind (arith, seen) in
+    let seen_by = le_by ((due_since span (mark_at accepted i) + f.tolerance) * f.rate + (f.period + 1) * 36000000) (span.heard * f.rate) seen_bit in
+    let ends : ((due_since span (mark_at accepted i) + f.tolerance) * f.rate + (f.period + 1) * 36000000) * b.finer ≤ span.heard * f.rate * b.finer = mul-le-mul_right b.finer seen_by in
+    let ends_finer : limit_of f b.finer span (mark_at accepted i) ≤ span.heard * (f.rate * b.finer) = omega (arith, ends) in
+    let soon = begins_soon f span accepted sends i slot.0 plan b within slot.1 in
+    let last : span.heard * (f.rate * b.finer) ≤ span.last * (f.rate * b.finer) = mul-le-mul_right (f.rate * b.finer) order in
+    elim (b.whole slot.0 (b.piece.skipped + i) slot.1.least inside slot.1.reached (omega (arith, soon, ends_finer, last))) [
+      | inl sent ↦ sent_in_time f span accepted sends i slot.0 sent.0 plan b within sent.1 sent.2 slot.1.reached soon ends_finer
+      | inr held ↦ absurd (none_before f span accepted sends i slot.0 held.1 held.0 plan b within slot.1 seen held.2 held.3 held.4)
+    ]
+  where
+    le_by : (m n : ℕ) → nat_le m n ≡ true → m ≤ n
+    le_by m n h = grind (arith, nat_tests, h)
 
-not_missed : (f : Facts) (span : Span) (accepted sends : List Mark) (i : ℕ) → ArePlanned f → (b : IsRightBox f span accepted sends) → i < length accepted → is_missed f span accepted sends i ≡ false
-not_missed f span accepted sends i plan b within = go (is_seen f span (mark_at accepted i)) refl where
+not_missed : (f : Facts) (span : Span) (accepted sends : List Mark) (i : ℕ) → ArePlanned f → (b : IsRightBox f span accepted sends) → span.heard ≤ span.last → i < length accepted → is_missed f span accepted sends i ≡ false
+not_missed f span accepted sends i plan b order within = go (is_seen f span (mark_at accepted i)) refl where
   go : (seen : Bool) → is_seen f span (mark_at accepted i) ≡ seen → is_missed f span accepted sends i ≡ false
-  go true e = let sent : is_answered f accepted sends i ≡ true = answered f span accepted sends i plan b within e in grind (arith, sent)
-  go false e = grind (arith, e)
+  go true e = let sent : is_answered f span accepted sends i ≡ true = answered f span accepted sends i plan b order within e in rw sent (rw e refl)
+  go false e = rw e refl
 
 -- ---- nothing is found
 
 none_found : (kind : Kind) (m : Mark) (test : Bool) → test ≡ false → finding_if test kind m ≡ []
 none_found kind m test h = ap (λ (b : Bool). finding_if b kind m) h
 
-none_of_send : (f : Facts) (accepted sends : List Mark) (k : ℕ) → value_findings f accepted (mark_at sends k) ≡ [] → is_soon f sends k ≡ false → is_late f accepted sends k ≡ false → is_again f accepted sends k ≡ false → send_findings f accepted sends k ≡ []
+none_of_send : (f : Facts) (span : Span) (accepted sends : List Mark) (k : ℕ) → value_findings f span accepted (mark_at sends k) ≡ [] → is_soon f sends k ≡ false → is_late f span accepted sends k ≡ false → is_again f span accepted sends k ≡ false
+    → send_findings f span accepted sends k ≡ []
 unfolding send_findings
-none_of_send f accepted sends k value soon late again = rw value (rw soon (rw late (rw again refl)))
+none_of_send f span accepted sends k value soon late again = rw value (rw soon (rw late (rw again refl)))
 
-first_in_time : (f : Facts) (accepted sends : List Mark) → (is_soon f sends 0 ≡ false) × (is_late f accepted sends 0 ≡ false)
-first_in_time f accepted sends = (refl, refl)
+first_in_time : (f : Facts) (span : Span) (accepted sends : List Mark) → (is_soon f sends 0 ≡ false) × (is_late f span accepted sends 0 ≡ false)
+first_in_time f span accepted sends = (refl, refl)
 
-next_in_time : (f : Facts) (span : Span) (accepted sends : List Mark) (k : ℕ) → IsNonDecreasingBy (λ (a : Mark). a.time) accepted → ArePlanned f → (b : IsRightBox f span accepted sends) → k + 1 < length sends
-    → (is_soon f sends (k + 1) ≡ false) × (is_late f accepted sends (k + 1) ≡ false)
-next_in_time f span accepted sends k rise plan b lt =
+next_in_time : (f : Facts) (span : Span) (accepted sends : List Mark) (k : ℕ) → ArePlanned f → (b : IsRightBox f span accepted sends) → k + 1 < length sends
+    → (is_soon f sends (k + 1) ≡ false) × (is_late f span accepted sends (k + 1) ≡ false)
+next_in_time f span accepted sends k plan b lt =
     let apart : time_at sends k + f.least ≤ time_at sends (k + 1) + f.tolerance = not_soon f span accepted sends k plan b lt in
     let before : k + 1 - 1 ≡ k = omega arith in
     let at : time_at sends (k + 1 - 1) ≡ time_at sends k = ap (time_at sends) before in
-    (grind (arith, nat_tests, apart, at), not_late f span accepted sends k rise plan b lt)
+    (grind (arith, nat_tests, apart, at), not_late f span accepted sends k plan b lt)
 
-in_time : (f : Facts) (span : Span) (accepted sends : List Mark) (k : ℕ) → IsNonDecreasingBy (λ (a : Mark). a.time) accepted → ArePlanned f → (b : IsRightBox f span accepted sends) → k < length sends
-    → (is_soon f sends k ≡ false) × (is_late f accepted sends k ≡ false)
-in_time f span accepted sends zero rise plan b lt = first_in_time f accepted sends
-in_time f span accepted sends (suc k) rise plan b lt =
+in_time : (f : Facts) (span : Span) (accepted sends : List Mark) (k : ℕ) → ArePlanned f → (b : IsRightBox f span accepted sends) → k < length sends
+    → (is_soon f sends k ≡ false) × (is_late f span accepted sends k ≡ false)
+in_time f span accepted sends zero plan b lt = first_in_time f span accepted sends
+in_time f span accepted sends (suc k) plan b lt =
     let e : k + 1 ≡ suc k = omega arith in
-    subst (λ (n : ℕ). (is_soon f sends n ≡ false) × (is_late f accepted sends n ≡ false)) e (next_in_time f span accepted sends k rise plan b (omega (arith, lt)))
+    subst (λ (n : ℕ). (is_soon f sends n ≡ false) × (is_late f span accepted sends n ≡ false)) e (next_in_time f span accepted sends k plan b (omega (arith, lt)))
 
 flat_none : {Y : Type 0} (f : ℕ → List Y) (from n : ℕ) → ((k : ℕ) → k < from + n → f k ≡ []) → flat_map f (range_with_len from n) ≡ []
 flat_none {Y} f from zero h = refl
 flat_none {Y} f from (suc n) h =
     rw (h from (omega arith)) (flat_none f (from + 1) n (λ k lt. h k (omega (arith, lt))))
 
-pub right_box_finds_none : (f : Facts) (span : Span) (accepted sends : List Mark) → IsNonDecreasingBy (λ (a : Mark). a.time) accepted → ArePlanned f → (b : IsRightBox f span accepted sends) → findings f span accepted sends ≡ []
+none_at_end : (f : Facts) (span : Span) (accepted sends : List Mark) → is_silent f span accepted sends ≡ false → end_findings f span accepted sends ≡ []
+unfolding end_findings
+none_at_end f span accepted sends h = none_found Silent (mark_at sends (length sends - 1)) (is_silent f span accepted sends) h
+
+right_box_finds_none : (f : Facts) (span : Span) (accepted sends : List Mark) → ArePlanned f → span.heard ≤ span.last → (b : IsRightBox f span accepted sends) → findings f span accepted sends ≡ []
 unfolding findings word_findings
-right_box_finds_none f span accepted sends rise plan b =
-    let of_sends : flat_map (send_findings f accepted sends) (range_with_len 0 (length sends)) ≡ [] = flat_none (send_findings f accepted sends) 0 (length sends) (λ k lt.
+right_box_finds_none f span accepted sends plan order b =
+    let of_sends : flat_map (send_findings f span accepted sends) (range_with_len 0 (length sends)) ≡ [] = flat_none (send_findings f span accepted sends) 0 (length sends) (λ k lt.
     let inside : k < length sends = omega (arith, lt) in
-    let times = in_time f span accepted sends k rise plan b inside in
-    let right : is_right f (mark_at sends k) accepted ≡ true = box_right f span accepted sends k 0 plan b inside (omega arith) in
-    none_of_send f accepted sends k (right_value f (mark_at sends k) accepted right) times.0 times.1 (not_again f span accepted sends k rise plan b inside)) in
+    let times = in_time f span accepted sends k plan b inside in
+    none_of_send f span accepted sends k (right_if_known f span accepted sends k (is_known f span accepted (time_at sends k)) plan b inside refl) times.0 times.1 (not_again f span accepted sends k plan b inside)) in
+    let of_end : end_findings f span accepted sends ≡ [] = none_at_end f span accepted sends (not_silent f span accepted sends (length sends) plan b refl) in
     let of_words : all_missed f span accepted sends ≡ [] = flat_none (word_findings f span accepted sends) 0 (length accepted) (λ i lt.
-    none_found Missed (mark_at accepted i) (is_missed f span accepted sends i) (not_missed f span accepted sends i plan b (omega (arith, lt)))) in
-    rw of_sends (rw of_words refl)
+    none_found Missed (mark_at accepted i) (is_missed f span accepted sends i) (not_missed f span accepted sends i plan b order (omega (arith, lt)))) in
+    rw of_sends (rw of_end (rw of_words refl))
 
--- ---- the verdict
+if_none : (alike : Bool) (found : List Finding) → found ≡ [] → (if alike then [] else found) ≡ []
+if_none true found h = refl
+if_none false found h = h
 
-verdict_by : (alike : Bool) (sent : ℕ) (found : List Finding) → alike ≡ false → found ≡ [] → (verdict_of alike sent found ≡ verdict.Ok) ⊎ (verdict_of alike sent found ≡ verdict.NotSent)
-verdict_by true sent found a h = absurd (true≢false a)
-verdict_by false sent (x ∷ found) a h = absurd (cc)
-verdict_by false sent [] a h = go (sent == 0) where
-  go : (b : Bool) → ((if b then verdict.NotSent else verdict.Ok) ≡ verdict.Ok) ⊎ ((if b then verdict.NotSent else verdict.Ok) ≡ verdict.NotSent)
-  go true = inr refl
-  go false = inl refl
-
-pub right_box_is_ok : (duties : List Duty) (d : Duty) (r : Recording) → IsNonDecreasingBy (λ (a : Mark). a.time) (accepted_by d r) → overlapping d duties ≤ 1 → ArePlanned d.facts
-    → IsRightBox d.facts (span_of d.group r) (accepted_by d r) (sent_by d r)
-    → ((judgement_of duties d r).verdict ≡ verdict.Ok) ⊎ ((judgement_of duties d r).verdict ≡ verdict.NotSent)
-unfolding judgement_by
-right_box_is_ok duties d r rise few plan b =
-    let apart : is_alike duties d ≡ false = grind (arith, nat_tests, few) in
-    let none : findings d.facts (span_of d.group r) (accepted_by d r) (sent_by d r) ≡ [] = right_box_finds_none d.facts (span_of d.group r) (accepted_by d r) (sent_by d r) rise plan b in
-    let found : found_at duties d r ≡ [] = rw apart none in
-    verdict_by (is_alike duties d) (length (sent_by d r)) (found_at duties d r) apart found
+pub right_box_has_none : (duties : List Duty) (d : Duty) (r : Recording) → ArePlanned d.facts → IsRightBox d.facts (span_of d.group r) (accepted_by d r) (sent_by d r) → found_at duties d r ≡ []
+right_box_has_none duties d r plan b =
+    if_none (is_alike duties d) (findings d.facts (span_of d.group r) (accepted_by d r) (sent_by d r))
+    (right_box_finds_none d.facts (span_of d.group r) (accepted_by d r) (sent_by d r) plan (omega arith) b)

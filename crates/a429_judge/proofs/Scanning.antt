@@ -1,6 +1,6 @@
 -- Accepted words within the windows of sends.
 use Rattle.std.proofs.Common.{◌≡◌, ℕ, zero, suc, ◌+◌, ◌-◌, ◌*◌, ◌<◌, ◌≤◌, List, [], ◌∷◌, length, drop, get_or, Bool, true, false, refl, sym, ap, subst, ◌∙◌, inl, inr, ◌⊎◌, arith, true≢false, length-drop, drop-cons}
-use Rattle.std.specs.Prelude.{nat_lt, not, ◌&&◌, ◌||◌, ◌==◌}
+use Rattle.std.specs.Prelude.{◌++◌, if◌then◌else◌, nat_le, nat_lt, not, ◌&&◌, ◌||◌, ◌==◌}
 use Rattle.std.specs.List.{list_any, position_or_len}
 use Rattle.std.specs.List.Sorted.{IsNonDecreasingBy, IsPartitionPoint, IsPartitionedBy}
 use Rattle.std.proofs.Math.Nat.{mul-le-mul_right}
@@ -11,8 +11,9 @@ use Rattle.std.proofs.lemmas.List.Sums.{position_or_len_is}
 use Rattle.std.proofs.lemmas.List.Sorted.{IsPartitionedBy-leb}
 use Rattle.a429_judge.specs.declared.facts.Facts.{Facts}
 use Rattle.a429_judge.specs.declared.facts.Mark.{Mark}
+use Rattle.a429_judge.specs.declared.facts.Span.{Span}
 use Rattle.a429_judge.specs.declared.findings.Kind.TheVariants.{Wrong, Stale}
-use Rattle.a429_judge.specs.Judging.{is_accepted, is_by, is_equal, is_of_one, is_twice, since, is_past, is_right, is_before_next, no_mark, value_findings}
+use Rattle.a429_judge.specs.Judging.{finding_if, has_room, is_accepted, is_before_next, is_by, is_equal, is_known, is_of_one, is_past, is_right, is_stale, is_twice, is_wrong, may_be_used_up, no_mark, since, time_at, value_findings}
 
 pub false_unless : (b : Bool) → (b ≡ true → ⊥) → b ≡ false
 false_unless true h = absurd (h refl)
@@ -60,6 +61,29 @@ past_by f t a h =
     let more : t ≤ a.time + f.tolerance = grind (arith, nat_tests) in
     let product : t * f.rate ≤ (a.time + f.tolerance) * f.rate = mul-le-mul_right f.rate more in
     grind (arith, nat_tests, product)
+
+-- an earlier word may be used up if a later one may
+by_before : (f : Facts) (t : ℕ) (a b : Mark) → a.time ≤ b.time → is_by f t b ≡ true → is_by f t a ≡ true
+by_before f t a b le h = grind (arith, nat_tests, le, h)
+
+room_before : (f : Facts) (hold t : ℕ) (a b : Mark) → a.time ≤ b.time → has_room f hold t b ≡ true → has_room f hold t a ≡ true
+room_before f hold t a b le h =
+    let product : a.time * f.rate ≤ b.time * f.rate = mul-le-mul_right f.rate le in
+    grind (arith, nat_tests, product, h)
+
+used_before : (f : Facts) (t first hold last : ℕ) (a b : Mark) (test : Bool) → a.time ≤ b.time → (if test then is_by f t b else is_by f first b && has_room f hold last b) ≡ true
+    → (if test then is_by f t a else is_by f first a && has_room f hold last a) ≡ true
+used_before f t first hold last a b true le h = by_before f t a b le h
+used_before f t first hold last a b false le h =
+    let by : is_by f first b ≡ true = grind (arith, h) in
+    let room : has_room f hold last b ≡ true = grind (arith, h) in
+    let by_a : is_by f first a ≡ true = by_before f first a b le by in
+    let room_a : has_room f hold last a ≡ true = room_before f hold last a b le room in
+    grind (arith, by_a, room_a)
+
+pub parted_used : (f : Facts) (span : Span) (sends : List Mark) (k hold : ℕ) (xs : List Mark) → IsNonDecreasingBy (λ (a : Mark). a.time) xs → IsPartitionedBy (may_be_used_up f span sends k hold) xs
+parted_used f span sends k hold xs rise = λ i j d le lt h.
+    used_before f (time_at sends (k - hold)) span.first hold (time_at sends (k - 1)) (get_or xs i d) (get_or xs j d) (nat_le hold k) (rise i j d le lt) h
 
 -- ---- scanning back
 
@@ -128,16 +152,24 @@ right_accepted f s (x ∷ xs) h = elim (or_cases (is_equal f s x && not (list_an
   | inr later ↦ let rest : is_accepted f xs s ≡ true = right_accepted f s xs later in grind (arith, rest)
 ]
 
-pub right_value : (f : Facts) (s : Mark) (xs : List Mark) → is_right f s xs ≡ true → value_findings f xs s ≡ []
-right_value f s xs h =
-    let known : is_accepted f xs s ≡ true = right_accepted f s xs h in
-    rw known (rw h refl)
+-- of a word that the log does not know nothing is found
+pub unknown_value : (f : Facts) (span : Span) (s : Mark) (xs : List Mark) → is_known f span xs s.time ≡ false → value_findings f span xs s ≡ []
+unknown_value f span s xs u = rw u refl
 
-pub wrong_value : (f : Facts) (s : Mark) (xs : List Mark) → is_right f s xs ≡ false → is_accepted f xs s ≡ false → value_findings f xs s ≡ record { kind = Wrong; mark = s } ∷ []
-wrong_value f s xs r h = rw h refl
+value_by : (f : Facts) (s : Mark) (xs : List Mark) (known : Bool) → is_right f s xs ≡ true → (if known then finding_if (is_wrong f xs s) Wrong s ++ finding_if (is_stale f xs s) Stale s else []) ≡ []
+value_by f s xs true h =
+    let accepted : is_accepted f xs s ≡ true = right_accepted f s xs h in
+    rw accepted (rw h refl)
+value_by f s xs false h = refl
 
-pub stale_value : (f : Facts) (s : Mark) (xs : List Mark) → is_right f s xs ≡ false → is_accepted f xs s ≡ true → value_findings f xs s ≡ record { kind = Stale; mark = s } ∷ []
-stale_value f s xs r h = rw h (rw r refl)
+pub right_value : (f : Facts) (span : Span) (s : Mark) (xs : List Mark) → is_right f s xs ≡ true → value_findings f span xs s ≡ []
+right_value f span s xs h = value_by f s xs (is_known f span xs s.time) h
+
+pub wrong_value : (f : Facts) (span : Span) (s : Mark) (xs : List Mark) → is_known f span xs s.time ≡ true → is_right f s xs ≡ false → is_accepted f xs s ≡ false → value_findings f span xs s ≡ record { kind = Wrong; mark = s } ∷ []
+wrong_value f span s xs u r h = rw u (rw h refl)
+
+pub stale_value : (f : Facts) (span : Span) (s : Mark) (xs : List Mark) → is_known f span xs s.time ≡ true → is_right f s xs ≡ false → is_accepted f xs s ≡ true → value_findings f span xs s ≡ record { kind = Stale; mark = s } ∷ []
+stale_value f span s xs u r h = rw u (rw h (rw r refl))
 
 -- ---- one step back
 
@@ -237,9 +269,10 @@ past_ends f t xs n at le =
     (λ k lt. let in_past : is_past f t (get_or xs k no_mark) ≡ true = at.0 k no_mark (omega arith) lt in grind (arith, in_past))
     (λ lt. let out_past : is_past f t (get_or xs n no_mark) ≡ false = at.1 n no_mark (omega arith) lt in grind (arith, out_past))
 
-pub of_one_is : (f : Facts) (accepted : List Mark) (first s : Mark) (n : ℕ) (b : Bool) → first.raw ≡ s.raw → is_right f first accepted ≡ true → is_right f s accepted ≡ true
-    → n ≡ position_or_len (λ a. not (is_past f first.time a)) accepted → b ≡ is_twice (is_equal f s) (drop (n - 1) accepted) → not b ≡ is_of_one f accepted first s
-of_one_is f accepted first s n b raw right_first right at twice =
+pub of_one_is : (f : Facts) (span : Span) (accepted : List Mark) (first s : Mark) (n : ℕ) (b : Bool) → first.raw ≡ s.raw → is_known f span accepted first.time ≡ true
+    → is_known f span accepted s.time ≡ true → is_right f first accepted ≡ true → is_right f s accepted ≡ true
+    → n ≡ position_or_len (λ a. not (is_past f first.time a)) accepted → b ≡ is_twice (is_equal f s) (drop (n - 1) accepted) → not b ≡ is_of_one f span accepted first s
+of_one_is f span accepted first s n b raw known_first known right_first right at twice =
     let raws : (first.raw == s.raw) ≡ true = grind (arith, nat_tests, raw) in
     let value : is_twice (is_equal f s) (since f first.time accepted) ≡ b = sym (twice ∙ ap (λ (k : ℕ). is_twice (is_equal f s) (drop (k - 1) accepted)) at) in
-    rw raws (rw right_first (rw right (rw value refl)))
+    rw raws (rw known_first (rw known (rw right_first (rw right (rw value refl)))))

@@ -25,7 +25,7 @@ count_any p x xs true h = omega (arith, count_yes p x xs h)
 count_any p x xs false h = omega (arith, count_no p x xs h)
 
 -- if the first n do not pass, at most the others do
-pub few_pass : (p : SlotSend → Bool) (xs : List SlotSend) (n : ℕ) → n ≤ length xs → ((k : ℕ) → k < n → p (send_at xs k) ≡ false) → count_by p xs + n ≤ length xs
+few_pass : (p : SlotSend → Bool) (xs : List SlotSend) (n : ℕ) → n ≤ length xs → ((k : ℕ) → k < n → p (send_at xs k) ≡ false) → count_by p xs + n ≤ length xs
 few_pass p xs zero le h = omega (arith, count_by-le-length p xs)
 few_pass p [] (suc n) le h = absurd (omega (arith, le))
 few_pass p (x ∷ xs) (suc n) le h =
@@ -237,75 +237,98 @@ or_either : (a b : Bool) → (a || b) ≡ true → (a ≡ true) ⊎ (b ≡ true)
 or_either true b h = inl refl
 or_either false b h = inr h
 
--- the slot m is after send j and before the next one: the sends before it are those up to j
-sends_up_to : (m : ℕ) (P M : List SlotSend) (j : ℕ) → Begins m P M → ((k : ℕ) → k < length P → (send_at P k).slot < m) → (send_at M j).slot < m → m ≤ (send_at M (j + 1)).slot → j + 1 < length M → P ≡ take (j + 1) M
+-- the slot m is after send j and not after the next one, if there is one: the sends before it are those up to j
+sends_up_to : (m : ℕ) (P M : List SlotSend) (j : ℕ) → Begins m P M → ((k : ℕ) → k < length P → (send_at P k).slot < m) → (send_at M j).slot < m → (j + 1 < length M → m ≤ (send_at M (j + 1)).slot) → j < length M → P ≡ take (j + 1) M
 sends_up_to m P M j r before below above lt =
     let here : j < length P = elim (cases_lt j (length P)) [
       | inl less ↦ less
-      | inr most ↦ let a = r.above j most (omega (arith, lt)) in absurd {A = j < length P} (omega (arith, a, below))
+      | inr most ↦ let a = r.above j most lt in absurd {A = j < length P} (omega (arith, a, below))
     ] in
     let next : length P ≤ j + 1 = elim (cases_lt (j + 1) (length P)) [
       | inl less ↦
           let e = ap (λ (c : SlotSend). c.slot) (begin_is m P M (j + 1) r less) in
           let a = before (j + 1) less in
-          absurd {A = length P ≤ j + 1} (omega (arith, a, e, above))
+          let past = above (omega (arith, less, r.most)) in
+          absurd {A = length P ≤ j + 1} (omega (arith, a, e, past))
       | inr most ↦ most
     ] in
     let size : length P ≡ j + 1 = omega (arith, here, next) in
     sym r.taken ∙ ap (λ (k : ℕ). take k M) size
 
-after_by : (hold : Option ℕ) (known : ℕ → ℕ) (n j s : ℕ) (b : Bool) → Rises known → j + 1 < length (slot_sends hold known n) → (send_at (slot_sends hold known n) j).slot ≡ s → s + 1 < (send_at (slot_sends hold known n) (j + 1)).slot
-    → (known (s + 1) == 0 || is_used_up hold (slot_sends hold known (s + 1)) (known (s + 1))) ≡ b
-    → (most : ℕ) × (hold ≡ Some most) × (most ≤ count_by (λ c. c.count == known (s + 1)) (take (j + 1) (slot_sends hold known n)))
-after_by hold known n j s false rise lt is gap h =
+-- the slot after send j has the next send, or its word is used up
+abbrev pub IsAfter : Option ℕ → (ℕ → ℕ) → List SlotSend → ℕ → Type 0
+IsAfter hold known M j =
+    ((j + 1 < length M) × ((send_at M (j + 1)).slot ≡ (send_at M j).slot + 1))
+    ⊎ ((most : ℕ) × (hold ≡ Some most) × (most ≤ count_by (λ c. c.count == known ((send_at M j).slot + 1)) (take (j + 1) M)))
+
+after_by : (hold : Option ℕ) (known : ℕ → ℕ) (n j : ℕ) (b : Bool) → Rises known → j < length (slot_sends hold known n) → (send_at (slot_sends hold known n) j).slot + 1 < n
+    → (known ((send_at (slot_sends hold known n) j).slot + 1) == 0 || is_used_up hold (slot_sends hold known ((send_at (slot_sends hold known n) j).slot + 1)) (known ((send_at (slot_sends hold known n) j).slot + 1))) ≡ b
+    → IsAfter hold known (slot_sends hold known n) j
+after_by hold known n j false rise lt few h =
     let M = slot_sends hold known n in
     let r = are_sends hold known n in
-    let last = r.before (j + 1) lt in
-    let used = slot_is_used hold known (s + 1) n (omega (arith, gap, last)) h in
+    let used = slot_is_used hold known ((send_at (slot_sends hold known n) j).slot + 1) n few h in
     elim (cases_lt j used.0) [
       | inl more ↦ elim (cases_lt (j + 1) used.0) [
-        | inl past ↦ let a = r.apart (j + 1) used.0 past used.1 in absurd (omega (arith, a, used.2, gap))
+        | inl past ↦
+            let a = r.apart (j + 1) used.0 past used.1 in
+            let b = r.apart j (j + 1) (omega arith) (omega (arith, past, used.1)) in
+            absurd (omega (arith, a, b, used.2))
         | inr at ↦
             let same : used.0 ≡ j + 1 = omega (arith, more, at) in
             let e = ap (λ (k : ℕ). (send_at (slot_sends hold known n) k).slot) same in
-            absurd (omega (arith, e, used.2, gap))
+            inl (omega (arith, same, used.1), omega (arith, e, used.2))
       ]
       | inr back ↦ elim (cases_lt used.0 j) [
-        | inl less ↦ let a = r.apart used.0 j less (omega (arith, lt)) in absurd (omega (arith, a, used.2, is))
+        | inl less ↦ let a = r.apart used.0 j less lt in absurd (omega (arith, a, used.2))
         | inr at ↦
             let same : used.0 ≡ j = omega (arith, back, at) in
             let e = ap (λ (k : ℕ). (send_at (slot_sends hold known n) k).slot) same in
-            absurd (omega (arith, e, used.2, is))
+            absurd (omega (arith, e, used.2))
       ]
     ]
-after_by hold known n j s true rise lt is gap h =
-    let M = slot_sends hold known n in
-    let P = slot_sends hold known (s + 1) in
+after_by hold known n j true rise lt few h =
+    let s = (send_at (slot_sends hold known n) j).slot in
     let r = are_sends hold known n in
-    let last = r.before (j + 1) lt in
-    let some = r.some j (omega (arith, lt)) in
-    let here = r.counts j (omega (arith, lt)) in
-    let at : known (send_at (slot_sends hold known n) j).slot ≡ known s = ap known is in
+    let some = r.some j lt in
+    let here = r.counts j lt in
     let up = rise s (s + 1) (omega arith) in
-    let positive : 1 ≤ known (s + 1) = omega (arith, some, here, at, up) in
+    let positive : 1 ≤ known (s + 1) = omega (arith, some, here, up) in
     let used_up : is_used_up hold (slot_sends hold known (s + 1)) (known (s + 1)) ≡ true = elim (or_either (known (s + 1) == 0) (is_used_up hold (slot_sends hold known (s + 1)) (known (s + 1))) h) [
       | inl none ↦ let zero_known : known (s + 1) ≡ 0 = grind (arith, nat_tests, none) in absurd (omega (arith, zero_known, positive))
       | inr used ↦ used
     ] in
     let used = used_by hold (slot_sends hold known (s + 1)) (known (s + 1)) used_up in
-    let same = sends_up_to (s + 1) (slot_sends hold known (s + 1)) (slot_sends hold known n) j (begins hold known (s + 1) n (omega (arith, gap, last))) (are_sends hold known (s + 1)).before (omega (arith, is)) (omega (arith, gap)) lt in
-    (used.0, used.1, subst (λ (ys : List SlotSend). used.0 ≤ count_by (λ c. c.count == known (s + 1)) ys) same used.2)
+    let same = sends_up_to (s + 1) (slot_sends hold known (s + 1)) (slot_sends hold known n) j (begins hold known (s + 1) n (omega (arith, few))) (are_sends hold known (s + 1)).before (omega arith)
+    (λ more. let a = r.apart j (j + 1) (omega arith) more in omega (arith, a)) lt in
+    inr (used.0, used.1, subst (λ (ys : List SlotSend). used.0 ≤ count_by (λ c. c.count == known (s + 1)) ys) same used.2)
 
-pub slot_after : (hold : Option ℕ) (known : ℕ → ℕ) (n j : ℕ) → Rises known → j + 1 < length (slot_sends hold known n)
-    → ((send_at (slot_sends hold known n) (j + 1)).slot ≡ (send_at (slot_sends hold known n) j).slot + 1)
-    ⊎ ((most : ℕ) × (hold ≡ Some most) × (most ≤ count_by (λ c. c.count == known ((send_at (slot_sends hold known n) j).slot + 1)) (take (j + 1) (slot_sends hold known n))))
-slot_after hold known n j rise lt =
-    let apart = (are_sends hold known n).apart j (j + 1) (omega arith) lt in
+pub slot_after : (hold : Option ℕ) (known : ℕ → ℕ) (n j : ℕ) → Rises known → j < length (slot_sends hold known n) → (send_at (slot_sends hold known n) j).slot + 1 < n → IsAfter hold known (slot_sends hold known n) j
+slot_after hold known n j rise lt few =
     let s = (send_at (slot_sends hold known n) j).slot in
-    elim (cases_lt (s + 1) (send_at (slot_sends hold known n) (j + 1)).slot) [
-      | inl gap ↦ inr (after_by hold known n j s (known (s + 1) == 0 || is_used_up hold (slot_sends hold known (s + 1)) (known (s + 1))) rise lt refl gap refl)
-      | inr next ↦ inl (omega (arith, apart, next))
-    ]
+    after_by hold known n j (known (s + 1) == 0 || is_used_up hold (slot_sends hold known (s + 1)) (known (s + 1))) rise lt few refl
+
+-- sends that are d places apart are d slots apart at least
+pub slots_of_places : (hold : Option ℕ) (known : ℕ → ℕ) (n : ℕ) (M : List SlotSend) (i d : ℕ) → AreSends hold known n M → i + d < length M → (send_at M i).slot + d ≤ (send_at M (i + d)).slot
+slots_of_places hold known n M i zero r lt = let e : i ≡ i + 0 = omega arith in let g = ap (λ (k : ℕ). (send_at M k).slot) e in omega (arith, g)
+slots_of_places hold known n M i (suc d) r lt =
+    let rest = slots_of_places hold known n M i d r (omega (arith, lt)) in
+    let e : i + d + 1 ≡ i + suc d = omega arith in
+    let g = ap (λ (k : ℕ). (send_at M k).slot) e in
+    let a = r.apart (i + d) (i + d + 1) (omega arith) (omega (arith, lt)) in
+    omega (arith, rest, g, a)
+
+-- of sends that are counted there is one
+one_counted_by : (p : SlotSend → Bool) (x : SlotSend) (xs : List SlotSend) (b : Bool) → p x ≡ b → 1 ≤ count_by p (x ∷ xs) → (1 ≤ count_by p xs → (k : ℕ) × (k < length xs) × (p (send_at xs k) ≡ true))
+    → (k : ℕ) × (k < length (x ∷ xs)) × (p (send_at (x ∷ xs) k) ≡ true)
+one_counted_by p x xs true e h rest = (0, omega arith, e)
+one_counted_by p x xs false e h rest =
+    let later = rest (omega (arith, h, count_no p x xs e)) in
+    (suc later.0, omega (arith, later.1), later.2)
+
+pub one_counted : (p : SlotSend → Bool) (xs : List SlotSend) → 1 ≤ count_by p xs → (k : ℕ) × (k < length xs) × (p (send_at xs k) ≡ true)
+one_counted p [] h = absurd (omega (arith, h))
+one_counted p (x ∷ xs) h = one_counted_by p x xs (p x) refl h (one_counted p xs)
 
 -- if the last sends of a count are `most` or more, the last `most` sends have it
 pub last_have_it : (hold : Option ℕ) (known : ℕ → ℕ) (n : ℕ) (M : List SlotSend) (j most count k : ℕ) → Rises known → AreSends hold known n M → j < length M → (send_at M j).count ≤ count

@@ -6,7 +6,7 @@ use Rattle.a429_judge.specs.declared.facts.Facts.{Facts}
 use Rattle.a429_judge.specs.declared.facts.Mark.{Mark}
 use Rattle.a429_judge.specs.declared.findings.Finding.{Finding}
 use Rattle.a429_judge.specs.declared.findings.Kind.{Kind}
-use Rattle.a429_judge.specs.declared.findings.Kind.TheVariants.{Wrong, Stale, Soon, Late, Again, Missed}
+use Rattle.a429_judge.specs.declared.findings.Kind.TheVariants.{Wrong, Stale, Soon, Late, Again, Silent, Missed}
 use Rattle.a429_judge.specs.Judging.{is_right, time_at}
 
 -- ---- numbers
@@ -54,7 +54,8 @@ kind_number Stale = 1
 kind_number Soon = 2
 kind_number Late = 3
 kind_number Again = 4
-kind_number Missed = 5
+kind_number Silent = 5
+kind_number Missed = 6
 
 abbrev pub is_of_kind : Kind → Finding → Bool
 is_of_kind kind x = kind_number x.kind == kind_number kind

@@ -1,14 +1,15 @@
 -- What follows from a judgement, and what is never condemned.
-use Rattle.std.specs.Prelude.{◌≡◌, ◌<◌, ◌≤◌, ◌⊎◌, ◌+◌, ◌-◌, ◌*◌, ℕ, List, Some, length}
+use Rattle.std.specs.Prelude.{◌≡◌, ◌<◌, ◌≤◌, ◌⊎◌, ◌+◌, ◌-◌, ◌*◌, ℕ, List, [], Some, length}
+use Rattle.std.specs.List.Sorted.{IsNonDecreasingBy}
 use Rattle.a429_grid.specs.Grid.{IsGridPeriod}
 use Rattle.a429_judge.specs.declared.duties.Duty.{Duty}
 use Rattle.a429_judge.specs.declared.facts.Facts.{Facts}
 use Rattle.a429_judge.specs.declared.facts.Mark.{Mark}
 use Rattle.a429_judge.specs.declared.facts.Span.{Span}
 use Rattle.a429_judge.specs.declared.judgements.Verdict.TheVariants as verdict
-use Rattle.a429_judge.specs.Judgements.{accepted_by, judgement_of, sent_by}
+use Rattle.a429_judge.specs.Judgements.{accepted_by, found_at, judgement_of, sent_by}
 use Rattle.a429_judge.specs.Judging.{mark_at, time_at}
-use Rattle.a429_judge.specs.Recordings.{IsKept, Recording, overlapping, span_of}
+use Rattle.a429_judge.specs.Recordings.{IsKept, Recording, span_of}
 
 -- ---- what is ok is right. A moment is in units of 1 / rate microseconds.
 
@@ -27,25 +28,48 @@ pub record WasLatest (f : Facts) (accepted : List Mark) (s : Mark) : Type 0 wher
   pub begins : s.time * f.rate ≤ moment + (36000000 + f.tolerance * f.rate)
   pub ends : moment ≤ (s.time + f.tolerance) * f.rate
 
--- The hold may have left the slot after send k - 1 empty: a word that was accepted after the first of the last `hold` sends and the
--- tolerance was accepted less than a slot and the tolerance before that slot.
-pub record IsHeld (f : Facts) (accepted sends : List Mark) (k : ℕ) : Type 0 where
+-- the log of what came in knows the words of the window of a send at t: the first word of the source came in before it, and the log ends after it
+pub record IsWithinLog (f : Facts) (span : Span) (accepted : List Mark) (t : ℕ) : Type 0 where
+  pub some : 0 < length accepted
+  pub after : (time_at accepted 0 + f.tolerance) * f.rate + 36000000 < t * f.rate
+  pub before : t + f.tolerance < span.heard
+
+-- The hold may have left the slot after the first k sends empty. Each word that was accepted more than a slot and the tolerance before that
+-- slot was accepted by the first of the last `hold` sends and the tolerance. If there are fewer sends, it was accepted by the first word of the
+-- group and the tolerance, and early enough for `hold` sends.
+pub record IsHeld (f : Facts) (span : Span) (accepted sends : List Mark) (k : ℕ) : Type 0 where
   pub hold : ℕ
   pub held : f.hold ≡ Some hold
-  pub none : (i : ℕ) → i < length accepted → time_at sends (k - hold) + f.tolerance < time_at accepted i
-      → time_at sends (k - 1) * f.rate + f.period * 36000000 ≤ (time_at accepted i + f.tolerance) * f.rate + 36000000
+  pub sent : (i : ℕ) → hold ≤ k → i < length accepted
+      → (time_at accepted i + f.tolerance) * f.rate + 36000000 < time_at sends (k - 1) * f.rate + f.period * 36000000
+      → time_at accepted i ≤ time_at sends (k - hold) + f.tolerance
+  pub unlogged : (i : ℕ) → k < hold → i < length accepted
+      → (time_at accepted i + f.tolerance) * f.rate + 36000000 < time_at sends (k - 1) * f.rate + f.period * 36000000
+      → (time_at accepted i ≤ span.first + f.tolerance)
+      × (time_at accepted i * f.rate + (hold - 1) * (f.period * 36000000 - f.tolerance * f.rate) ≤ (time_at sends (k - 1) + f.tolerance) * f.rate)
 
 -- a send comes within the interval after the one before, up to the tolerance
-pub record IsInTime (f : Facts) (accepted sends : List Mark) (k : ℕ) : Type 0 where
+pub record IsInTime (f : Facts) (span : Span) (accepted sends : List Mark) (k : ℕ) : Type 0 where
   pub soonest : time_at sends (k - 1) + f.least ≤ time_at sends k + f.tolerance
-  pub latest : (time_at sends k ≤ time_at sends (k - 1) + f.greatest + f.tolerance) ⊎ IsHeld f accepted sends k
+  pub latest : (time_at sends k ≤ time_at sends (k - 1) + f.greatest + f.tolerance) ⊎ IsHeld f span accepted sends k
 
--- if the verdict on an output is ok, its sends have the right words in time
+-- the logs end within the interval after the last send, up to the tolerance
+abbrev pub EndsInTime : Facts → Span → List Mark → List Mark → Type 0
+EndsInTime f span accepted sends =
+    (span.last ≤ time_at sends (length sends - 1) + f.greatest + f.tolerance) ⊎ IsHeld f span accepted sends (length sends)
+
+-- what is right about an output
+pub record IsRight (f : Facts) (span : Span) (accepted sends : List Mark) : Type 0 where
+  pub words : (k : ℕ) → k < length sends → IsWithinLog f span accepted (time_at sends k) → WasLatest f accepted (mark_at sends k)
+  pub intervals : (k : ℕ) → 0 < k → k < length sends → IsInTime f span accepted sends k
+  pub some : 0 < length sends
+  pub end : EndsInTime f span accepted sends
+
+-- if the verdict on an output is ok, it is right
 abbrev pub OkIsRight : Type 0
 OkIsRight =
     (duties : List Duty) (d : Duty) (r : Recording) → IsKept r → (judgement_of duties d r).verdict ≡ verdict.Ok
-    → ((k : ℕ) → k < length (sent_by d r) → WasLatest d.facts (accepted_by d r) (mark_at (sent_by d r) k))
-    × ((k : ℕ) → 0 < k → k < length (sent_by d r) → IsInTime d.facts (accepted_by d r) (sent_by d r) k)
+    → IsRight d.facts (span_of d.group r) (accepted_by d r) (sent_by d r)
 
 -- ---- what is right is never condemned
 
@@ -62,45 +86,79 @@ abbrev pub GridPeriodsArePlanned : Type 0
 GridPeriodsArePlanned =
     (f : Facts) → IsGridPeriod f.least f.greatest f.rate f.period → 1 ≤ f.rate → ((hold : ℕ) → f.hold ≡ Some hold → 1 ≤ hold) → ArePlanned f
 
--- What a right box does, in units of 1 / (rate * finer) microseconds, however fine. Its output has a slot in each period: slot n begins
--- at `begin n`. A send is recorded `delay` after its slot begins, or up to half the tolerance before or after that.
+-- a period, in units of 1 / (rate * finer) microseconds
+abbrev pub length_of : Facts → ℕ → ℕ
+length_of f finer = f.period * 36000000 * finer
+
+-- How wrong the times of a box and of its logs may be, in units of 1 / (rate * finer) microseconds, however fine: each time of a log by `wrong`,
+-- and each period from a slot to the next by `drift`. Both ends of an interval may be wrong.
+pub record AreNear (f : Facts) (finer wrong drift : ℕ) : Type 0 where
+  pub fine : 1 ≤ finer
+  pub bounded : 2 * wrong + drift ≤ f.tolerance * (f.rate * finer)
+  pub slower : drift < length_of f finer
+
+-- The log of what came in has a piece of the words that a source accepted, each with its time up to `wrong`. The words after the piece came in
+-- at its end or later.
+pub record IsPieceOf (f : Facts) (span : Span) (units wrong : ℕ) (words : List Mark) (moment : ℕ → ℕ) (accepted : List Mark) : Type 0 where
+  pub early : (j : ℕ) → j < length words → moment j ≤ time_at words j * units + wrong
+  pub late : (j : ℕ) → j < length words → time_at words j * units ≤ moment j + wrong
+  pub rise : IsNonDecreasingBy (λ (a : Mark). a.time) words
+  pub skipped : ℕ
+  pub within : skipped + length accepted ≤ length words
+  pub same : (i : ℕ) → i < length accepted → mark_at accepted i ≡ mark_at words (skipped + i)
+  pub rest : (j : ℕ) → skipped + length accepted ≤ j → j < length words → span.heard ≤ time_at words j
+
+-- Slots of an output, one in each period: slot n begins at `begin n`.
+pub record AreSlots (f : Facts) (finer drift : ℕ) (begin : ℕ → ℕ) : Type 0 where
+  pub soonest : (n : ℕ) → begin n + length_of f finer ≤ begin (n + 1) + drift
+  pub latest : (n : ℕ) → begin (n + 1) ≤ begin n + length_of f finer + drift
+
+-- What a right box does. A send is recorded `delay` after its slot begins, up to a slot.
 pub record IsRightBox (f : Facts) (span : Span) (accepted sends : List Mark) : Type 0 where
   pub finer : ℕ
-  pub fine : 1 ≤ finer
-  pub first : ℕ
+  pub wrong : ℕ
+  pub drift : ℕ
+  pub near : AreNear f finer wrong drift
+  -- the words that its source accepted, and when
+  pub words : List Mark
+  pub moment : ℕ → ℕ
+  pub piece : IsPieceOf f span (f.rate * finer) wrong words moment accepted
+  pub begin : ℕ → ℕ
+  pub slots : AreSlots f finer drift begin
   pub delay : ℕ
   pub short : delay ≤ 36000000 * finer
-  -- when slot n begins
-  pub begin : ℕ → ℕ
-  pub begins : (n : ℕ) → begin n ≡ first + n * (f.period * 36000000 * finer)
   -- the slot of each send, and the place of its accepted word
   pub slot : ℕ → ℕ
   pub word : ℕ → ℕ
   pub in_order : (k : ℕ) → k + 1 < length sends → slot k < slot (k + 1)
   -- the send is recorded near its slot
-  pub early : (k : ℕ) → k < length sends → 2 * (begin (slot k) + delay) ≤ (2 * time_at sends k + f.tolerance) * (f.rate * finer)
-  pub late : (k : ℕ) → k < length sends → 2 * (time_at sends k * (f.rate * finer)) ≤ 2 * (begin (slot k) + delay) + f.tolerance * (f.rate * finer)
+  pub early : (k : ℕ) → k < length sends → begin (slot k) + delay ≤ time_at sends k * (f.rate * finer) + wrong
+  pub late : (k : ℕ) → k < length sends → time_at sends k * (f.rate * finer) ≤ begin (slot k) + delay + wrong
   -- its word is the latest that was accepted when the slot began
-  pub known : (k : ℕ) → k < length sends → word k < length accepted
-  pub same : (k : ℕ) → k < length sends → (mark_at accepted (word k)).raw ≡ (mark_at sends k).raw
-  pub since : (k : ℕ) → k < length sends → time_at accepted (word k) * (f.rate * finer) ≤ begin (slot k)
-  pub until : (k j : ℕ) → k < length sends → word k < j → j < length accepted → begin (slot k) < time_at accepted j * (f.rate * finer)
+  pub known : (k : ℕ) → k < length sends → word k < length words
+  pub same : (k : ℕ) → k < length sends → (mark_at words (word k)).raw ≡ (mark_at sends k).raw
+  pub since : (k : ℕ) → k < length sends → moment (word k) ≤ begin (slot k)
+  pub until : (k j : ℕ) → k < length sends → word k < j → j < length words → begin (slot k) < moment j
   -- one accepted word is sent at most `hold` times
   pub held : (k hold : ℕ) → f.hold ≡ Some hold → hold ≤ k → k < length sends → word (k - hold) < word k
-  -- The slot after a send is used too, if its latest word may be sent again. It may not, if it is the word of the `hold` sends before,
-  -- or of all that the log has.
-  pub next : (k : ℕ) → k + 1 < length sends → (slot (k + 1) ≡ slot k + 1)
-      ⊎ ((hold : ℕ) × (f.hold ≡ Some hold) × ((j : ℕ) → word (k + 1 - hold) < j → j < length accepted → begin (slot k + 1) < time_at accepted j * (f.rate * finer)))
-  -- The log has the sends of all slots from this one on whose records are surely within it. The first slot after a word is never empty.
+  -- the log of what was sent has all slots from this one on; those before may be before the first word of the group
   pub from : ℕ
-  pub from_begin : 2 * begin from ≤ (2 * span.first + f.tolerance) * (f.rate * finer) + 2 * (f.period * 36000000 * finer)
-  pub whole : (n i : ℕ) → from ≤ n → 2 * (begin n + delay) + f.tolerance * (f.rate * finer) ≤ 2 * (span.last * (f.rate * finer)) → i < length accepted
-      → time_at accepted i * (f.rate * finer) ≤ begin n → begin n < time_at accepted i * (f.rate * finer) + f.period * 36000000 * finer
-      → (k : ℕ) × (k < length sends) × (slot k ≡ n)
+  pub before : (n : ℕ) → n < from → begin n + delay ≤ span.first * (f.rate * finer) + wrong
+  pub opens : begin from + delay ≤ span.first * (f.rate * finer) + wrong + length_of f finer + drift
+  -- The slot after a send is used too, or its record need not be before the end of the logs. Or its latest word is used up: it is that of the
+  -- last `hold` sends, of which those before the log begin at a slot before it.
+  pub next : (k : ℕ) → k < length sends → ((k + 1 < length sends) × (slot (k + 1) ≡ slot k + 1))
+      ⊎ (((k + 1 ≡ length sends) × (span.last * (f.rate * finer) ≤ begin (slot k + 1) + delay + wrong))
+      ⊎ ((hold : ℕ) × (f.hold ≡ Some hold) × ((j : ℕ) → word k < j → j < length words → begin (slot k + 1) < moment j)
+      × (((hold ≤ k + 1) × (word (k + 1 - hold) ≡ word k))
+      ⊎ ((m : ℕ) × (k + 1 < hold) × (m < from) × (m + hold ≤ slot k + 1) × (moment (word k) ≤ begin m)))))
+  -- a slot after an accepted word is used if its record is surely before the end of the logs, unless a slot before it is after the word, too, and
+  -- a hold may leave it empty
+  pub whole : (n i : ℕ) → from ≤ n → i < length words → moment i ≤ begin n → begin n + delay + wrong < span.last * (f.rate * finer)
+      → ((k : ℕ) × (k < length sends) × (slot k ≡ n)) ⊎ ((hold m : ℕ) × (f.hold ≡ Some hold) × (m < n) × (moment i ≤ begin m))
 
--- of a right box each output that is not alike another is ok, or sent nothing
-abbrev pub RightBoxIsOk : Type 0
-RightBoxIsOk =
-    (duties : List Duty) (d : Duty) (r : Recording) → IsKept r → overlapping d duties ≤ 1 → ArePlanned d.facts
-    → IsRightBox d.facts (span_of d.group r) (accepted_by d r) (sent_by d r)
-    → ((judgement_of duties d r).verdict ≡ verdict.Ok) ⊎ ((judgement_of duties d r).verdict ≡ verdict.NotSent)
+-- nothing is found at an output of a right box
+abbrev pub RightBoxHasNoFinding : Type 0
+RightBoxHasNoFinding =
+    (duties : List Duty) (d : Duty) (r : Recording) → ArePlanned d.facts
+    → IsRightBox d.facts (span_of d.group r) (accepted_by d r) (sent_by d r) → found_at duties d r ≡ []

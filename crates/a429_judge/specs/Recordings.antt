@@ -1,5 +1,5 @@
 -- The logs of a box, and which words of them are an output's.
-use Rattle.std.specs.Prelude.{ℕ, ◌-◌, ◌==◌, ◌&&◌, ◌≤◌, List, [], ◌∷◌, ◌++◌, Bool, Option, None, Some, true, count_by, filter, length, map, min, not, slice_index_or}
+use Rattle.std.specs.Prelude.{ℕ, ◌-◌, ◌==◌, ◌&&◌, ◌≤◌, List, [], ◌∷◌, ◌++◌, Bool, Option, None, Some, true, count_by, filter, length, map, max, not, slice_index_or}
 use Rattle.std.specs.List.{find, list_any}
 use Rattle.std.specs.List.Sorted.{IsNonDecreasingBy}
 use Rattle.std.specs.Option.{option_map_or}
@@ -70,8 +70,8 @@ accepted_of source heard = map (λ h. h.mark) (filter (λ h. h.source == source)
 abbrev pub is_foreign : List Duty → ℕ → Sent → Bool
 is_foreign duties group w = w.group == group && not (list_any (λ d. fits d w) duties)
 
-abbrev pub foreign_of : List Duty → ℕ → List Sent → List Mark
-foreign_of duties group sent = map (λ w. w.mark) (filter (is_foreign duties group) sent)
+abbrev pub foreign_of : List Duty → ℕ → List Sent → List Sent
+foreign_of duties group sent = filter (is_foreign duties group) sent
 
 -- a label and an SDI may be those of both outputs
 abbrev pub overlaps : Duty → Duty → Bool
@@ -85,9 +85,10 @@ overlapping d duties = count_by (overlaps d) duties
 abbrev pub first_sent : ℕ → List Sent → ℕ
 first_sent group sent = option_map_or (λ w. w.mark.time) (find (λ w. w.group == group) sent) 0
 
--- from when on until when accepted words can be judged
+-- What the logs show: the first word of the group that was sent, the last word that came in, and the last word of both logs. Until then the log of
+-- what was sent has all words of the group.
 abbrev pub span_of : ℕ → Recording → Span
-span_of group r = record { first = first_sent group r.sent; last = min r.last_heard r.last_sent }
+span_of group r = record { first = first_sent group r.sent; heard = r.last_heard; last = max r.last_heard r.last_sent }
 
 -- ---- what a recording keeps to
 

@@ -19,13 +19,15 @@ verdict_text verdict.Ok = codes "ok"
 verdict_text verdict.NotSent = codes "not-sent"
 verdict_text verdict.Alike = codes "alike"
 verdict_text verdict.Bad = codes "bad"
+verdict_text verdict.TooShort = codes "too-short"
 
--- the row of an output, by the names of its group and its source: group, source, sent, least_us, greatest_us, late_us, wrong, stale,
--- soon, late, missed, again, verdict
+-- the row of an output, by the names of its group and its source: group, source, sent, known, least_us, greatest_us, late_us, wrong, stale,
+-- soon, late, again, silent, missed, tolerance_us, verdict
 unfoldable pub output_row : List ℕ → List ℕ → Judgement → List Field
 output_row group source j =
-    Text group ∷ Text source ∷ Number j.sent ∷ figure_field j.least ∷ figure_field j.greatest ∷ figure_field j.delay ∷ Number j.wrong ∷ Number j.stale
-    ∷ Number j.soon ∷ Number j.late ∷ Number j.missed ∷ Number j.again ∷ Text (verdict_text j.verdict) ∷ []
+    Text group ∷ Text source ∷ Number j.sent ∷ Number j.known ∷ figure_field j.least ∷ figure_field j.greatest ∷ figure_field j.delay
+    ∷ Number j.wrong ∷ Number j.stale ∷ Number j.soon ∷ Number j.late ∷ Number j.again ∷ Number j.silent ∷ Number j.missed
+    ∷ Number j.tolerance ∷ Text (verdict_text j.verdict) ∷ []
 
 -- the verdict on a group's foreign words, by their number
 abbrev pub foreign_verdict : ℕ → Verdict
@@ -35,7 +37,7 @@ foreign_verdict count = if count == 0 then verdict.Ok else verdict.Bad
 unfoldable pub foreign_row : List ℕ → ℕ → List Field
 foreign_row group count =
     Text group ∷ Text (codes "foreign") ∷ Number count ∷ Absent ∷ Absent ∷ Absent ∷ Absent ∷ Absent ∷ Absent ∷ Absent ∷ Absent ∷ Absent
-    ∷ Text (verdict_text (foreign_verdict count)) ∷ []
+    ∷ Absent ∷ Absent ∷ Absent ∷ Text (verdict_text (foreign_verdict count)) ∷ []
 
 -- the name at a place, or none
 abbrev pub name_at : List (List ℕ) → ℕ → List ℕ

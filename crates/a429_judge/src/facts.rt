@@ -26,11 +26,15 @@ pub struct Facts {
     pub tolerance: u64,
 }
 
-/// From when on until when words that come in can be judged, in microseconds: from the first word of the group that the
-/// log of sends has, until the end of the log that ends first.
+/// What the two logs show, as times in microseconds. The log of what was sent has all words of the group from the first one
+/// to the end of the log that ends last.
 #[derive(Clone, Copy)]
 pub struct Span {
+    /// The first word of the group that was sent; 0 if there is none.
     pub first: u64,
+    /// The last word that came in, from any receiver.
+    pub heard: u64,
+    /// The last word of both logs.
     pub last: u64,
 }
 

@@ -115,7 +115,8 @@ fn kind_number(kind: Kind) -> u32
         Kind::Soon => 2,
         Kind::Late => 3,
         Kind::Again => 4,
-        Kind::Missed => 5,
+        Kind::Silent => 5,
+        Kind::Missed => 6,
     }
 }
 

@@ -3,11 +3,12 @@ ghost use Rattle.std.specs.Prelude.{◌≡◌, ◌<◌, ◌≤◌, ◌+◌, ◌*
 ghost use Rattle.std.specs.List.{flat_map, position_or_len, range_with_len};
 ghost use Rattle.std.specs.List.Sorted.{IsNonDecreasingBy};
 ghost use Rattle.a429_judge.specs.Known.{AreWords};
-ghost use Rattle.a429_judge.specs.Judging.{all_missed, finding_if, findings, is_again, is_answered, is_excused, is_far, is_in_reach, is_late, is_right, is_seen, is_soon, mark_at, send_findings, value_findings, word_findings};
+ghost use Rattle.a429_judge.specs.Judging.{all_missed, due_since, end_findings, finding_if, findings, is_again, is_answered, is_ended, is_far, is_in_reach, is_late, is_right, is_seen, is_silent, is_soon, mark_at, send_findings, value_findings, word_findings};
 
 use crate::facts::{Facts, Mark, Span};
+use crate::holds::is_excused;
 use crate::known::{sorted_words, was_accepted};
-use crate::windows::{is_any_between, is_of_one, is_right_from, units};
+use crate::windows::{is_known, is_of_one, is_right_from, units};
 use a429_text::Gathered;
 use std::alloc::{AllocError, Global};
 
@@ -24,11 +25,13 @@ pub enum Kind {
     Late,
     /// An accepted word was sent more often than its hold says.
     Again,
+    /// No send came for too long after the last one.
+    Silent,
     /// An accepted word was not sent in time, and no later one.
     Missed,
 }
 
-/// What is wrong at a word: one that was sent, or, if it was missed, one that came in.
+/// What is wrong at a word: one that was sent, the last one of an output that fell silent, or one that came in and was missed.
 #[derive(Clone, Copy, Drop)]
 pub struct Finding {
     pub kind: Kind,
@@ -66,34 +69,20 @@ fn is_far(facts: &Facts, sends: &[Mark], place: usize) -> bool
         < u128::from(sends[place].time)
 }
 
-/// Whether the hold may have left the slot after the last send empty.
-fn is_excused(facts: &Facts, accepted: &[Mark], sends: &[Mark], place: usize) -> bool
-    requires times { IsNonDecreasingBy (λ (a : Mark). a.time) accepted.now }
-    requires within { place < length sends.now }
-    ensures { result ≡ is_excused facts.now accepted.now sends.now place }
-{
-    let Some(hold) = facts.hold else {
-        return false;
-    };
-    let first = sends[place.saturating_sub(hold as usize)].time;
-    let last = sends[place.saturating_sub(1)].time;
-    !is_any_between(facts, accepted, first, last)
-}
-
 /// Whether a send is late, and no hold explains it.
-fn is_late(facts: &Facts, accepted: &[Mark], sends: &[Mark], place: usize) -> bool
+fn is_late(facts: &Facts, span: &Span, accepted: &[Mark], sends: &[Mark], place: usize) -> bool
     requires times { IsNonDecreasingBy (λ (a : Mark). a.time) accepted.now }
     requires within { place < length sends.now }
-    ensures { result ≡ is_late facts.now accepted.now sends.now place }
+    ensures { result ≡ is_late facts.now span.now accepted.now sends.now place }
 {
-    is_far(facts, sends, place) && !is_excused(facts, accepted, sends, place)
+    is_far(facts, sends, place) && !is_excused(facts, span, accepted, sends, place)
 }
 
-/// Whether more sends than the hold were of one accepted word.
-fn is_again(facts: &Facts, accepted: &[Mark], sends: &[Mark], place: usize) -> bool
+/// Whether a send and the one that is `hold` sends before it are of one accepted word.
+fn is_again(facts: &Facts, span: &Span, accepted: &[Mark], sends: &[Mark], place: usize) -> bool
     requires times { IsNonDecreasingBy (λ (a : Mark). a.time) accepted.now }
     requires within { place < length sends.now }
-    ensures { result ≡ is_again facts.now accepted.now sends.now place }
+    ensures { result ≡ is_again facts.now span.now accepted.now sends.now place }
 {
     let Some(hold) = facts.hold else {
         return false;
@@ -104,7 +93,26 @@ fn is_again(facts: &Facts, accepted: &[Mark], sends: &[Mark], place: usize) -> b
     }
     let first = sends[place - hold];
     let send = sends[place];
-    is_of_one(facts, accepted, &first, &send)
+    is_of_one(facts, span, accepted, &first, &send)
+}
+
+/// Whether the logs go on for more than the maximum interval and the tolerance after the last send.
+fn is_ended(facts: &Facts, span: &Span, sends: &[Mark]) -> bool
+    ensures { result ≡ is_ended facts.now span.now sends.now }
+{
+    if sends.is_empty() {
+        return false;
+    }
+    total(sends[sends.len() - 1].time, facts.greatest) + u128::from(facts.tolerance)
+        < u128::from(span.last)
+}
+
+/// Whether no send came for too long after the last one, and no hold explains it.
+fn is_silent(facts: &Facts, span: &Span, accepted: &[Mark], sends: &[Mark]) -> bool
+    requires { IsNonDecreasingBy (λ (a : Mark). a.time) accepted.now }
+    ensures { result ≡ is_silent facts.now span.now accepted.now sends.now }
+{
+    is_ended(facts, span, sends) && !is_excused(facts, span, accepted, sends, sends.len())
 }
 
 /// Adds a finding, if there is one.
@@ -116,18 +124,22 @@ fn add_if(found: &mut Gathered<Finding>, test: bool, kind: Kind, mark: Mark)
     }
 }
 
-/// Adds whether the word of a send is right.
+/// Adds whether the word of a send is right, if the log of what came in knows that.
 fn add_word(
     found: &mut Gathered<Finding>,
     facts: &Facts,
+    span: &Span,
     accepted: &[Mark],
     words: &[Mark],
     mark: Mark,
 )
     requires times { IsNonDecreasingBy (λ (a : Mark). a.time) accepted.now }
     requires words { AreWords accepted.now words.now }
-    ensures { found.new ≡ found.old ++ value_findings facts.now accepted.now mark }
+    ensures { found.new ≡ found.old ++ value_findings facts.now span.now accepted.now mark }
 {
+    if !is_known(facts, span, accepted, mark.time) {
+        return;
+    }
     if is_right_from(facts, accepted, 0, &mark) {
         return;
     }
@@ -149,6 +161,7 @@ fn add_word(
 fn add_send(
     found: &mut Gathered<Finding>,
     facts: &Facts,
+    span: &Span,
     accepted: &[Mark],
     words: &[Mark],
     sends: &[Mark],
@@ -157,45 +170,68 @@ fn add_send(
     requires times { IsNonDecreasingBy (λ (a : Mark). a.time) accepted.now }
     requires words { AreWords accepted.now words.now }
     requires within { place < length sends.now }
-    ensures { found.new ≡ found.old ++ send_findings facts.now accepted.now sends.now place }
+    ensures { found.new ≡ found.old ++ send_findings facts.now span.now accepted.now sends.now place }
 {
     let mark = sends[place];
-    add_word(found, facts, accepted, words, mark);
+    add_word(found, facts, span, accepted, words, mark);
     add_if(found, is_soon(facts, sends, place), Kind::Soon, mark);
-    add_if(
-        found,
-        is_late(facts, accepted, sends, place),
-        Kind::Late,
-        mark,
-    );
-    add_if(
-        found,
-        is_again(facts, accepted, sends, place),
-        Kind::Again,
-        mark,
-    );
+    let late = is_late(facts, span, accepted, sends, place);
+    add_if(found, late, Kind::Late, mark);
+    let again = is_again(facts, span, accepted, sends, place);
+    add_if(found, again, Kind::Again, mark);
 }
 
-/// Whether a time is within P + 1 slots and the tolerance after that of a word.
-fn is_in_reach(facts: &Facts, mark: &Mark, time: u64) -> bool
-    ensures { result ≡ is_in_reach facts.now mark.now time }
+/// Adds what is found after the last send.
+#[tactic(auto, unfolding(crate::specs::Judging::end_findings))]
+fn add_end(
+    found: &mut Gathered<Finding>,
+    facts: &Facts,
+    span: &Span,
+    accepted: &[Mark],
+    sends: &[Mark],
+)
+    requires { IsNonDecreasingBy (λ (a : Mark). a.time) accepted.now }
+    ensures { found.new ≡ found.old ++ end_findings facts.now span.now accepted.now sends.now }
 {
-    units(facts.rate, time, 0) <= limit(facts, mark)
+    if is_silent(facts, span, accepted, sends) {
+        let mark = sends[sends.len() - 1];
+        found.push(Finding {
+            kind: Kind::Silent,
+            mark,
+        });
+    }
 }
 
-/// The last moment at which a word or a later one is sent in time, in units of 1 / rate microseconds.
-fn limit(facts: &Facts, mark: &Mark) -> u128
-    ensures { result ≡ (mark.now.time + facts.now.tolerance) * facts.now.rate + (facts.now.period + 1) * 36000000 }
+/// The last moment at which a word that is due since a time is sent in time, in units of 1 / rate microseconds: P + 1 slots
+/// and the tolerance after that time.
+fn limit(facts: &Facts, since: u64) -> u128
+    ensures { result ≡ (since + facts.now.tolerance) * facts.now.rate + (facts.now.period + 1) * 36000000 }
 {
-    units(facts.rate, mark.time, facts.tolerance) + (u128::from(facts.period) + 1) * 36_000_000
+    units(facts.rate, since, facts.tolerance) + (u128::from(facts.period) + 1) * 36_000_000
+}
+
+/// Whether a time is within that after another one.
+fn is_in_reach(facts: &Facts, since: u64, time: u64) -> bool
+    ensures { result ≡ is_in_reach facts.now since time }
+{
+    units(facts.rate, time, 0) <= limit(facts, since)
+}
+
+/// From when on the log of what was sent must have a word: since it came in, or since the first word of the group.
+fn due_since(span: &Span, mark: &Mark) -> u64
+    ensures { result ≡ due_since span.now mark.now }
+{
+    mark.time.max(span.first)
 }
 
 /// Whether the logs show that a word was sent, or was not.
 fn is_seen(facts: &Facts, span: &Span, mark: &Mark) -> bool
     ensures { result ≡ is_seen facts.now span.now mark.now }
 {
-    u128::from(span.first) + u128::from(facts.tolerance) < u128::from(mark.time)
-        && limit(facts, mark) <= units(facts.rate, span.last, 0)
+    if facts.hold.is_some() && total(span.first, facts.tolerance) >= u128::from(mark.time) {
+        return false;
+    }
+    limit(facts, due_since(span, mark)) <= units(facts.rate, span.heard, 0)
 }
 
 /// The place of the first send of a word or of a later one, from a place on. It is the number of the sends if there is
@@ -223,14 +259,21 @@ pub fn first_right(
 }
 
 /// Whether a word or a later one was sent in time, by the place of the first such send.
-fn is_answered(facts: &Facts, accepted: &[Mark], sends: &[Mark], word: usize, answer: usize) -> bool
+fn is_answered(
+    facts: &Facts,
+    span: &Span,
+    accepted: &[Mark],
+    sends: &[Mark],
+    word: usize,
+    answer: usize,
+) -> bool
     requires times { IsNonDecreasingBy (λ (s : Mark). s.time) sends.now }
     requires within { word < length accepted.now }
     requires first { answer ≡ position_or_len (λ s. is_right facts.now s (drop word accepted.now)) sends.now }
-    ensures { result ≡ is_answered facts.now accepted.now sends.now word }
+    ensures { result ≡ is_answered facts.now span.now accepted.now sends.now word }
 {
-    let mark = accepted[word];
-    answer < sends.len() && is_in_reach(facts, &mark, sends[answer].time)
+    let since = due_since(span, &accepted[word]);
+    answer < sends.len() && is_in_reach(facts, since, sends[answer].time)
 }
 
 /// Adds whether a word was missed, by the place of the first send of it or of a later one.
@@ -250,7 +293,8 @@ fn add_missed(
     ensures { found.new ≡ found.old ++ word_findings facts.now span.now accepted.now sends.now word }
 {
     let mark = accepted[word];
-    let missed = is_seen(facts, span, &mark) && !is_answered(facts, accepted, sends, word, answer);
+    let answered = is_answered(facts, span, accepted, sends, word, answer);
+    let missed = is_seen(facts, span, &mark) && !answered;
     add_if(found, missed, Kind::Missed, mark);
 }
 
@@ -258,16 +302,17 @@ fn add_missed(
 fn add_sends(
     found: &mut Gathered<Finding>,
     facts: &Facts,
+    span: &Span,
     accepted: &[Mark],
     words: &[Mark],
     sends: &[Mark],
 )
     requires times { IsNonDecreasingBy (λ (a : Mark). a.time) accepted.now }
     requires words { AreWords accepted.now words.now }
-    ensures { found.new ≡ found.old ++ flat_map (send_findings facts.now accepted.now sends.now) (range_with_len 0 (length sends.now)) }
+    ensures { found.new ≡ found.old ++ flat_map (send_findings facts.now span.now accepted.now sends.now) (range_with_len 0 (length sends.now)) }
 {
     for place in 0..sends.len() {
-        add_send(found, facts, accepted, words, sends, place);
+        add_send(found, facts, span, accepted, words, sends, place);
     }
 }
 
@@ -290,8 +335,8 @@ fn add_words(
     }
 }
 
-/// What is found at the sends of an output and at the accepted words of its source: at the sends in their order, and
-/// then at the words that were missed. The words of both lists are in the order of their times. Error: an allocation
+/// What is found at the sends of an output and at the accepted words of its source: at the sends in their order, after the
+/// last one, and then at the words that were missed. The words of both lists are in the order of their times. Error: an allocation
 /// failed.
 #[tactic(auto, unfolding(crate::specs::Judging::findings))]
 pub fn findings(
@@ -307,7 +352,8 @@ pub fn findings(
 {
     let words = sorted_words(alloc, accepted)?;
     let mut found = Gathered::new(alloc);
-    add_sends(&mut found, facts, accepted, &words, sends);
+    add_sends(&mut found, facts, span, accepted, &words, sends);
+    add_end(&mut found, facts, span, accepted, sends);
     add_words(&mut found, facts, span, accepted, sends);
     Ok(found)
 }

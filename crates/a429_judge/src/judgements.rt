@@ -2,7 +2,7 @@
 ghost use Rattle.std.specs.Prelude.{◌≡◌, ◌<◌, length, IfOk};
 ghost use Rattle.std.specs.List.Sorted.{IsNonDecreasingBy};
 ghost use Rattle.a429_judge.specs.Figures.{delays, greatest_of, intervals, least_of};
-ghost use Rattle.a429_judge.specs.Judgements.{accepted_by, found_at, found_by, is_alike, judgement_by, judgement_of, sent_by, verdict_of};
+ghost use Rattle.a429_judge.specs.Judgements.{accepted_by, found_at, found_by, is_alike, judgement_by, judgement_of, known_sends, quiet_verdict, sent_by, verdict_of};
 ghost use Rattle.a429_judge.specs.Recordings.{foreign_of, overlapping};
 
 use crate::duties::Duty;
@@ -10,6 +10,7 @@ use crate::facts::{Facts, Mark, Span};
 use crate::figures::{count_of, delays, greatest_of, intervals, least_of};
 use crate::findings::{Finding, Kind, findings};
 use crate::recordings::Judge;
+use crate::windows::is_known;
 use a429_text::Gathered;
 use std::alloc::{AllocError, Global};
 
@@ -18,12 +19,14 @@ use std::alloc::{AllocError, Global};
 pub enum Verdict {
     /// Nothing is wrong with its sends.
     Ok,
-    /// It sent no word.
+    /// It sent no word. Something is found if it had to send one.
     NotSent,
     /// Its words may be those of another output of its group, so it is not judged.
     Alike,
     /// Something is wrong.
     Bad,
+    /// Nothing is found, but the logs are too short to judge it: it sent fewer than two words, or no word of a send is known.
+    TooShort,
 }
 
 /// What is said of an output. Times are in microseconds.
@@ -31,6 +34,8 @@ pub enum Verdict {
 pub struct Judgement {
     /// How many words it sent.
     pub sent: u64,
+    /// Of how many of these the log of what came in knows the word.
+    pub known: u64,
     /// The least interval from a send to the next, if there is one.
     pub least: Option<u64>,
     /// The greatest.
@@ -42,8 +47,13 @@ pub struct Judgement {
     pub stale: u64,
     pub soon: u64,
     pub late: u64,
-    pub missed: u64,
     pub again: u64,
+    pub silent: u64,
+    pub missed: u64,
+    /// How many findings there are in all.
+    pub found: u64,
+    /// How far times may be wrong.
+    pub tolerance: u64,
     pub verdict: Verdict,
 }
 
@@ -67,21 +77,52 @@ fn is_alike(duties: &[Duty], duty: &Duty) -> bool
     overlapping(duty, duties) > 1
 }
 
+/// The verdict on an output if nothing is found, by how many words were accepted and sent, and by how many sends have a
+/// known word.
+fn quiet_verdict(heard: usize, sent: usize, known: u64) -> Verdict
+    ensures { result ≡ quiet_verdict heard sent known }
+{
+    if sent == 0 {
+        if heard == 0 {
+            return Verdict::NotSent;
+        }
+        return Verdict::TooShort;
+    }
+    if sent >= 2 && known > 0 {
+        Verdict::Ok
+    } else {
+        Verdict::TooShort
+    }
+}
+
 /// The verdict on an output.
-fn verdict_of(alike: bool, sent: usize, found: &[Finding]) -> Verdict
-    ensures { result ≡ verdict_of alike sent found.now }
+fn verdict_of(alike: bool, heard: usize, sent: usize, known: u64, found: &[Finding]) -> Verdict
+    ensures { result ≡ verdict_of alike heard sent known found.now }
 {
     if alike {
         return Verdict::Alike;
     }
-    if sent == 0 {
-        return Verdict::NotSent;
-    }
     if found.is_empty() {
-        Verdict::Ok
+        return quiet_verdict(heard, sent, known);
+    }
+    if sent == 0 {
+        Verdict::NotSent
     } else {
         Verdict::Bad
     }
+}
+
+/// Of how many sends the log of what came in knows the word.
+fn known_sends(facts: &Facts, span: &Span, accepted: &[Mark], sends: &[Mark]) -> u64
+    ensures { result ≡ known_sends facts.now span.now accepted.now sends.now }
+{
+    let mut count = 0;
+    for send in sends {
+        if is_known(facts, span, accepted, send.time) {
+            count += 1;
+        }
+    }
+    count
 }
 
 /// The least and the greatest interval between sends. Error: an allocation failed.
@@ -133,17 +174,20 @@ fn judgement_by(
     alloc: Global,
     duties: &[Duty],
     duty: &Duty,
+    span: &Span,
     accepted: &[Mark],
     sends: &[Mark],
     found: &[Finding],
 ) -> Result<Judgement, AllocError>
     requires { IsNonDecreasingBy (λ (a : Mark). a.time) accepted.now }
-    ensures { IfOk result (λ j. j ≡ judgement_by duties.now duty.now accepted.now sends.now found.now) }
+    ensures { IfOk result (λ j. j ≡ judgement_by duties.now duty.now span.now accepted.now sends.now found.now) }
 {
     let (least, greatest) = interval_bounds(alloc, sends)?;
     let delay = delay_bound(alloc, &duty.facts, accepted, sends)?;
+    let known = known_sends(&duty.facts, span, accepted, sends);
     Ok(Judgement {
         sent: sends.len() as u64,
+        known,
         least,
         greatest,
         delay,
@@ -151,15 +195,24 @@ fn judgement_by(
         stale: count_of(Kind::Stale, found),
         soon: count_of(Kind::Soon, found),
         late: count_of(Kind::Late, found),
-        missed: count_of(Kind::Missed, found),
         again: count_of(Kind::Again, found),
-        verdict: verdict_of(is_alike(duties, duty), sends.len(), found),
+        silent: count_of(Kind::Silent, found),
+        missed: count_of(Kind::Missed, found),
+        found: found.len() as u64,
+        tolerance: duty.facts.tolerance,
+        verdict: verdict_of(
+            is_alike(duties, duty),
+            accepted.len(),
+            sends.len(),
+            known,
+            found,
+        ),
     })
 }
 
 impl Judge {
-    /// What is found at an output of a group with these outputs: at its sends in their order, and then at the words that
-    /// it missed. Nothing is found at an output that is alike another. Error: an allocation failed.
+    /// What is found at an output of a group with these outputs: at its sends in their order, after the last one, and then at
+    /// the words that it missed. Nothing is found at an output that is alike another. Error: an allocation failed.
     pub fn found(
         &self,
         alloc: Global,
@@ -189,6 +242,14 @@ impl Judge {
         let span = self.span(duty.group);
         let (accepted, sends) = (accepted.as_slice()?, sends.as_slice()?);
         let found = found_by(alloc, duties, duty, &span, accepted, sends)?;
-        judgement_by(alloc, duties, duty, accepted, sends, found.as_slice()?)
+        judgement_by(
+            alloc,
+            duties,
+            duty,
+            &span,
+            accepted,
+            sends,
+            found.as_slice()?,
+        )
     }
 }

@@ -1,26 +1,27 @@
 //! What follows from the definitions.
-ghost use Rattle.a429_judge.specs.Laws.{GridPeriodsArePlanned, OkIsRight, RightBoxIsOk};
-ghost use Rattle.a429_judge.specs.Machine.{RecordedBoxIsOk};
+ghost use Rattle.a429_judge.specs.Laws.{GridPeriodsArePlanned, OkIsRight, RightBoxHasNoFinding};
+ghost use Rattle.a429_judge.specs.Machine.{RecordedBoxHasNoFinding};
 ghost use Rattle.a429_judge.specs.RecordExample.{RecordExample};
 
-/// If the verdict on an output is ok, the word of each of its sends was the latest accepted one at some moment of the
-/// send's window. Two consecutive sends are within its interval, up to the tolerance, unless its hold forbade one
-/// between them.
+/// If the verdict on an output is ok, the word of each send whose window is within the log of what came in was the latest
+/// accepted one at some moment of that window. Two consecutive sends are within the output's interval, up to the
+/// tolerance, unless its hold forbade one between them. The logs end as soon after its last send.
 pub fn ok_is_right()
     ensures { OkIsRight }
 {}
 
-/// A right box is never condemned: of each of its outputs that is not alike another, the verdict is ok, or that it sent
-/// nothing. Its slots may begin at any time, and its sends may be recorded up to a slot later, and up to half the tolerance
-/// before or after that.
-pub fn right_box_is_ok()
-    ensures { RightBoxIsOk }
+/// A right box is never condemned: nothing is found at its outputs. Its slots may begin at any time. Each may come a period
+/// after the one before, or sooner or later by `drift`. A send is recorded up to a slot after its slot begins, and each
+/// time of the logs may be wrong by `wrong`. Twice `wrong` and `drift` are at most the tolerance. The logs may be any piece
+/// of what came in and of what was sent.
+pub fn right_box_has_no_finding()
+    ensures { RightBoxHasNoFinding }
 {}
 
 /// A box that sends as the machine does is never condemned: in each slot of an output the latest accepted word, unless it
-/// was sent as often as the hold allows. The slots may begin at any time, and the log may have a part of the sends.
-pub fn recorded_box_is_ok()
-    ensures { RecordedBoxIsOk }
+/// was sent as often as the hold allows. Its slots and its logs may be as in `right_box_has_no_finding`.
+pub fn recorded_box_has_no_finding()
+    ensures { RecordedBoxHasNoFinding }
 {}
 
 /// The grid period of an output's interval is within it: so the facts of a planned output meet the premise of the laws above.
@@ -28,7 +29,7 @@ pub fn grid_periods_are_planned()
     ensures { GridPeriodsArePlanned }
 {}
 
-/// An example of a recorded box: the premises of `recorded_box_is_ok` can be met.
+/// An example of a recorded box whose slots drift: the premises of `recorded_box_has_no_finding` can be met.
 pub fn recorded_box_applies()
     ensures { RecordExample }
 {}

@@ -18,6 +18,7 @@ mod duties;
 mod facts;
 mod figures;
 mod findings;
+mod holds;
 mod judgements;
 mod known;
 pub mod laws;

@@ -106,13 +106,22 @@ fn is_foreign(duties: &[Duty], group: usize, word: &Sent) -> bool
     word.group == group && !has_output(duties, word)
 }
 
+/// Adds a word that was sent, if it is one of those wanted.
+fn add_sent_if(found: &mut Gathered<Sent>, wanted: bool, word: Sent)
+    ensures { found.new ≡ found.old ++ (if wanted then word ∷ [] else []) }
+{
+    if wanted {
+        found.push(word);
+    }
+}
+
 /// The words of a group that are of none of these outputs.
-fn foreign_of(alloc: Global, duties: &[Duty], group: usize, sent: &[Sent]) -> Gathered<Mark>
+fn foreign_of(alloc: Global, duties: &[Duty], group: usize, sent: &[Sent]) -> Gathered<Sent>
     ensures { result ≡ foreign_of duties.now group sent.now }
 {
     let mut found = Gathered::new(alloc);
     for word in sent {
-        add_if(&mut found, is_foreign(duties, group, word), word.mark);
+        add_sent_if(&mut found, is_foreign(duties, group, word), *word);
     }
     found
 }
@@ -192,19 +201,20 @@ impl Judge {
     }
 
     /// The words of a group that are of none of these outputs, in order.
-    pub fn foreign(&self, alloc: Global, duties: &[Duty], group: usize) -> Gathered<Mark>
+    pub fn foreign(&self, alloc: Global, duties: &[Duty], group: usize) -> Gathered<Sent>
         ensures { result ≡ foreign_of duties.now group self.now.sent }
     {
         foreign_of(alloc, duties, group, &self.sent)
     }
 
-    /// From when on until when words that came in can be judged at a group.
+    /// What the logs show of a group.
     pub fn span(&self, group: usize) -> Span
         ensures { result ≡ span_of group self.now }
     {
         Span {
             first: first_sent(group, &self.sent),
-            last: self.last_heard.min(self.last_sent),
+            heard: self.last_heard,
+            last: self.last_heard.max(self.last_sent),
         }
     }
 }

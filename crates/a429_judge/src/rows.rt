@@ -14,6 +14,7 @@ pub const COLUMNS: &[&str] = &[
     "group",
     "source",
     "sent",
+    "known",
     "least_us",
     "greatest_us",
     "late_us",
@@ -21,8 +22,10 @@ pub const COLUMNS: &[&str] = &[
     "stale",
     "soon",
     "late",
-    "missed",
     "again",
+    "silent",
+    "missed",
+    "tolerance_us",
     "verdict",
 ];
 
@@ -46,19 +49,21 @@ impl Verdict {
             Verdict::NotSent => "not-sent",
             Verdict::Alike => "alike",
             Verdict::Bad => "bad",
+            Verdict::TooShort => "too-short",
         }
     }
 }
 
 /// The cells of the row of an output.
 #[tactic(auto, unfolding(crate::specs::Rows::output_row))]
-fn output_cells<'a>(group: &'a str, source: &'a str, judgement: &Judgement) -> [Cell<'a>; 13]
+fn output_cells<'a>(group: &'a str, source: &'a str, judgement: &Judgement) -> [Cell<'a>; 16]
     ensures { map field_of result ≡ output_row group.now source.now judgement.now }
 {
     [
         Cell::Text(group),
         Cell::Text(source),
         Cell::Number(judgement.sent),
+        Cell::Number(judgement.known),
         figure_cell(judgement.least),
         figure_cell(judgement.greatest),
         figure_cell(judgement.delay),
@@ -66,8 +71,10 @@ fn output_cells<'a>(group: &'a str, source: &'a str, judgement: &Judgement) -> [
         Cell::Number(judgement.stale),
         Cell::Number(judgement.soon),
         Cell::Number(judgement.late),
-        Cell::Number(judgement.missed),
         Cell::Number(judgement.again),
+        Cell::Number(judgement.silent),
+        Cell::Number(judgement.missed),
+        Cell::Number(judgement.tolerance),
         Cell::Text(judgement.verdict.text()),
     ]
 }
@@ -92,13 +99,16 @@ fn foreign_verdict(count: u64) -> Verdict
 
 /// The cells of the row of a group's foreign words.
 #[tactic(auto, unfolding(crate::specs::Rows::foreign_row))]
-fn foreign_cells(group: &str, count: u64) -> [Cell<'_>; 13]
+fn foreign_cells(group: &str, count: u64) -> [Cell<'_>; 16]
     ensures { map field_of result ≡ foreign_row group.now count }
 {
     [
         Cell::Text(group),
         Cell::Text("foreign"),
         Cell::Number(count),
+        Cell::Absent,
+        Cell::Absent,
+        Cell::Absent,
         Cell::Absent,
         Cell::Absent,
         Cell::Absent,

@@ -1,10 +1,9 @@
 //! Accepted words within the windows of sends.
 ghost use Rattle.std.specs.Prelude.{◌≡◌, ◌≤◌, ◌+◌, ◌*◌, ◌<◌, drop, length, true, false};
-ghost use Rattle.std.specs.List.{list_any};
 ghost use Rattle.std.specs.List.Sorted.{IsNonDecreasingBy};
-ghost use Rattle.a429_judge.specs.Judging.{AreFirst, is_before_next, is_between, is_by, is_past, is_equal, is_of_one, is_right, is_twice};
+ghost use Rattle.a429_judge.specs.Judging.{AreFirst, is_before_next, is_by, is_equal, is_known, is_of_one, is_past, is_right, is_twice};
 
-use crate::facts::{Facts, Mark};
+use crate::facts::{Facts, Mark, Span};
 
 /// A time with a duration, in units of 1 / rate microseconds.
 pub fn units(rate: u32, time: u64, more: u64) -> u128
@@ -15,7 +14,7 @@ pub fn units(rate: u32, time: u64, more: u64) -> u128
 }
 
 /// Whether a word was accepted by the end of the window of a send at a time.
-fn is_by(facts: &Facts, time: u64, mark: &Mark) -> bool
+pub fn is_by(facts: &Facts, time: u64, mark: &Mark) -> bool
     ensures { result ≡ is_by facts.now time mark.now }
 {
     u128::from(mark.time) <= u128::from(time) + u128::from(facts.tolerance)
@@ -65,6 +64,17 @@ pub fn is_right_from(facts: &Facts, accepted: &[Mark], from: usize, send: &Mark)
     false
 }
 
+/// Whether the log of what came in knows which word was the latest throughout the window of a send.
+pub fn is_known(facts: &Facts, span: &Span, accepted: &[Mark], time: u64) -> bool
+    ensures { result ≡ is_known facts.now span.now accepted.now time }
+{
+    let Some(first) = accepted.first() else {
+        return false;
+    };
+    is_past(facts, time, first)
+        && u128::from(time) + u128::from(facts.tolerance) < u128::from(span.heard)
+}
+
 /// Whether a word was accepted before the window of the slot that is a period after a send.
 fn is_before_next(facts: &Facts, time: u64, mark: &Mark) -> bool
     ensures { result ≡ is_before_next facts.now time mark.now }
@@ -74,7 +84,7 @@ fn is_before_next(facts: &Facts, time: u64, mark: &Mark) -> bool
 }
 
 /// How many words were accepted before that window.
-fn count_before_next(facts: &Facts, accepted: &[Mark], time: u64) -> usize
+pub fn count_before_next(facts: &Facts, accepted: &[Mark], time: u64) -> usize
     requires { IsNonDecreasingBy (λ (a : Mark). a.time) accepted.now }
     ensures point { AreFirst (is_before_next facts.now time) accepted.now result }
     ensures within { result ≤ length accepted.now }
@@ -102,11 +112,17 @@ fn is_twice_from(facts: &Facts, accepted: &[Mark], from: usize, send: &Mark) -> 
 }
 
 /// Whether two sends are of one accepted word.
-pub fn is_of_one(facts: &Facts, accepted: &[Mark], first: &Mark, send: &Mark) -> bool
+pub fn is_of_one(facts: &Facts, span: &Span, accepted: &[Mark], first: &Mark, send: &Mark) -> bool
     requires { IsNonDecreasingBy (λ (a : Mark). a.time) accepted.now }
-    ensures { result ≡ is_of_one facts.now accepted.now first.now send.now }
+    ensures { result ≡ is_of_one facts.now span.now accepted.now first.now send.now }
 {
     if first.raw != send.raw {
+        return false;
+    }
+    if !is_known(facts, span, accepted, first.time) {
+        return false;
+    }
+    if !is_known(facts, span, accepted, send.time) {
         return false;
     }
     if !is_right_from(facts, accepted, 0, first) {
@@ -117,12 +133,4 @@ pub fn is_of_one(facts: &Facts, accepted: &[Mark], first: &Mark, send: &Mark) ->
     }
     let from = count_past(facts, accepted, first.time).saturating_sub(1);
     !is_twice_from(facts, accepted, from, send)
-}
-
-/// Whether a word was accepted after the window of a send, and before that of the slot that is a period after another.
-pub fn is_any_between(facts: &Facts, accepted: &[Mark], first: u64, last: u64) -> bool
-    requires { IsNonDecreasingBy (λ (a : Mark). a.time) accepted.now }
-    ensures { result ≡ list_any (is_between facts.now first last) accepted.now }
-{
-    count_by(facts, accepted, first) < count_before_next(facts, accepted, last)
 }
