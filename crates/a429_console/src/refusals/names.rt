@@ -18,6 +18,7 @@ pub fn group_name(equipment: &Equipment, group: usize) -> Name
 pub fn source_name(equipment: &Equipment, group: usize, output: usize) -> Name
     ensures { result ≡ output_name equipment.now group output }
 {
+    equipment.rows_are_sound();
     if group >= equipment.groups().len() {
         return Name::of("");
     }
