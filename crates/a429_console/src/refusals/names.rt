@@ -18,8 +18,8 @@ pub fn group_name(equipment: &Equipment, group: usize) -> Name
 pub fn source_name(equipment: &Equipment, group: usize, output: usize) -> Name
     ensures { result ≡ output_name equipment.now group output }
 {
-    equipment.rows_are_sound();
     if group >= equipment.groups().len() {
+        equipment.rows_are_sound();
         return Name::of("");
     }
     let Some(output) = equipment.outputs(group).get(output) else {
