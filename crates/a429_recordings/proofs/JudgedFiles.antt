@@ -1,15 +1,16 @@
 -- What is judged, from the bytes of files up to their names.
 use Rattle.std.proofs.Common.{◌≡◌, ℕ, List, inr}
-use Rattle.std.specs.Prelude.{Err, Ok, Option, Result, false}
+use Rattle.std.specs.Prelude.{Err, None, Ok, Option, Result, false}
 use Rattle.a429_logs.specs.declared.reading.Reading.{Reading}
 use Rattle.a429_slots.specs.Proposed.{Proposed}
+use Rattle.a429_console.specs.Names.{naming_of}
 use Rattle.a429_console.specs.Tables.{IsProposedBy}
 use Rattle.a429_console.specs.declared.refusals.CommandRefusal.{CommandRefusal}
 use Rattle.a429_console.specs.declared.refusals.CommandRefusal.TheVariants as refused
 use Rattle.a429_console.proofs.Refused.{or_memory_weaker}
 use Rattle.a429_judge.specs.Recordings.{Recording}
 use Rattle.a429_recordings.specs.BoxLogs.{IsNoting, overlap}
-use Rattle.a429_recordings.specs.JudgeReplies.{AreBoxFiles, BoxFiles, IsJudgeAnswer, IsJudging, IsJudgingOf, IsNoRecording, IsPrinting, IsRecorded, IsUnjudged, IsUnjudgedBy, IsUnjudgedOf, heard_words, sent_reading, sent_words}
+use Rattle.a429_recordings.specs.JudgeReplies.{AreBoxFiles, BoxFiles, IsJudgeAnswer, IsJudging, IsJudgingOf, IsNoRecording, IsPrinting, IsRecorded, IsUnjudged, IsUnjudgedBy, IsUnjudgedOf, heard_words, no_group_of, sent_reading, sent_words}
 use Rattle.a429_recordings.specs.JudgedPlans.{is_any_wide}
 use Rattle.a429_recordings.specs.declared.judge.JudgeForm.{JudgeForm}
 use Rattle.a429_recordings.specs.declared.judge.sheets.Judged.{Judged}
@@ -22,10 +23,11 @@ recorded q i reading heard sent (Ok r) h s is = record { heard = heard; sent = s
 recorded q i reading heard sent (Err e) h s bad =
     or_memory_weaker (λ (refusal : CommandRefusal). (overlap heard sent ≡ false) × (refusal ≡ refused.Apart)) (IsNoRecording q i reading) e (λ one. inr (inr (heard, sent, h, s, one.0, one.1))) bad
 
--- the tolerance is not too great
-pub printed : (q : Proposed) (i : BoxFiles (List ℕ)) (f : JudgeForm) (result : Result Judged CommandRefusal) → is_any_wide q f.tolerance ≡ false → IsPrinting q i f result → IsJudgingOf q i f result
-printed q i f (Ok j) narrow is = (narrow, is)
-printed q i f (Err e) narrow bad = or_memory_weaker (IsNoRecording q i f.reading) (IsUnjudgedOf q i f) e (λ one. inr (narrow, one)) bad
+-- each group is there, and no tolerance is too great
+pub printed : (q : Proposed) (i : BoxFiles (List ℕ)) (f : JudgeForm) (result : Result Judged CommandRefusal) → no_group_of (naming_of q.station) i.tolerances ≡ None → is_any_wide q i.tolerances ≡ false → IsPrinting q i f result
+    → IsJudgingOf q i f result
+printed q i f (Ok j) all narrow is = (all, narrow, is)
+printed q i f (Err e) all narrow bad = or_memory_weaker (IsNoRecording q i f.reading) (IsUnjudgedOf q i f) e (λ one. inr (all, inr (narrow, one))) bad
 
 -- the bytes of the table have this plan
 pub judged_of : (q : Proposed) (i : BoxFiles (List ℕ)) (f : JudgeForm) (result : Result Judged CommandRefusal) → IsProposedBy i.table q → IsJudgingOf q i f result → IsJudging i f result

@@ -8,7 +8,6 @@ use Rattle.a429_equipment.specs.Agreement.{last_of}
 use Rattle.a429_equipment.specs.Arrivals.{sorted}
 use Rattle.a429_equipment.specs.TableRecord.{TableRecord}
 use Rattle.a429_equipment.specs.declared.arrivals.ArrivalRefusal.{ArrivalRefusal}
-use Rattle.a429_slots.specs.Tables.{PlanTable, buses_of, groups_of}
 use Rattle.a429_console.specs.Names.{Naming, number_named}
 use Rattle.a429_judge.specs.Recordings.{Recording, no_words, with_heard, with_sent}
 use Rattle.a429_judge.specs.declared.duties.Sent.{Sent}
@@ -25,46 +24,42 @@ use Rattle.a429_recordings.specs.declared.judge.words.Place.{Place}
 
 -- ---- the places of words
 
--- how many buses a group has; 0 if there is no such group
-abbrev pub buses_at : PlanTable → ℕ → ℕ
-buses_at p g = option_map_or buses_of (slice_get (groups_of p) g) 0
-
--- a bus of a group, by its number in decimal digits
-abbrev pub bus_named : PlanTable → ℕ → List ℕ → Option ℕ
-bus_named p g text = option_and_then (λ bus. if nat_lt bus (buses_at p g) then Some bus else None) (decimal_number text)
+-- a bus, by its number in decimal digits; the plan need not have it
+abbrev pub bus_named : List ℕ → Option ℕ
+bus_named text = option_and_then (λ bus. if nat_lt bus 4294967296 then Some bus else None) (decimal_number text)
 
 -- at this number, on no bus that is known
 abbrev pub at_number : ℕ → Place
 at_number n = record { number = n; bus = None }
 
 -- a bus of a group, by the names of both
-abbrev pub bus_place : PlanTable → Naming → List ℕ → List ℕ → Option Place
-bus_place p names group bus =
-    option_and_then (λ g. option_map (λ b. record { number = g; bus = Some b }) (bus_named p g bus)) (number_named names.groups group)
+abbrev pub bus_place : Naming → List ℕ → List ℕ → Option Place
+bus_place names group bus =
+    option_and_then (λ g. option_map (λ b. record { number = g; bus = Some b }) (bus_named bus)) (number_named names.groups group)
 
 -- the place of a word that was sent, by its name; the first full stop of that, if there is one, is here
-abbrev pub place_by : PlanTable → Naming → List ℕ → Option ℕ → Option Place
-place_by p names name None = option_map at_number (number_named names.groups name)
-place_by p names name (Some at) = bus_place p names (take at name) (drop (at + 1) name)
+abbrev pub place_by : Naming → List ℕ → Option ℕ → Option Place
+place_by names name None = option_map at_number (number_named names.groups name)
+place_by names name (Some at) = bus_place names (take at name) (drop (at + 1) name)
 
 -- the place of a word that was sent, by `GROUP` or `GROUP.BUS`
-unfoldable pub sent_place : PlanTable → Naming → List ℕ → Option Place
-sent_place p names name = place_by p names name (position (λ c. c == 46) name)
+unfoldable pub sent_place : Naming → List ℕ → Option Place
+sent_place names name = place_by names name (position (λ c. c == 46) name)
 
 -- the place of a word, by the name that a log has for it
-abbrev pub place_named : PlanTable → Naming → BoxLog → List ℕ → Option Place
-place_named p names log.Heard name = option_map at_number (number_named names.receivers name)
-place_named p names log.Sent name = sent_place p names name
+abbrev pub place_named : Naming → BoxLog → List ℕ → Option Place
+place_named names log.Heard name = option_map at_number (number_named names.receivers name)
+place_named names log.Sent name = sent_place names name
 
 -- a word of a log, if there is a place of its name; its time is below 10^14 microseconds
-unfoldable pub box_word : PlanTable → Naming → BoxLog → Stated → Option BoxWord
-box_word p names l w =
-    if nat_lt w.time 100000000000000 then option_map (λ place. record { time = w.time; place = place; raw = w.raw }) (place_named p names l w.name)
+unfoldable pub box_word : Naming → BoxLog → Stated → Option BoxWord
+box_word names l w =
+    if nat_lt w.time 100000000000000 then option_map (λ place. record { time = w.time; place = place; raw = w.raw }) (place_named names l w.name)
     else None
 
 -- the same, with channels taken as names
-abbrev pub box_word_by : PlanTable → Naming → List (List ℕ) → BoxLog → Stated → Option BoxWord
-box_word_by p names channels l = named channels (box_word p names l)
+abbrev pub box_word_by : Naming → List (List ℕ) → BoxLog → Stated → Option BoxWord
+box_word_by names channels l = named channels (box_word names l)
 
 -- ---- how logs are read
 

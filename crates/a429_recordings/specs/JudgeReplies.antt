@@ -1,5 +1,7 @@
 -- The command `judge`: what it prints, and why it prints nothing.
-use Rattle.std.specs.Prelude.{◌≡◌, ◌==◌, ◌∷◌, ◌⊎◌, ℕ, Bool, true, false, not, List, Option, Some, Ok, Result, MatchResult, length}
+use Rattle.std.specs.Prelude.{◌≡◌, ◌==◌, ◌∷◌, ◌⊎◌, ℕ, Bool, true, false, is_some, not, List, None, Option, Some, Ok, Result, MatchResult, length, option_and_then}
+use Rattle.std.specs.List.{find}
+use Rattle.std.specs.Option.{option_map_or}
 use Rattle.a429_text.specs.Sheets.{sheet_text}
 use Rattle.a429_text.specs.declared.sheets.SheetForm.{SheetForm}
 use Rattle.a429_logs.specs.LogRows.{Stated}
@@ -8,10 +10,11 @@ use Rattle.a429_slots.specs.Proposed.{Proposed}
 use Rattle.a429_console.specs.FileReadings.{AreReadLogs, IsFileRefusal, IsFirstUnreadLog, readable}
 use Rattle.a429_console.specs.Files.{bytes_of}
 use Rattle.a429_arguments.specs.Texts.{texts_of}
-use Rattle.a429_console.specs.Names.{naming_of}
+use Rattle.a429_arguments.specs.Tolerances.{tolerance_group}
+use Rattle.a429_console.specs.Names.{Naming, naming_of, number_named}
 use Rattle.a429_console.specs.RefusalText.{OrMemory}
 use Rattle.a429_arguments.specs.Requests.{OptionBytes}
-use Rattle.a429_console.specs.Tables.{IsProposedBy, IsTableRefusal}
+use Rattle.a429_console.specs.Tables.{IsGroupRefusal, IsProposedBy, IsTableRefusal}
 use Rattle.a429_console.specs.declared.refusals.CommandRefusal.{CommandRefusal}
 use Rattle.a429_console.specs.declared.refusals.CommandRefusal.TheVariants as refused
 use Rattle.a429_judge.specs.Recordings.{Recording}
@@ -30,23 +33,24 @@ use Rattle.a429_recordings.specs.declared.judge.words.BoxWord.{BoxWord}
 
 -- what the options ask for
 abbrev pub judge_form : OptionBytes → JudgeForm
-judge_form o = record { tolerance = o.tolerance; events = o.events; form = o.form; reading = reading_for o }
+judge_form o = record { events = o.events; form = o.form; reading = reading_for o }
 
 -- ---- files
 
 -- the names of the files: a table, the logs of what came in, and those of what was sent; or their bytes. And as which names channels in the logs are
--- taken.
+-- taken, and the tolerances that are given.
 pub record BoxFiles (A : Type 0) : Type 0 where
   pub table : A
   pub heard : List A
   pub sent : List A
   pub channels : List (List ℕ)
+  pub tolerances : List (List ℕ)
 
--- these are the bytes of the files of these names, and the channels are the same
+-- these are the bytes of the files of these names, and what is given with them is the same
 abbrev pub AreBoxFiles : (List ℕ → Option (List ℕ)) → BoxFiles (List ℕ) → BoxFiles (List ℕ) → Type 0
 AreBoxFiles file names i =
     (readable (file names.table) ≡ Some i.table) × AreReadLogs file names.heard i.heard × AreReadLogs file names.sent i.sent
-    × (i.channels ≡ names.channels)
+    × (i.channels ≡ names.channels) × (i.tolerances ≡ names.tolerances)
 
 -- of these files the first that cannot be read
 abbrev pub IsUnreadBoxFile : (List ℕ → Option (List ℕ)) → BoxFiles (List ℕ) → CommandRefusal → Type 0
@@ -60,7 +64,7 @@ IsUnreadBoxFile file names refusal =
 
 -- a word of a log, with channels taken as names
 abbrev pub word_by : Proposed → List (List ℕ) → BoxLog → Stated → Option BoxWord
-word_by q channels l = box_word_by q.plan (naming_of q.station) channels l
+word_by q channels l = box_word_by (naming_of q.station) channels l
 
 -- the words that came in, or the first faulty line
 abbrev pub heard_words : Proposed → List (List ℕ) → Reading → List (List ℕ) → Result (List BoxWord) ℕ
@@ -109,30 +113,40 @@ IsRecorded q i reading result = MatchResult result (IsRecording q i reading) (Or
 -- ---- what is printed
 
 -- the sheet of a recording in a form, by whether there is a row for each finding
-abbrev pub judge_text : Bool → SheetForm → Proposed → Option ℕ → Recording → List ℕ
-judge_text false form q tolerance r = sheet_text form judge_columns (judged_rows q tolerance r)
-judge_text true form q tolerance r = sheet_text form event_columns (judge_events q tolerance r)
+abbrev pub judge_text : Bool → SheetForm → Proposed → List (List ℕ) → Recording → List ℕ
+judge_text false form q given r = sheet_text form judge_columns (judged_rows q given r)
+judge_text true form q given r = sheet_text form event_columns (judge_events q given r)
 
--- whether something is found: an output is bad or a word foreign, or there is a finding
-abbrev pub judge_finds : Bool → Proposed → Option ℕ → Recording → Bool
-judge_finds false q tolerance r = is_found q tolerance r
-judge_finds true q tolerance r = not (length (judge_events q tolerance r) == 0)
+-- whether something is found: at an output, or a word is foreign; so there is a row of a finding
+abbrev pub judge_finds : Bool → Proposed → List (List ℕ) → Recording → Bool
+judge_finds false q given r = is_found q given r
+judge_finds true q given r = not (length (judge_events q given r) == 0)
 
 -- the logs are a recording, and this is printed of it
 pub record ArePrinted (q : Proposed) (i : BoxFiles (List ℕ)) (f : JudgeForm) (found : Bool) (bytes : List ℕ) : Type 0 where
   pub recording : Recording
   pub recorded : IsRecording q i f.reading recording
-  pub text : bytes ≡ judge_text f.events f.form q f.tolerance recording
-  pub finds : found ≡ judge_finds f.events q f.tolerance recording
+  pub text : bytes ≡ judge_text f.events f.form q i.tolerances recording
+  pub finds : found ≡ judge_finds f.events q i.tolerances recording
 
--- a plan is judged: the tolerance is not too great, and the logs are a recording
+-- the first group for which a tolerance is given, but which is not there
+abbrev pub is_no_group : Naming → List ℕ → Bool
+is_no_group names text = option_map_or (λ group. not (is_some (number_named names.groups group))) (tolerance_group text) false
+
+abbrev pub no_group_of : Naming → List (List ℕ) → Option (List ℕ)
+no_group_of names given = option_and_then tolerance_group (find (is_no_group names) given)
+
+-- a plan is judged: each group for which a tolerance is given is there, none is too great, and the logs are a recording
 abbrev pub IsJudgedOf : Proposed → BoxFiles (List ℕ) → JudgeForm → Bool → List ℕ → Type 0
-IsJudgedOf q i f found bytes = (is_any_wide q f.tolerance ≡ false) × ArePrinted q i f found bytes
+IsJudgedOf q i f found bytes =
+    (no_group_of (naming_of q.station) i.tolerances ≡ None) × (is_any_wide q i.tolerances ≡ false) × ArePrinted q i f found bytes
 
--- it is not: the tolerance is too great, or the logs are none
+-- it is not: a group is not there, a tolerance is too great, or the logs are none
 abbrev pub IsUnjudgedOf : Proposed → BoxFiles (List ℕ) → JudgeForm → CommandRefusal → Type 0
 IsUnjudgedOf q i f refusal =
-    ((is_any_wide q f.tolerance ≡ true) × (refusal ≡ refused.Tolerance)) ⊎ ((is_any_wide q f.tolerance ≡ false) × IsNoRecording q i f.reading refusal)
+    ((name : List ℕ) × (no_group_of (naming_of q.station) i.tolerances ≡ Some name) × IsGroupRefusal name refusal)
+    ⊎ ((no_group_of (naming_of q.station) i.tolerances ≡ None)
+    × (((is_any_wide q i.tolerances ≡ true) × (refusal ≡ refused.Tolerance)) ⊎ ((is_any_wide q i.tolerances ≡ false) × IsNoRecording q i f.reading refusal)))
 
 -- what `judge` prints of these bytes, and whether something is found
 abbrev pub IsJudged : BoxFiles (List ℕ) → JudgeForm → Bool → List ℕ → Type 0
@@ -157,10 +171,17 @@ names_of n = record {
   heard = n.heard.now ∷ texts_of n.more_heard.now;
   sent = n.sent.now ∷ texts_of n.more_sent.now;
   channels = texts_of n.channels.now;
+  tolerances = texts_of n.tolerances.now;
 }
 
 abbrev pub files_of : JudgeInput → BoxFiles (List ℕ)
-files_of i = record { table = i.table.items; heard = bytes_of i.heard.items; sent = bytes_of i.sent.items; channels = texts_of i.channels.now }
+files_of i = record {
+  table = i.table.items;
+  heard = bytes_of i.heard.items;
+  sent = bytes_of i.sent.items;
+  channels = texts_of i.channels.now;
+  tolerances = texts_of i.tolerances.now;
+}
 
 -- what reading the files gives
 abbrev pub IsBoxReading : (List ℕ → Option (List ℕ)) → BoxFiles (List ℕ) → Result JudgeInput CommandRefusal → Type 0
@@ -169,7 +190,8 @@ IsBoxReading file names result = MatchResult result (λ i. AreBoxFiles file name
 -- the sheet of some words, and whether something is found
 abbrev pub IsJudgeSheet : Bool → Judging → SheetForm → Judged → Type 0
 IsJudgeSheet events j form result =
-    (result.text.items ≡ judge_text events form j.proposal.now j.tolerance j.judge.now) × (result.found ≡ judge_finds events j.proposal.now j.tolerance j.judge.now)
+    (result.text.items ≡ judge_text events form j.proposal.now (texts_of j.tolerances.now) j.judge.now)
+    × (result.found ≡ judge_finds events j.proposal.now (texts_of j.tolerances.now) j.judge.now)
 
 -- what judging logs gives
 abbrev pub IsPrinting : Proposed → BoxFiles (List ℕ) → JudgeForm → Result Judged CommandRefusal → Type 0

@@ -1,5 +1,5 @@
 -- The outputs of a plan as they are judged, and the rows of that.
-use Rattle.std.specs.Prelude.{◌≡◌, ◌==◌, ◌*◌, ◌^◌, ◌||◌, ◌++◌, ◌∷◌, [], ℕ, Bool, true, false, List, Option, Some, None, codes, flat_map, fold, if◌then◌else◌, length, map, min, nat_lt, option_and_then, slice_get, unwrap_or}
+use Rattle.std.specs.Prelude.{◌≡◌, ◌*◌, ◌^◌, ◌||◌, ◌++◌, ◌∷◌, [], ℕ, Bool, false, List, Option, Some, None, codes, flat_map, fold, length, map, min, nat_lt, option_and_then, slice_get, unwrap_or}
 use Rattle.std.specs.List.{list_any, range_with_len}
 use Rattle.std.specs.Option.{option_map_or}
 use Rattle.a429_word.specs.Hexadecimal.{hex}
@@ -8,19 +8,19 @@ use Rattle.a429_equipment.specs.TableRecord.{TableRecord, outputs_in}
 use Rattle.a429_equipment.specs.declared.rows.OutputRow.{OutputRow}
 use Rattle.a429_slots.specs.Proposed.{Proposed}
 use Rattle.a429_slots.specs.Tables.{frame_of, groups_of, outputs_of, placed_at}
+use Rattle.a429_arguments.specs.Tolerances.{tolerance_for}
 use Rattle.a429_console.specs.Names.{group_name, output_name}
-use Rattle.a429_judge.specs.Judgements.{found_at, judgement_of, sent_by}
+use Rattle.a429_judge.specs.Judgements.{found_at, judgement_of}
 use Rattle.a429_judge.specs.Recordings.{Recording, foreign_of}
 use Rattle.a429_judge.specs.Rows.{foreign_row, output_row}
 use Rattle.a429_judge.specs.Tolerance.{default_tolerance}
 use Rattle.a429_judge.specs.declared.duties.Duty.{Duty}
+use Rattle.a429_judge.specs.declared.duties.Sent.{Sent}
 use Rattle.a429_judge.specs.declared.facts.Mark.{Mark}
 use Rattle.a429_judge.specs.declared.findings.Finding.{Finding}
 use Rattle.a429_judge.specs.declared.findings.Kind.{Kind}
 use Rattle.a429_judge.specs.declared.findings.Kind.TheVariants as kind
 use Rattle.a429_judge.specs.declared.judgements.Judgement.{Judgement}
-use Rattle.a429_judge.specs.declared.judgements.Verdict.{Verdict}
-use Rattle.a429_judge.specs.declared.judgements.Verdict.TheVariants as verdict
 use Rattle.a429_recordings.specs.Timeline.{rate_of, table_of}
 
 -- ---- outputs
@@ -53,14 +53,13 @@ period_at q g o = 2 ^ (placed_at (table_of q g) o).place.period
 abbrev pub shortest_period : Proposed → ℕ → ℕ
 shortest_period q g = fold (λ n o. min n (period_at q g o)) (frame_of (table_of q g)) (outputs_at q g)
 
--- the tolerance that is given, otherwise two slots of the group or half its shortest period, if that is less
-abbrev pub tolerance_of : Proposed → Option ℕ → ℕ → ℕ
-tolerance_of q None g = default_tolerance (rate_of q g) (shortest_period q g)
-tolerance_of q (Some tolerance) g = tolerance
+-- the tolerance that is given for the group, otherwise two slots of the group or half its shortest period, if that is less
+abbrev pub tolerance_of : Proposed → List (List ℕ) → ℕ → ℕ
+tolerance_of q given g = unwrap_or (tolerance_for given (group_name q.station g)) (default_tolerance (rate_of q g) (shortest_period q g))
 
 -- output o of group g: its interval and its hold are those of the table, its bus and its period those of the plan
-unfoldable pub duty_of : Proposed → Option ℕ → ℕ → ℕ → Duty
-duty_of q tolerance g o =
+unfoldable pub duty_of : Proposed → List (List ℕ) → ℕ → ℕ → Duty
+duty_of q given g o =
     let row = row_of q.station g o in
     let place = (placed_at (table_of q g) o).place in
     record {
@@ -75,75 +74,72 @@ duty_of q tolerance g o =
         least = row.min_us;
         greatest = row.max_us;
         hold = row.hold;
-        tolerance = tolerance_of q tolerance g;
+        tolerance = tolerance_of q given g;
       };
     }
 
 -- the outputs of a group
-abbrev pub duties_of : Proposed → Option ℕ → ℕ → List Duty
-duties_of q tolerance g = map (duty_of q tolerance g) (outputs_at q g)
+abbrev pub duties_of : Proposed → List (List ℕ) → ℕ → List Duty
+duties_of q given g = map (duty_of q given g) (outputs_at q g)
 
 -- the tolerance is more than half the period of an output
 abbrev pub is_wide : Duty → Bool
 is_wide d = nat_lt (36000000 * d.facts.period) (2 * (d.facts.tolerance * d.facts.rate))
 
-abbrev pub is_wide_in : Proposed → Option ℕ → ℕ → Bool
-is_wide_in q tolerance g = list_any is_wide (duties_of q tolerance g)
+abbrev pub is_wide_in : Proposed → List (List ℕ) → ℕ → Bool
+is_wide_in q given g = list_any is_wide (duties_of q given g)
 
 -- and that of any output of the plan
-abbrev pub is_any_wide : Proposed → Option ℕ → Bool
-is_any_wide q tolerance = list_any (is_wide_in q tolerance) (groups_at q)
+abbrev pub is_any_wide : Proposed → List (List ℕ) → Bool
+is_any_wide q given = list_any (is_wide_in q given) (groups_at q)
 
 -- without a tolerance that is given, none is
 abbrev pub DefaultToleranceIsAllowed : Type 0
-DefaultToleranceIsAllowed = (q : Proposed) → is_any_wide q None ≡ false
+DefaultToleranceIsAllowed = (q : Proposed) → is_any_wide q [] ≡ false
 
 -- ---- a row for each output
 
-abbrev pub judged : Proposed → Option ℕ → Recording → ℕ → ℕ → Judgement
-judged q tolerance r g o = judgement_of (duties_of q tolerance g) (duty_of q tolerance g o) r
+abbrev pub judged : Proposed → List (List ℕ) → Recording → ℕ → ℕ → Judgement
+judged q given r g o = judgement_of (duties_of q given g) (duty_of q given g o) r
 
-abbrev pub judged_row : Proposed → Option ℕ → Recording → ℕ → ℕ → List Field
-judged_row q tolerance r g o = output_row (group_name q.station g) (output_name q.station g o) (judged q tolerance r g o)
+abbrev pub judged_row : Proposed → List (List ℕ) → Recording → ℕ → ℕ → List Field
+judged_row q given r g o = output_row (group_name q.station g) (output_name q.station g o) (judged q given r g o)
 
--- how many words of a group are of none of its outputs
-abbrev pub foreign_in : Proposed → Option ℕ → Recording → ℕ → List Mark
-foreign_in q tolerance r g = foreign_of (duties_of q tolerance g) g r.sent
+-- the words of a group that are of none of its outputs
+abbrev pub foreign_in : Proposed → List (List ℕ) → Recording → ℕ → List Sent
+foreign_in q given r g = foreign_of (duties_of q given g) g r.sent
 
 -- the rows of a group's outputs, and then that of its foreign words
-abbrev pub judged_outputs : Proposed → Option ℕ → Recording → ℕ → List (List Field)
-judged_outputs q tolerance r g = map (judged_row q tolerance r g) (outputs_at q g)
+abbrev pub judged_outputs : Proposed → List (List ℕ) → Recording → ℕ → List (List Field)
+judged_outputs q given r g = map (judged_row q given r g) (outputs_at q g)
 
-abbrev pub judged_group : Proposed → Option ℕ → Recording → ℕ → List (List Field)
-judged_group q tolerance r g =
-    judged_outputs q tolerance r g ++ foreign_row (group_name q.station g) (length (foreign_in q tolerance r g)) ∷ []
+abbrev pub judged_group : Proposed → List (List ℕ) → Recording → ℕ → List (List Field)
+judged_group q given r g =
+    judged_outputs q given r g ++ foreign_row (group_name q.station g) (length (foreign_in q given r g)) ∷ []
 
-abbrev pub judged_rows : Proposed → Option ℕ → Recording → List (List Field)
-judged_rows q tolerance r = flat_map (judged_group q tolerance r) (groups_at q)
+abbrev pub judged_rows : Proposed → List (List ℕ) → Recording → List (List Field)
+judged_rows q given r = flat_map (judged_group q given r) (groups_at q)
 
 abbrev pub judge_columns : List (List ℕ)
 judge_columns =
-    codes "group" ∷ codes "source" ∷ codes "sent" ∷ codes "least_us" ∷ codes "greatest_us" ∷ codes "late_us" ∷ codes "wrong" ∷ codes "stale"
-    ∷ codes "soon" ∷ codes "late" ∷ codes "missed" ∷ codes "again" ∷ codes "verdict" ∷ []
+    codes "group" ∷ codes "source" ∷ codes "sent" ∷ codes "known" ∷ codes "least_us" ∷ codes "greatest_us" ∷ codes "late_us" ∷ codes "wrong" ∷ codes "stale"
+    ∷ codes "soon" ∷ codes "late" ∷ codes "again" ∷ codes "silent" ∷ codes "missed" ∷ codes "tolerance_us" ∷ codes "verdict" ∷ []
 
-abbrev pub is_bad : Verdict → Bool
-is_bad verdict.Bad = true
-is_bad _ = false
+-- something is found at an output of a group
+abbrev pub is_bad_at : Proposed → List (List ℕ) → Recording → ℕ → ℕ → Bool
+is_bad_at q given r g o = nat_lt 0 (judged q given r g o).found
 
-abbrev pub is_bad_at : Proposed → Option ℕ → Recording → ℕ → ℕ → Bool
-is_bad_at q tolerance r g o = is_bad (judged q tolerance r g o).verdict
-
--- an output of a group is bad
-abbrev pub is_any_bad : Proposed → Option ℕ → Recording → ℕ → Bool
-is_any_bad q tolerance r g = list_any (is_bad_at q tolerance r g) (outputs_at q g)
+-- something is found at one of its outputs
+abbrev pub is_any_bad : Proposed → List (List ℕ) → Recording → ℕ → Bool
+is_any_bad q given r g = list_any (is_bad_at q given r g) (outputs_at q g)
 
 -- or a word of the group is of none of its outputs
-abbrev pub is_found_in : Proposed → Option ℕ → Recording → ℕ → Bool
-is_found_in q tolerance r g = is_any_bad q tolerance r g || nat_lt 0 (length (foreign_in q tolerance r g))
+abbrev pub is_found_in : Proposed → List (List ℕ) → Recording → ℕ → Bool
+is_found_in q given r g = is_any_bad q given r g || nat_lt 0 (length (foreign_in q given r g))
 
 -- something is found
-abbrev pub is_found : Proposed → Option ℕ → Recording → Bool
-is_found q tolerance r = list_any (is_found_in q tolerance r) (groups_at q)
+abbrev pub is_found : Proposed → List (List ℕ) → Recording → Bool
+is_found q given r = list_any (is_found_in q given r) (groups_at q)
 
 -- ---- a row for each finding
 
@@ -153,38 +149,41 @@ kind_text kind.Stale = codes "stale"
 kind_text kind.Soon = codes "soon"
 kind_text kind.Late = codes "late"
 kind_text kind.Again = codes "again"
+kind_text kind.Silent = codes "silent"
 kind_text kind.Missed = codes "missed"
 
--- the row of a word, by the names of its group and source and that of the finding
-abbrev pub event_row : List ℕ → Field → List ℕ → Mark → List Field
-event_row group source finding m = Number m.time ∷ Text group ∷ source ∷ Text finding ∷ Text (hex m.raw) ∷ []
+-- the bus of a word within its group, if the log says one
+abbrev pub bus_field : Option ℕ → Field
+bus_field None = Absent
+bus_field (Some bus) = Number bus
 
-abbrev pub finding_row : List ℕ → List ℕ → Finding → List Field
-finding_row group source x = event_row group (Text source) (kind_text x.kind) x.mark
+-- the row of a word, by the names of its group and source, its bus, and the name of the finding
+abbrev pub event_row : List ℕ → Field → Field → List ℕ → Mark → List Field
+event_row group bus source finding m = Number m.time ∷ Text group ∷ bus ∷ source ∷ Text finding ∷ Text (hex m.raw) ∷ []
 
--- what is found at an output, unless it sent nothing
-abbrev pub found_if_sent : List Duty → Duty → Recording → List Finding
-found_if_sent duties d r = if length (sent_by d r) == 0 then [] else found_at duties d r
+abbrev pub finding_row : List ℕ → List ℕ → ℕ → Finding → List Field
+finding_row group source bus x = event_row group (Number bus) (Text source) (kind_text x.kind) x.mark
 
-abbrev pub output_events : Proposed → Option ℕ → Recording → ℕ → ℕ → List (List Field)
-output_events q tolerance r g o =
-    map (finding_row (group_name q.station g) (output_name q.station g o)) (found_if_sent (duties_of q tolerance g) (duty_of q tolerance g o) r)
+-- the rows of the findings at an output, with its bus by the plan
+abbrev pub output_events : Proposed → List (List ℕ) → Recording → ℕ → ℕ → List (List Field)
+output_events q given r g o =
+    map (finding_row (group_name q.station g) (output_name q.station g o) (duty_of q given g o).bus) (found_at (duties_of q given g) (duty_of q given g o) r)
 
 -- the rows of foreign words
-abbrev pub foreign_event : List ℕ → Mark → List Field
-foreign_event group m = event_row group Absent (codes "foreign") m
+abbrev pub foreign_event : List ℕ → Sent → List Field
+foreign_event group w = event_row group (bus_field w.bus) Absent (codes "foreign") w.mark
 
-abbrev pub foreign_rows : List ℕ → List Mark → List (List Field)
-foreign_rows group marks = map (foreign_event group) marks
+abbrev pub foreign_rows : List ℕ → List Sent → List (List Field)
+foreign_rows group words = map (foreign_event group) words
 
 -- the findings at the outputs of a group in order, and then its foreign words
-abbrev pub group_events : Proposed → Option ℕ → Recording → ℕ → List (List Field)
-group_events q tolerance r g =
-    flat_map (output_events q tolerance r g) (outputs_at q g)
-    ++ foreign_rows (group_name q.station g) (foreign_in q tolerance r g)
+abbrev pub group_events : Proposed → List (List ℕ) → Recording → ℕ → List (List Field)
+group_events q given r g =
+    flat_map (output_events q given r g) (outputs_at q g)
+    ++ foreign_rows (group_name q.station g) (foreign_in q given r g)
 
-abbrev pub judge_events : Proposed → Option ℕ → Recording → List (List Field)
-judge_events q tolerance r = flat_map (group_events q tolerance r) (groups_at q)
+abbrev pub judge_events : Proposed → List (List ℕ) → Recording → List (List Field)
+judge_events q given r = flat_map (group_events q given r) (groups_at q)
 
 abbrev pub event_columns : List (List ℕ)
-event_columns = codes "time_us" ∷ codes "group" ∷ codes "source" ∷ codes "finding" ∷ codes "word" ∷ []
+event_columns = codes "time_us" ∷ codes "group" ∷ codes "bus" ∷ codes "source" ∷ codes "finding" ∷ codes "word" ∷ []

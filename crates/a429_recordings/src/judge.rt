@@ -1,11 +1,11 @@
 //! The command `judge`.
-ghost use Rattle.std.specs.Prelude.{◌≡◌, IfOk};
+ghost use Rattle.std.specs.Prelude.{◌≡◌, None, option_map, IfOk};
 ghost use Rattle.a429_console.specs.Files.{bytes_of};
 ghost use Rattle.a429_arguments.specs.Texts.{texts_of};
 ghost use Rattle.a429_console.specs.Names.{naming_of};
 ghost use Rattle.a429_console.specs.Readings.{HasRead};
 ghost use Rattle.a429_recordings.specs.BoxLogs.{AreOrdered, IsLogsReading, IsNoting, box_word_by, restarted};
-ghost use Rattle.a429_recordings.specs.JudgeReplies.{IsBoxReading, IsJudgeAnswer, IsJudging, IsJudgingOf, IsPrinting, IsRecorded, files_of, names_of};
+ghost use Rattle.a429_recordings.specs.JudgeReplies.{IsBoxReading, IsJudgeAnswer, IsJudging, IsJudgingOf, IsPrinting, IsRecorded, files_of, is_no_group, names_of, no_group_of};
 ghost use Rattle.a429_recordings.specs.declared.judge.words.BoxLog.TheVariants.{Sent};
 
 mod duties;
@@ -22,24 +22,23 @@ use crate::judge::sheets::judge_sheet;
 use crate::judge::words::{BoxLog, BoxWord, BoxWords, read_words};
 use crate::logs::reading_for;
 use a429_arguments::requests::Options;
+use a429_arguments::tolerances::tolerance_group;
 use a429_console::files::FileReader;
 use a429_console::files::reading::{read_file, read_logs};
 use a429_console::planning::{propose, with_plan};
+use a429_console::refusals::tables::no_group;
 use a429_console::refusals::{CommandRefusal, Refused};
 use a429_equipment::Equipment;
 use a429_judge::Judge;
 use a429_logs::{Clock, Reading};
 use a429_replay::Names;
-use a429_slots::{OUTPUTS, Plan, Proposal};
+use a429_slots::{OUTPUTS, Proposal};
 use a429_text::SheetForm;
 use std::alloc::Global;
 
 /// How words are judged, and what is printed of it.
 #[derive(Clone, Copy)]
 pub struct JudgeForm {
-    /// How far recorded times may be wrong, in microseconds. `None`: two slots of the group, or half its shortest period if
-    /// that is less.
-    pub tolerance: Option<u32>,
     /// There is a row for each finding, instead of one for each output.
     pub events: bool,
     pub form: SheetForm,
@@ -57,7 +56,6 @@ impl JudgeForm {
         ensures { result ≡ judge_form (given_of options.now) }
     {
         JudgeForm {
-            tolerance: options.tolerance,
             events: options.events,
             form: options.form,
             reading: reading_for(options),
@@ -65,7 +63,7 @@ impl JudgeForm {
     }
 }
 
-/// The names of the files that are judged, and as which names channels in the logs are taken.
+/// The names of the files that are judged, as which names channels in the logs are taken, and how far times may be wrong.
 #[derive(Clone, Copy)]
 pub struct JudgeNames<'a> {
     pub table: &'a str,
@@ -77,15 +75,19 @@ pub struct JudgeNames<'a> {
     pub more_sent: &'a [&'a str],
     /// Each is FROM=TO: a word with the name FROM is taken as one with the name TO.
     pub channels: &'a [&'a str],
+    /// Each is US, or GROUP=US for one group, in microseconds. The tolerance of a group without one is two slots, or half its
+    /// shortest period if that is less.
+    pub tolerances: &'a [&'a str],
 }
 
-/// The bytes of those files, and these channels.
+/// The bytes of those files, these channels and these tolerances.
 #[derive(Drop)]
 struct JudgeInput<'a> {
     table: Vec<u8>,
     heard: Vec<Vec<u8>>,
     sent: Vec<Vec<u8>>,
     channels: &'a [&'a str],
+    tolerances: &'a [&'a str],
 }
 
 /// Reads the files of these names.
@@ -104,6 +106,7 @@ fn read_input<'a, F: FileReader>(
         heard,
         sent,
         channels: names.channels,
+        tolerances: names.tolerances,
     })
 }
 
@@ -125,19 +128,17 @@ fn restarted(reading: Reading) -> Reading
 /// Reads the logs of what was sent. Error: the first faulty line.
 fn read_sent<'a>(
     alloc: Global,
-    plan: &Plan<OUTPUTS>,
     names: &Names,
     reading: Reading,
     input: &'a JudgeInput<'a>,
 ) -> Result<BoxWords, Refused>
-    ensures read { IsLogsReading (box_word_by plan.now names.now (texts_of input.now.channels.now) Sent) reading
+    ensures read { IsLogsReading (box_word_by names.now (texts_of input.now.channels.now) Sent) reading
         (bytes_of input.now.sent.items) result }
     ensures ordered { IfOk result (λ read. AreOrdered read.words.items) }
 {
     let channels = input.channels;
     match read_words(
         alloc,
-        plan,
         names,
         channels,
         BoxLog::Sent,
@@ -177,10 +178,8 @@ fn read_notes<'a>(
     requires { names.now ≡ naming_of proposal.now.station }
     ensures { IsRecorded proposal.now (files_of input.now) reading result }
 {
-    let tables = proposal.plan();
     let heard = read_words(
         alloc,
-        tables,
         names,
         input.channels,
         BoxLog::Heard,
@@ -188,7 +187,7 @@ fn read_notes<'a>(
         &input.heard,
     )?;
     let next = restarted(heard.next);
-    let sent = read_sent(alloc, tables, names, next, input)?;
+    let sent = read_sent(alloc, names, next, input)?;
     note_words(alloc, proposal.equipment(), &heard.words, &sent.words)
 }
 
@@ -196,22 +195,65 @@ fn read_notes<'a>(
 fn judge_words<'a>(
     alloc: Global,
     proposal: &Proposal<OUTPUTS>,
+    names: &Names,
     input: &'a JudgeInput<'a>,
     form: JudgeForm,
 ) -> Result<Judged, Refused>
+    requires { names.now ≡ naming_of proposal.now.station }
     ensures { IsPrinting proposal.now (files_of input.now) form result }
 {
-    let names = Names::of(alloc, proposal.equipment())?;
-    let judge = read_notes(alloc, proposal, &names, input, form.reading)?;
+    let judge = read_notes(alloc, proposal, names, input, form.reading)?;
     let judging = Judging {
         proposal,
         judge: &judge,
-        tolerance: form.tolerance,
+        tolerances: input.tolerances,
     };
     Ok(judge_sheet(alloc, &judging, form.events, form.form)?)
 }
 
-/// What is said of a box with this plan. Errors: the tolerance is too great; a log is refused.
+/// Whether a tolerance is given for a group that is not there.
+fn is_no_group(names: &Names, text: &str) -> bool
+    ensures { result ≡ is_no_group names.now text.now }
+{
+    match tolerance_group(text) {
+        Some(group) => names.group(group.as_bytes()).is_none(),
+        None => false,
+    }
+}
+
+/// The first group for which a tolerance is given, but which is not there. `None`: each is there.
+fn no_group_of<'a>(names: &Names, tolerances: &'a [&'a str]) -> Option<&'a str>
+    ensures { option_map (λ (name : &str). name.now) result ≡ no_group_of names.now (texts_of tolerances.now) }
+{
+    for text in tolerances {
+        if is_no_group(names, text) {
+            return tolerance_group(text);
+        }
+    }
+    None
+}
+
+/// What is said of a box with this plan, in which each group is there for which a tolerance is given. Errors: a tolerance is
+/// too great; a log is refused.
+fn judge_plan<'a>(
+    alloc: Global,
+    proposal: &Proposal<OUTPUTS>,
+    names: &Names,
+    input: &'a JudgeInput<'a>,
+    form: JudgeForm,
+) -> Result<Judged, Refused>
+    requires names { names.now ≡ naming_of proposal.now.station }
+    requires groups { no_group_of (naming_of proposal.now.station) (texts_of input.now.tolerances.now) ≡ None }
+    ensures { IsJudgingOf proposal.now (files_of input.now) form result }
+{
+    let wide = is_any_wide(alloc, proposal, input.tolerances)?;
+    if wide {
+        return Err(Refused::plain(CommandRefusal::Tolerance));
+    }
+    judge_words(alloc, proposal, names, input, form)
+}
+
+/// What is said of a box with this plan. Errors: a group is not there; a tolerance is too great; a log is refused.
 fn judge_box<'a>(
     alloc: Global,
     proposal: &Proposal<OUTPUTS>,
@@ -220,11 +262,11 @@ fn judge_box<'a>(
 ) -> Result<Judged, Refused>
     ensures { IsJudgingOf proposal.now (files_of input.now) form result }
 {
-    let wide = is_any_wide(alloc, proposal, form.tolerance)?;
-    if wide {
-        return Err(Refused::plain(CommandRefusal::Tolerance));
+    let names = Names::of(alloc, proposal.equipment())?;
+    match no_group_of(&names, input.tolerances) {
+        Some(group) => Err(Refused::plain(no_group(alloc, group))),
+        None => judge_plan(alloc, proposal, &names, input, form),
     }
-    judge_words(alloc, proposal, input, form)
 }
 
 /// What is said of a box, by the bytes of the files. Errors: the table or its plan; those of
@@ -242,8 +284,8 @@ fn judge_input<'a>(
 }
 
 /// Whether what a box sent is right, as a sheet, by a log of what came in and one of what was sent. Each has further logs
-/// that are read after it. Errors, in this order: a file cannot be read; the table, or its plan; the tolerance is more
-/// than half the period of an output; the first faulty line of what came in, and then of what was sent; the two have no
+/// that are read after it. Errors, in this order: a file cannot be read; the table, or its plan; a tolerance is
+/// given for a group that is not there, or is more than half the period of an output; the first faulty line of what came in, and then of what was sent; the two have no
 /// time in common.
 pub fn judge_logs<'a, F: FileReader>(
     alloc: Global,

@@ -3,10 +3,13 @@
 ghost use Rattle.std.specs.Prelude.{◌≡◌, ◌||◌, ◌*◌, ◌^◌, ◌<◌, ◌≤◌, length, IfOk};
 ghost use Rattle.std.specs.List.{list_any};
 ghost use Rattle.a429_slots.specs.Tables.{groups_of, outputs_of};
+ghost use Rattle.a429_arguments.specs.Texts.{texts_of};
 ghost use Rattle.a429_recordings.specs.JudgedPlans.{duties_of, duty_of, is_any_wide, is_wide, label_of, period_at, row_of, sdi_of, shortest_period, tolerance_of};
 ghost use Rattle.a429_recordings.specs.SimulationRuns.{HasPlannedGroup};
 ghost use Rattle.a429_recordings.specs.Timeline.{rate_of, table_of};
 
+use a429_arguments::tolerances::tolerance_for;
+use a429_console::refusals::names::group_name;
 use a429_equipment::{Equipment, OutputRow};
 use a429_grid::SLOT_TIME;
 use a429_judge::{Duty, Facts, Judge, default_tolerance};
@@ -14,13 +17,13 @@ use a429_slots::{OUTPUTS, OutputId, Proposal};
 use a429_text::Gathered;
 use std::alloc::{AllocError, Global};
 
-/// A plan, the words that are judged by it, and the tolerance of their times in microseconds. `None`: the default one of
-/// each group.
+/// A plan, the words that are judged by it, and the tolerances of their times that are given: each is US or GROUP=US, in
+/// microseconds. A group without one has its default.
 #[derive(Clone, Copy)]
 pub struct Judging<'a> {
     pub proposal: &'a Proposal<OUTPUTS>,
     pub judge: &'a Judge,
-    pub tolerance: Option<u32>,
+    pub tolerances: &'a [&'a str],
 }
 
 /// The bit rate of a group.
@@ -99,11 +102,12 @@ fn shortest_period(proposal: &Proposal<OUTPUTS>, group: usize) -> u32
 
 /// The tolerance of a group in microseconds: the one that is given, otherwise two slots, or half the shortest period if that
 /// is less.
-fn tolerance_of(proposal: &Proposal<OUTPUTS>, tolerance: Option<u32>, group: usize) -> u64
+fn tolerance_of(proposal: &Proposal<OUTPUTS>, tolerances: &[&str], group: usize) -> u64
     requires { HasPlannedGroup proposal.now group }
-    ensures { result ≡ tolerance_of proposal.now tolerance group }
+    ensures { result ≡ tolerance_of proposal.now (texts_of tolerances.now) group }
 {
-    match tolerance {
+    let name = group_name(proposal.equipment(), group);
+    match tolerance_for(tolerances, name.as_str().as_bytes()) {
         Some(tolerance) => u64::from(tolerance),
         None => {
             let rate = rate_of(proposal, group);
@@ -116,13 +120,13 @@ fn tolerance_of(proposal: &Proposal<OUTPUTS>, tolerance: Option<u32>, group: usi
 #[tactic(auto, unfolding(crate::specs::JudgedPlans::duty_of))]
 pub fn duty_of(
     proposal: &Proposal<OUTPUTS>,
-    tolerance: Option<u32>,
+    tolerances: &[&str],
     group: usize,
     output: usize,
 ) -> Duty
     requires known { HasPlannedGroup proposal.now group }
     requires output { output < length (outputs_of (table_of proposal.now group)) }
-    ensures { result ≡ duty_of proposal.now tolerance group output }
+    ensures { result ≡ duty_of proposal.now (texts_of tolerances.now) group output }
 {
     let equipment = proposal.equipment();
     let rate = rate_of(proposal, group);
@@ -140,7 +144,7 @@ pub fn duty_of(
             least: u64::from(row.min_us),
             greatest: u64::from(row.max_us),
             hold: row.hold,
-            tolerance: tolerance_of(proposal, tolerance, group),
+            tolerance: tolerance_of(proposal, tolerances, group),
         },
     }
 }
@@ -149,15 +153,15 @@ pub fn duty_of(
 pub fn duties_of(
     alloc: Global,
     proposal: &Proposal<OUTPUTS>,
-    tolerance: Option<u32>,
+    tolerances: &[&str],
     group: usize,
 ) -> Result<Vec<Duty>, AllocError>
     requires { HasPlannedGroup proposal.now group }
-    ensures { IfOk result (λ duties. duties.items ≡ duties_of proposal.now tolerance group) }
+    ensures { IfOk result (λ duties. duties.items ≡ duties_of proposal.now (texts_of tolerances.now) group) }
 {
     let mut duties = Gathered::new(alloc);
     for output in 0..proposal.plan().group(group).outputs() {
-        duties.push(duty_of(proposal, tolerance, group, output));
+        duties.push(duty_of(proposal, tolerances, group, output));
     }
     duties.into_vec()
 }
@@ -177,7 +181,7 @@ pub fn either(first: bool, second: bool) -> bool
     if first { true } else { second }
 }
 
-/// Whether the tolerance is more than half the period of an output.
+/// Whether its tolerance is more than half the period of an output.
 fn is_wide(duty: &Duty) -> bool
     ensures { result ≡ is_wide duty.now }
 {
@@ -196,9 +200,9 @@ fn is_wide_at(duties: &[Duty]) -> bool
 pub fn is_any_wide(
     alloc: Global,
     proposal: &Proposal<OUTPUTS>,
-    tolerance: Option<u32>,
+    tolerances: &[&str],
 ) -> Result<bool, AllocError>
-    ensures { IfOk result (λ wide. wide ≡ is_any_wide proposal.now tolerance) }
+    ensures { IfOk result (λ wide. wide ≡ is_any_wide proposal.now (texts_of tolerances.now)) }
 {
     let mut wide = false;
     for group in 0..proposal.plan().groups() {

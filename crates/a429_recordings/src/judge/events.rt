@@ -3,8 +3,9 @@ ghost use Rattle.std.specs.Prelude.{◌≡◌, ◌<◌, ◌++◌, ◌∷◌, [],
 ghost use Rattle.a429_word.specs.Hexadecimal.{hex};
 ghost use Rattle.a429_text.specs.Fields.{Text};
 ghost use Rattle.a429_text.specs.Sheets.{field_of};
+ghost use Rattle.a429_arguments.specs.Texts.{texts_of};
 ghost use Rattle.a429_slots.specs.Tables.{outputs_of};
-ghost use Rattle.a429_recordings.specs.JudgedPlans.{duties_of, event_row, finding_row, foreign_event, foreign_in, foreign_rows, found_if_sent, group_events, judge_events, kind_text, output_events, outputs_at};
+ghost use Rattle.a429_recordings.specs.JudgedPlans.{bus_field, duties_of, event_row, finding_row, foreign_event, foreign_in, foreign_rows, group_events, judge_events, kind_text, output_events, outputs_at};
 ghost use Rattle.a429_console.specs.Names.{group_name, output_name};
 ghost use Rattle.a429_recordings.specs.SimulationRuns.{HasPlannedGroup};
 ghost use Rattle.a429_recordings.specs.Timeline.{table_of};
@@ -12,12 +13,12 @@ ghost use Rattle.a429_recordings.specs.Timeline.{table_of};
 use crate::judge::duties::{Judging, duties_of, duty_of};
 use a429_console::refusals::names::{group_name, source_name};
 use a429_equipment::Equipment;
-use a429_judge::{Duty, Finding, Judge, Kind, Mark};
+use a429_judge::{Duty, Finding, Kind, Mark, Sent};
 use a429_text::{Cell, Gathered, Rows};
 use std::alloc::{AllocError, Global};
 
 /// The names of the columns.
-pub const EVENT_COLUMNS: &[&str] = &["time_us", "group", "source", "finding", "word"];
+pub const EVENT_COLUMNS: &[&str] = &["time_us", "group", "bus", "source", "finding", "word"];
 
 /// The name of a finding.
 fn kind_text(kind: Kind) -> &'static str
@@ -29,6 +30,7 @@ fn kind_text(kind: Kind) -> &'static str
         Kind::Soon => "soon",
         Kind::Late => "late",
         Kind::Again => "again",
+        Kind::Silent => "silent",
         Kind::Missed => "missed",
     }
 }
@@ -41,20 +43,32 @@ fn hex_text(alloc: Global, raw: u32) -> Result<String, AllocError>
     format!(in alloc; "{raw:08x}")
 }
 
+/// The cell of a bus that may be unknown.
+fn bus_cell(bus: Option<u32>) -> Cell<'static>
+    ensures { field_of result ≡ bus_field bus }
+{
+    match bus {
+        Some(bus) => Cell::Number(u64::from(bus)),
+        None => Cell::Absent,
+    }
+}
+
 /// The cells of the row of a word.
 fn event_cells<'a>(
     group: &'a str,
+    bus: Option<u32>,
     source: Cell<'a>,
     finding: &'a str,
     mark: Mark,
     word: &'a str,
-) -> [Cell<'a>; 5]
+) -> [Cell<'a>; 6]
     requires { word.now ≡ hex mark.raw }
-    ensures { map field_of result ≡ event_row group.now (field_of source.entry) finding.now mark }
+    ensures { map field_of result ≡ event_row group.now (bus_field bus) (field_of source.entry) finding.now mark }
 {
     [
         Cell::Number(mark.time),
         Cell::Text(group),
+        bus_cell(bus),
         source,
         Cell::Text(finding),
         Cell::Text(word),
@@ -66,14 +80,16 @@ fn add_event(
     rows: &mut Rows,
     alloc: Global,
     group: &str,
+    bus: Option<u32>,
     source: Cell<'_>,
     finding: &str,
     mark: Mark,
 ) -> Result<(), AllocError>
-    ensures { OnOk result (rows.new ≡ rows.old ++ event_row group.now (field_of source.entry) finding.now mark ∷ []) }
+    ensures { OnOk result (rows.new ≡ rows.old ++ event_row group.now (bus_field bus) (field_of source.entry) finding.now mark ∷ []) }
 {
     let word = hex_text(alloc, mark.raw)?;
-    rows.add(&event_cells(group, source, finding, mark, word.as_str()));
+    let cells = event_cells(group, bus, source, finding, mark, word.as_str());
+    rows.add(&cells);
     Ok(())
 }
 
@@ -83,38 +99,17 @@ fn add_findings(
     alloc: Global,
     group: &str,
     source: &str,
+    bus: u32,
     found: &[Finding],
 ) -> Result<(), AllocError>
-    ensures { OnOk result (rows.new ≡ rows.old ++ map (finding_row group.now source.now) found.now) }
+    ensures { OnOk result (rows.new ≡ rows.old ++ map (finding_row group.now source.now bus) found.now) }
 {
     for finding in found {
         let source = Cell::Text(source);
-        add_event(
-            rows,
-            alloc,
-            group,
-            source,
-            kind_text(finding.kind),
-            finding.mark,
-        )?;
+        let kind = kind_text(finding.kind);
+        add_event(rows, alloc, group, Some(bus), source, kind, finding.mark)?;
     }
     Ok(())
-}
-
-/// What is found at an output: nothing if it sent nothing. Error: an allocation failed.
-fn found_if_sent(
-    alloc: Global,
-    judge: &Judge,
-    duties: &[Duty],
-    duty: &Duty,
-) -> Result<Gathered<Finding>, AllocError>
-    ensures { IfOk result (λ found. found ≡ found_if_sent duties.now duty.now judge.now) }
-{
-    let sends = judge.sends(alloc, duty);
-    if sends.as_slice()?.is_empty() {
-        return Ok(Gathered::new(alloc));
-    }
-    judge.found(alloc, duties, duty)
 }
 
 /// Adds the rows of these findings at an output. Error: an allocation failed.
@@ -124,14 +119,15 @@ fn add_found(
     equipment: &Equipment,
     group: usize,
     output: usize,
+    bus: u32,
     found: &[Finding],
 ) -> Result<(), AllocError>
     ensures { OnOk result (rows.new ≡ rows.old
-        ++ map (finding_row (group_name equipment.now group) (output_name equipment.now group output)) found.now) }
+        ++ map (finding_row (group_name equipment.now group) (output_name equipment.now group output) bus) found.now) }
 {
     let name = group_name(equipment, group);
     let source = source_name(equipment, group, output);
-    add_findings(rows, alloc, name.as_str(), source.as_str(), found)
+    add_findings(rows, alloc, name.as_str(), source.as_str(), bus, found)
 }
 
 /// Adds the rows of the findings at an output. Error: an allocation failed.
@@ -145,21 +141,15 @@ fn add_output(
 ) -> Result<(), AllocError>
     requires known { HasPlannedGroup judging.now.proposal.now group }
     requires output { output < length (outputs_of (table_of judging.now.proposal.now group)) }
-    requires duties { duties.now ≡ duties_of judging.now.proposal.now judging.now.tolerance group }
+    requires duties { duties.now ≡ duties_of judging.now.proposal.now (texts_of judging.now.tolerances.now) group }
     ensures { OnOk result (rows.new ≡ rows.old
-        ++ output_events judging.now.proposal.now judging.now.tolerance judging.now.judge.now group output) }
+        ++ output_events judging.now.proposal.now (texts_of judging.now.tolerances.now) judging.now.judge.now group output) }
 {
-    let duty = duty_of(judging.proposal, judging.tolerance, group, output);
-    let found = found_if_sent(alloc, judging.judge, duties, &duty)?;
+    let duty = duty_of(judging.proposal, judging.tolerances, group, output);
+    let found = judging.judge.found(alloc, duties, &duty)?;
     let found = found.as_slice()?;
-    add_found(
-        rows,
-        alloc,
-        judging.proposal.equipment(),
-        group,
-        output,
-        found,
-    )
+    let equipment = judging.proposal.equipment();
+    add_found(rows, alloc, equipment, group, output, duty.bus, found)
 }
 
 /// Adds the rows of the findings at a group's outputs. Error: an allocation failed.
@@ -171,9 +161,9 @@ fn add_outputs(
     duties: &[Duty],
 ) -> Result<(), AllocError>
     requires known { HasPlannedGroup judging.now.proposal.now group }
-    requires duties { duties.now ≡ duties_of judging.now.proposal.now judging.now.tolerance group }
+    requires duties { duties.now ≡ duties_of judging.now.proposal.now (texts_of judging.now.tolerances.now) group }
     ensures { OnOk result (rows.new ≡ rows.old
-        ++ flat_map (output_events judging.now.proposal.now judging.now.tolerance judging.now.judge.now group)
+        ++ flat_map (output_events judging.now.proposal.now (texts_of judging.now.tolerances.now) judging.now.judge.now group)
         (outputs_at judging.now.proposal.now group)) }
 {
     for output in 0..judging.proposal.plan().group(group).outputs() {
@@ -187,11 +177,11 @@ fn add_foreign_event(
     rows: &mut Rows,
     alloc: Global,
     group: &str,
-    mark: Mark,
+    word: &Sent,
 ) -> Result<(), AllocError>
-    ensures { OnOk result (rows.new ≡ rows.old ++ foreign_event group.now mark ∷ []) }
+    ensures { OnOk result (rows.new ≡ rows.old ++ foreign_event group.now word.now ∷ []) }
 {
-    add_event(rows, alloc, group, Cell::Absent, "foreign", mark)
+    add_event(rows, alloc, group, word.bus, Cell::Absent, "foreign", word.mark)
 }
 
 /// Adds the rows of foreign words. Error: an allocation failed.
@@ -199,12 +189,12 @@ fn add_foreign(
     rows: &mut Rows,
     alloc: Global,
     group: &str,
-    foreign: &[Mark],
+    foreign: &[Sent],
 ) -> Result<(), AllocError>
     ensures { OnOk result (rows.new ≡ rows.old ++ map (foreign_event group.now) foreign.now) }
 {
-    for mark in foreign {
-        add_foreign_event(rows, alloc, group, *mark)?;
+    for word in foreign {
+        add_foreign_event(rows, alloc, group, word)?;
     }
     Ok(())
 }
@@ -217,14 +207,14 @@ fn add_foreign_of(
     group: usize,
     duties: &[Duty],
 ) -> Result<(), AllocError>
-    requires { duties.now ≡ duties_of judging.now.proposal.now judging.now.tolerance group }
+    requires { duties.now ≡ duties_of judging.now.proposal.now (texts_of judging.now.tolerances.now) group }
     ensures { OnOk result (rows.new ≡ rows.old ++ foreign_rows (group_name judging.now.proposal.now.station group)
-        (foreign_in judging.now.proposal.now judging.now.tolerance judging.now.judge.now group)) }
+        (foreign_in judging.now.proposal.now (texts_of judging.now.tolerances.now) judging.now.judge.now group)) }
 {
     let foreign = judging.judge.foreign(alloc, duties, group);
-    let marks = foreign.as_slice()?;
+    let words = foreign.as_slice()?;
     let name = group_name(judging.proposal.equipment(), group);
-    add_foreign(rows, alloc, name.as_str(), marks)
+    add_foreign(rows, alloc, name.as_str(), words)
 }
 
 /// Adds the rows of a group. Error: an allocation failed.
@@ -236,9 +226,9 @@ fn add_group(
 ) -> Result<(), AllocError>
     requires { HasPlannedGroup judging.now.proposal.now group }
     ensures { OnOk result (rows.new ≡ rows.old
-        ++ group_events judging.now.proposal.now judging.now.tolerance judging.now.judge.now group) }
+        ++ group_events judging.now.proposal.now (texts_of judging.now.tolerances.now) judging.now.judge.now group) }
 {
-    let duties = duties_of(alloc, judging.proposal, judging.tolerance, group)?;
+    let duties = duties_of(alloc, judging.proposal, judging.tolerances, group)?;
     add_outputs(rows, alloc, judging, group, &duties)?;
     add_foreign_of(rows, alloc, judging, group, &duties)?;
     Ok(())
@@ -247,7 +237,7 @@ fn add_group(
 /// Adds the rows of all groups. Error: an allocation failed.
 pub fn add_events(rows: &mut Rows, alloc: Global, judging: &Judging<'_>) -> Result<(), AllocError>
     ensures { OnOk result (rows.new ≡ rows.old
-        ++ judge_events judging.now.proposal.now judging.now.tolerance judging.now.judge.now) }
+        ++ judge_events judging.now.proposal.now (texts_of judging.now.tolerances.now) judging.now.judge.now) }
 {
     for group in 0..judging.proposal.plan().groups() {
         add_group(rows, alloc, judging, group)?;

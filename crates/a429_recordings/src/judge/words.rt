@@ -10,7 +10,6 @@ use a429_console::refusals::Refused;
 use a429_console::refusals::evidence::{LineEvidence, LogRefusal};
 use a429_logs::{Reading, StatedWord};
 use a429_replay::Names;
-use a429_slots::{OUTPUTS, Plan};
 use a429_word::decimal_number;
 use std::alloc::Global;
 
@@ -47,16 +46,12 @@ pub struct BoxWords {
     pub next: Reading,
 }
 
-/// The bus of a group by its number. `None` if the group has no such bus.
-fn bus_named(plan: &Plan<OUTPUTS>, group: u8, text: &[u8]) -> Option<u32>
-    ensures { result ≡ bus_named plan.now group text.now }
+/// A bus by its number; the plan need not have it. `None` if the text is no number below 2^32.
+fn bus_named(text: &[u8]) -> Option<u32>
+    ensures { result ≡ bus_named text.now }
 {
-    let group = usize::from(group);
-    if group >= plan.groups() {
-        return None;
-    }
     let bus = decimal_number(text)?;
-    if bus < u64::from(plan.group(group).buses()) {
+    if bus < 4_294_967_296 {
         Some(bus as u32)
     } else {
         None
@@ -84,13 +79,13 @@ fn receiver_place(names: &Names, name: &[u8]) -> Option<Place>
 }
 
 /// A bus of a group, by the names of both.
-fn bus_place(plan: &Plan<OUTPUTS>, names: &Names, group: &[u8], bus: &[u8]) -> Option<Place>
-    ensures { result ≡ bus_place plan.now names.now group.now bus.now }
+fn bus_place(names: &Names, group: &[u8], bus: &[u8]) -> Option<Place>
+    ensures { result ≡ bus_place names.now group.now bus.now }
 {
     let Some(number) = names.group(group) else {
         return None;
     };
-    match bus_named(plan, number, bus) {
+    match bus_named(bus) {
         Some(bus) => Some(Place {
             number,
             bus: Some(bus),
@@ -107,24 +102,24 @@ fn dot_in(name: &[u8]) -> Option<usize>
     name.iter().position(|byte| *byte == DOT)
 }
 
-/// The place of a word that was sent, by `GROUP` or `GROUP.BUS`. `None` if no group has that name, or the group has no such bus.
+/// The place of a word that was sent, by `GROUP` or `GROUP.BUS`. `None` if no group has that name, or BUS is no number.
 #[tactic(auto, unfolding(crate::specs::BoxLogs::sent_place))]
-fn sent_place(plan: &Plan<OUTPUTS>, names: &Names, name: &[u8]) -> Option<Place>
-    ensures { result ≡ sent_place plan.now names.now name.now }
+fn sent_place(names: &Names, name: &[u8]) -> Option<Place>
+    ensures { result ≡ sent_place names.now name.now }
 {
     match dot_in(name) {
         None => group_place(names, name),
-        Some(at) => bus_place(plan, names, &name[..at], &name[at + 1..]),
+        Some(at) => bus_place(names, &name[..at], &name[at + 1..]),
     }
 }
 
 /// The place of a word, by its name. `None` if there is no such place.
-fn place_named(plan: &Plan<OUTPUTS>, names: &Names, log: BoxLog, name: &[u8]) -> Option<Place>
-    ensures { result ≡ place_named plan.now names.now log name.now }
+fn place_named(names: &Names, log: BoxLog, name: &[u8]) -> Option<Place>
+    ensures { result ≡ place_named names.now log name.now }
 {
     match log {
         BoxLog::Heard => receiver_place(names, name),
-        BoxLog::Sent => sent_place(plan, names, name),
+        BoxLog::Sent => sent_place(names, name),
     }
 }
 
@@ -136,10 +131,9 @@ fn no_place(log: BoxLog) -> LogRefusal {
     }
 }
 
-/// The words of logs at places of this plan and of these names.
+/// The words of logs at places of these names.
 #[derive(Drop)]
 struct PlaceWords<'a> {
-    plan: &'a Plan<OUTPUTS>,
     names: &'a Names,
     log: BoxLog,
     words: Vec<BoxWord>,
@@ -151,7 +145,7 @@ impl WordKeeper for PlaceWords<'_> {
 
     ghost Item = { BoxWord };
 
-    ghost item = { λ kept. box_word kept.plan.now kept.names.now kept.log };
+    ghost item = { λ kept. box_word kept.names.now kept.log };
 
     ghost kept = { λ kept. kept.words.items };
 
@@ -161,7 +155,7 @@ impl WordKeeper for PlaceWords<'_> {
         if word.time >= 100_000_000_000_000 {
             return Err(KeepFault::Line(LogRefusal::Late));
         }
-        let Some(place) = place_named(self.plan, self.names, self.log, word.name) else {
+        let Some(place) = place_named(self.names, self.log, word.name) else {
             return Err(KeepFault::Line(no_place(self.log)));
         };
         self.words.push(BoxWord {
@@ -182,18 +176,16 @@ impl WordKeeper for PlaceWords<'_> {
 /// at 10^14 us or later.
 pub fn read_words<'a>(
     alloc: Global,
-    plan: &Plan<OUTPUTS>,
     names: &Names,
     channels: &'a [&'a str],
     log: BoxLog,
     reading: Reading,
     texts: &'a [Vec<u8>],
 ) -> Result<BoxWords, Refused>
-    ensures read { IsLogsReading (box_word_by plan.now names.now (texts_of channels.now) log) reading (bytes_of texts.now) result }
+    ensures read { IsLogsReading (box_word_by names.now (texts_of channels.now) log) reading (bytes_of texts.now) result }
     ensures ordered { IfOk result (λ read. AreOrdered read.words.items) }
 {
     let mut kept = PlaceWords {
-        plan,
         names,
         log,
         words: Vec::new(alloc),

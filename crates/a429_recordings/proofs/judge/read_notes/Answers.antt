@@ -17,7 +17,7 @@ returns-in_err-heard c =
     let reading = c.args.reading in
     let e = c.in_err-heard.field-0.0 in
     let p = err_from_is_err_and c.from_residual.result c.from_residual.ensures.1 in
-    let fault : OrMemory (IsHeardFault q i reading) e = rw (c.plan-tables.ensures.plan, c.requires, c.deref.ensures.value) at c.in_err-heard.ensures.read in
+    let fault : OrMemory (IsHeardFault q i reading) e = rw (c.requires, c.deref.ensures.value) at c.in_err-heard.ensures.read in
     failed c.from_residual.result _ (OrMemory (IsNoRecording q i reading)) e (p.1 ∙ ap Err p.2)
     (or_memory_weaker (IsHeardFault q i reading) (IsNoRecording q i reading) e (λ one. inl one) fault)
 
@@ -29,11 +29,11 @@ returns-in_err-sent c =
     let e = c.in_err-sent.field-0.0 in
     let p = err_from_is_err_and c.from_residual-in_err-sent.result c.from_residual-in_err-sent.ensures.1 in
     let words = c.in_ok-heard.heard.words.items in
-    let its : heard_words q i.channels reading i.heard ≡ Ok words = rw (c.plan-tables.ensures.plan, c.requires, c.deref.ensures.value) at c.in_ok-heard.ensures.read.0 in
+    let its : heard_words q i.channels reading i.heard ≡ Ok words = rw (c.requires, c.deref.ensures.value) at c.in_ok-heard.ensures.read.0 in
     let after : c.in_ok-heard.heard.next ≡ reading_behind reading i.heard = rw c.deref.ensures.value at c.in_ok-heard.ensures.read.1 in
     let next : c.restarted-next.result ≡ sent_reading reading i.heard = c.restarted-next.ensures ∙ ap restarted after in
     let fault : OrMemory (IsItemFault (word_by q i.channels log.Sent) (sent_reading reading i.heard) i.sent) e =
-    rw (c.plan-tables.ensures.plan, c.requires, next) at c.in_err-sent.ensures.read in
+    rw (c.requires, next) at c.in_err-sent.ensures.read in
     failed c.from_residual-in_err-sent.result _ (OrMemory (IsNoRecording q i reading)) e (p.1 ∙ ap Err p.2)
     (or_memory_weaker (IsItemFault (word_by q i.channels log.Sent) (sent_reading reading i.heard) i.sent) (IsNoRecording q i reading) e (λ one. inr (inl (words, its, one))) fault)
 
@@ -44,8 +44,8 @@ returns c =
     let reading = c.args.reading in
     let heard = c.in_ok-heard.heard.words.items in
     let sent = c.in_ok-sent.sent.words.items in
-    let its : heard_words q i.channels reading i.heard ≡ Ok heard = rw (c.plan-tables.ensures.plan, c.requires, c.deref.ensures.value) at c.in_ok-heard.ensures.read.0 in
+    let its : heard_words q i.channels reading i.heard ≡ Ok heard = rw (c.requires, c.deref.ensures.value) at c.in_ok-heard.ensures.read.0 in
     let after : c.in_ok-heard.heard.next ≡ reading_behind reading i.heard = rw c.deref.ensures.value at c.in_ok-heard.ensures.read.1 in
     let next : c.restarted-next.result ≡ sent_reading reading i.heard = c.restarted-next.ensures ∙ ap restarted after in
-    let others : sent_words q i.channels (sent_reading reading i.heard) i.sent ≡ Ok sent = rw (c.plan-tables.ensures.plan, c.requires, next) at c.in_ok-sent.ensures.read.0 in
+    let others : sent_words q i.channels (sent_reading reading i.heard) i.sent ≡ Ok sent = rw (c.requires, next) at c.in_ok-sent.ensures.read.0 in
     recorded q i reading heard sent c.note_words.result its others (rw (c.equipment.ensures.equipment, c.deref-2.ensures.value, c.deref-3.ensures.value) at c.note_words.ensures)
