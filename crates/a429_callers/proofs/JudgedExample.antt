@@ -15,10 +15,11 @@ use Rattle.a429_equipment.specs.declared.rows.OutputRow.{OutputRow}
 use Rattle.a429_equipment.specs.declared.rows.ReceiverRow.{ReceiverRow}
 use Rattle.a429_equipment.specs.declared.rows.SourceRow.{SourceRow}
 use Rattle.a429_grid.specs.Reversal.{reversed}
-use Rattle.a429_judge.specs.declared.duties.Heard.{Heard}
-use Rattle.a429_judge.specs.declared.duties.Sent.{Sent}
-use Rattle.a429_judge.specs.Machine.{known_by}
-use Rattle.a429_judge.specs.Recordings.{IsKept, accepted_of, span_of}
+use Rattle.a429_judge.specs.declared.facts.Mark.{Mark}
+use Rattle.a429_judge.specs.Judging.{mark_at, time_at}
+use Rattle.a429_judge.specs.Laws.{AreNear, IsPieceOf}
+use Rattle.a429_judge.specs.Machine.{known_by, moment_at}
+use Rattle.a429_judge.specs.Recordings.{accepted_of, span_of}
 use Rattle.a429_pack.specs.Sums.{start_of}
 use Rattle.a429_slots.specs.Events.{Event, Arrive, Cell, Frame, Publish}
 use Rattle.a429_slots.specs.History.{accepted_by, cell_due, current}
@@ -28,10 +29,10 @@ use Rattle.a429_slots.specs.Proposed.{Proposed}
 use Rattle.a429_slots.specs.Spacing.{HaveOwnPlans}
 use Rattle.a429_slots.specs.Tables.{Placed, SlotTable, cell_at, demands_of, output_in, outputs_of, placed_at}
 use Rattle.a429_core.specs.Histories.{IsCellAt}
-use Rattle.a429_core.specs.Latency.{next_slot_on}
+use Rattle.a429_core.specs.Latency.{next_slot_on, period_of}
 use Rattle.a429_callers.specs.ChangesExample.{source, table_of}
-use Rattle.a429_callers.specs.JudgedExample.{MeetsPremisesOfJudging, events, group, log, opening, output, row, run, station, timing}
-use Rattle.a429_callers.specs.JudgedGroups.{IsRecordedRun, moment_of}
+use Rattle.a429_callers.specs.JudgedExample.{MeetsPremisesOfJudging, events, group, log, moments_of, opening, output, row, run, station, timing, words_of}
+use Rattle.a429_callers.specs.JudgedGroups.{AreTimed, IsRecordedRun, facts_of}
 use Rattle.a429_callers.specs.SlotBoxes.{known_at}
 use Rattle.a429_callers.proofs.ChangesExample.{apart, one_bus_for_four, stands_only_four, stands_there_four}
 use Rattle.a429_callers.proofs.ManyChangesExample.{each_of}
@@ -141,7 +142,7 @@ empty_at k n slot x I due none =
 
 -- how many words are known at a place, by the log
 abbrev IsKnown : ℕ → Placed → ℕ → Type 0
-IsKnown k x slot = known_at 41 run x k ≡ known_by 100000 (accepted_of x.source log.heard) (moment_of group timing slot)
+IsKnown k x slot = known_at 41 run x k ≡ known_by (timing.moments x.source) (timing.begin slot)
 
 -- a place with a cell of the output
 full : (k n : ℕ) → cell_due 0 (current opening 0 table (take k events)) ≡ Some (0, n) → output_in (current opening 0 table (take k events)).table 0 n ≡ Some output
@@ -250,12 +251,63 @@ rises f (x ∷ y ∷ xs) h =
     let less : f x ≤ f y = grind (arith, nat_tests, first) in
     rising_more f x y xs less (rises f (y ∷ xs) both.1)
 
-kept : IsKept log
-kept = record {
-  heard = rises (λ (h : Heard). h.mark.time) log.heard refl;
-  heard_last = λ d some. omega arith;
-  sent = rises (λ (w : Sent). w.mark.time) log.sent refl;
-  sent_last = λ d some. omega arith;
+-- ---- times
+
+no_words : (n : ℕ) → accepted_of (suc n) log.heard ≡ []
+no_words n = let other : (0 == suc n) ≡ false = ne_eqb 0 (suc n) (λ h. omega (arith, h)) in rw other refl
+
+near_moments : (i : ℕ) → i < 3 → (moment_at (moments_of 0) i ≤ time_at (words_of 0) i * 100000 + 6000000) × (time_at (words_of 0) i * 100000 ≤ moment_at (moments_of 0) i + 6000000)
+near_moments zero lt = (omega arith, omega arith)
+near_moments (suc zero) lt = (omega arith, omega arith)
+near_moments (suc (suc zero)) lt = (omega arith, omega arith)
+near_moments (suc (suc (suc i))) lt = absurd (omega (arith, lt))
+
+heard_same : (i : ℕ) → i < 2 → mark_at (accepted_of 0 log.heard) i ≡ mark_at (words_of 0) (1 + i)
+heard_same zero lt = refl
+heard_same (suc zero) lt = refl
+heard_same (suc (suc i)) lt = absurd (omega (arith, lt))
+
+piece : (source : ℕ) → IsPieceOf 5000 100000 6000000 (words_of source) (moment_at (moments_of source)) (accepted_of source log.heard)
+piece zero = record {
+  early = λ i lt. (near_moments i lt).0;
+  late = λ i lt. (near_moments i lt).1;
+  rise = rises (λ (a : Mark). a.time) (words_of 0) refl;
+  skipped = 1;
+  within = omega arith;
+  same = heard_same;
+  rest = λ i le lt. absurd (omega (arith, le, lt));
+}
+piece (suc n) =
+    subst (λ (marks : List Mark). IsPieceOf 5000 100000 6000000 [] (moment_at []) marks) (sym (no_words n)) (record {
+      early = λ i lt. absurd (omega (arith, lt));
+      late = λ i lt. absurd (omega (arith, lt));
+      rise = rises (λ (a : Mark). a.time) [] refl;
+      skipped = 0;
+      within = omega arith;
+      same = λ i lt. absurd (omega (arith, lt));
+      rest = λ i le lt. absurd (omega (arith, lt));
+    })
+
+moments_rise : (source : ℕ) → IsNonDecreasingBy (λ (m : ℕ). m) (moments_of source)
+moments_rise zero = rises (λ (m : ℕ). m) (moments_of 0) refl
+moments_rise (suc n) = rises (λ (m : ℕ). m) [] refl
+
+as_many : (source : ℕ) → length (moments_of source) ≡ length (words_of source)
+as_many zero = refl
+as_many (suc n) = refl
+
+-- only the output is in the table
+the_output : (P : Placed → Type 0) (number : ℕ) (x : Placed) → slice_get (outputs_of table) number ≡ Some x → P output → P x
+the_output P zero x there here = subst P (same_Some output x there) here
+the_output P (suc n) x there here = absurd (none-some x there)
+
+timed : AreTimed group timing
+timed = record {
+  rise = λ slot. omega arith;
+  near = λ number z x listed there. the_output (λ (y : Placed). AreNear (facts_of 100000 720 z y) 1 6000000 40000) number x there
+      (record { fine = omega arith; bounded = omega arith; slower = omega arith });
+  soonest = λ number slot x there. the_output (λ (y : Placed). timing.begin slot + period_of y.place * 36000000 * 1 ≤ timing.begin (slot + period_of y.place) + 40000) number x there (omega arith);
+  latest = λ number slot x there. the_output (λ (y : Placed). timing.begin (slot + period_of y.place) ≤ timing.begin slot + period_of y.place * 36000000 * 1 + 40000) number x there (omega arith);
 }
 
 on_bus : (number bus : ℕ) (x : Placed) → slice_get (outputs_of table) number ≡ Some x → Some 0 ≡ Some bus → bus ≡ x.place.bus
@@ -265,35 +317,32 @@ on_bus (suc n) bus x there is = absurd (none-some x there)
 recorded : IsRecordedRun 41 group timing log
 unfolding cell_at ones_from number_from reversed_from
 recorded = record {
-  fine = omega arith;
+  timed = timed;
   short = omega arith;
   heard = heard;
+  many = as_many;
+  rise = moments_rise;
+  piece = piece;
   asked = asked;
   sent = (
     record { word = refl; bus = λ number bus x there same is. absurd (none-some bus is); early = omega arith; late = omega arith },
-    (
-      record { word = refl; bus = λ number bus x there same is. absurd (none-some bus is); early = omega arith; late = omega arith },
-      (record { word = refl; bus = λ number bus x there same is. on_bus number bus x there is; early = omega arith; late = omega arith }, tt),
-    ),
+    (record { word = refl; bus = λ number bus x there same is. on_bus number bus x there is; early = omega arith; late = omega arith }, tt),
   );
-  ends = ends;
+  begun = omega arith;
+  opens = omega arith;
+  ends = λ number x there. the_output
+  (λ (y : Placed). (span_of 0 log).last * (100000 * 1) ≤ timing.begin (next_slot_on run (length events) y.place.bus) + 10000000 + 6000000) number x there (omega arith);
 }
   where
-    heard : (source : ℕ) → map (λ a. a.raw) (accepted_of source log.heard) ≡ accepted_by 41 opening source events
+    heard : (source : ℕ) → map (λ a. a.raw) (words_of source) ≡ accepted_by 41 opening source events
     heard zero = refl
     heard (suc n) = let other : (0 == suc n) ≡ false = ne_eqb 0 (suc n) (λ h. omega (arith, h)) in rw other refl
-
-    ends : (number : ℕ) (x : Placed) → slice_get (outputs_of table) number ≡ Some x
-        → 2 * ((span_of 0 log).last * (100000 * 1)) < 2 * (moment_of group timing (next_slot_on run (length events) x.place.bus) + 10000000) + 720 * (100000 * 1)
-    ends zero x there = subst (λ (y : Placed). 2 * ((span_of 0 log).last * (100000 * 1)) < 2 * (moment_of group timing (next_slot_on run (length events) y.place.bus) + 10000000) + 720 * (100000 * 1)) (same_Some output x there) (omega arith)
-    ends (suc n) x there = absurd (none-some x there)
 
 pub meets : MeetsPremisesOfJudging
 unfolding cell_at ones_from number_from reversed_from
 meets = record {
   keeps = record { sound = sound; planned = record { apart = apart; opens = refl; own = own }; kept = refl; rated = refl };
   recorded = recorded;
-  kept = kept;
   own = omega arith;
   sends = refl;
 }

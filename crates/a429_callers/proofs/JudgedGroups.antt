@@ -1,4 +1,4 @@
--- Logs of a group that keeps to the plan of its table: each output is ok, or sent nothing.
+-- Logs of a group that keeps to the plan of its table: nothing is found.
 use Rattle.std.proofs.Common.{◌≡◌, ◌∙◌, ℕ, zero, suc, ◌+◌, ◌-◌, ◌*◌, ◌/◌, ◌<◌, ◌≤◌, ◌⊎◌, Bool, true, false, List, [], ◌∷◌, ◌++◌, length, take, map, sym, ap, subst, refl, inl, inr, arith}
 use Rattle.std.specs.Prelude.{Option, Some, ◌==◌, IfSome, filter, if◌then◌else◌, drop, is_some, nat_le, nat_lt, option_map, slice_get}
 use Rattle.std.specs.List.{AllByRecursion, AllZip, find, zip}
@@ -19,13 +19,11 @@ use Rattle.a429_judge.specs.declared.duties.Duty.{Duty}
 use Rattle.a429_judge.specs.declared.duties.Sent.{Sent}
 use Rattle.a429_judge.specs.declared.facts.Facts.{Facts}
 use Rattle.a429_judge.specs.declared.facts.Mark.{Mark}
-use Rattle.a429_judge.specs.declared.judgements.Verdict.{Verdict}
-use Rattle.a429_judge.specs.declared.judgements.Verdict.TheVariants as verdict
-use Rattle.a429_judge.specs.Judgements.{accepted_by, found_at, judgement_by, judgement_of, sent_by}
+use Rattle.a429_judge.specs.Judgements.{accepted_by, found_at, sent_by}
 use Rattle.a429_judge.specs.Judging.{mark_at, no_mark, time_at}
-use Rattle.a429_judge.specs.Laws.{ArePlanned, GridPeriodsArePlanned}
-use Rattle.a429_judge.specs.Machine.{IsRecordOf, RecordedBoxIsOk, SlotSend, begin_of, box_sends, known_by, no_send, send_at, slot_send, slot_sends}
-use Rattle.a429_judge.specs.Recordings.{IsKept, Recording, accepted_of, overlapping, span_of}
+use Rattle.a429_judge.specs.Laws.{ArePlanned, AreSlots, GridPeriodsArePlanned}
+use Rattle.a429_judge.specs.Machine.{IsRecordOf, RecordedBoxHasNoFinding, SlotSend, box_sends, no_send, send_at, slot_send, slot_sends}
+use Rattle.a429_judge.specs.Recordings.{Recording, overlapping, span_of}
 use Rattle.a429_slots.specs.History.{AnsweredCell, answered_cells, has_sent}
 use Rattle.a429_slots.specs.Planned.{IsPlanOf, IsPlannedAt, IsPlannedFor, IsServed, rated_outputs}
 use Rattle.a429_slots.specs.Spacing.{IsSpacedTable}
@@ -36,7 +34,7 @@ use Rattle.a429_core.specs.Histories.{GroupHistory}
 use Rattle.a429_core.specs.Latency.{next_slot_on, period_of}
 use Rattle.a429_core.specs.Spaced.{AreSpaced}
 use Rattle.a429_core.proofs.Rounds.{AreSpacedTables}
-use Rattle.a429_callers.specs.JudgedGroups.{IsRecordedAs, IsRecordedRun, JudgedGroup, KeepsPlan, OutputsArePlanned, PlannedGroupsSendNoneForeign, Timing, duties_in, duty_in, facts_of, is_logged, moment_of, station_of}
+use Rattle.a429_callers.specs.JudgedGroups.{IsRecordedAs, IsRecordedRun, JudgedGroup, KeepsPlan, OutputsArePlanned, PlannedGroupsSendNoneForeign, Timing, duties_in, duty_in, facts_of, station_of}
 use Rattle.a429_callers.specs.SlotBoxes.{SendsAsRightBox, cell_of, right_sends, slot_of}
 use Rattle.a429_callers.proofs.LoggedSends.{IsSkipped, StaysTrue, filter_mapped, skips}
 use Rattle.a429_callers.proofs.RecordedWords.{IsOfOutput, all_passes, filter_kept, fits_rest, none_foreign, of_outputs, words_of_output}
@@ -57,14 +55,6 @@ same_lengths R [] [] pairs = refl
 same_lengths R [] (y ∷ ys) pairs = absurd pairs
 same_lengths R (x ∷ xs) [] pairs = absurd pairs
 same_lengths R (x ∷ xs) (y ∷ ys) pairs = omega (arith, same_lengths R xs ys pairs.1)
-
-find_first : {A : Type 0} (p : A → Bool) (xs : List A) → find p xs ≡ slice_get (filter p xs) 0
-find_first p [] = refl
-find_first {A} p (x ∷ xs) = by_test (p x) (find_first p xs)
-  where
-    by_test : (b : Bool) → find p xs ≡ slice_get (filter p xs) 0 → (if b then Some x else find p xs) ≡ slice_get (if b then x ∷ filter p xs else filter p xs) 0
-    by_test true rest = refl
-    by_test false rest = rest
 
 -- ---- planned outputs
 
@@ -123,13 +113,6 @@ module _ (law : AreSpaced) (C : ℕ) (j : JudgedGroup) (c : Timing) (r : Recordi
     (listed : slice_get j.rows number ≡ Some row) (there : slice_get (outputs_of j.history.table) number ≡ Some x) (apart : overlapping (duty_in j (row, x)) (duties_in j) ≤ 1) where
   abbrev E : GroupHistory
   E = j.history
-
-  abbrev units : ℕ
-  units = j.rate * c.finer
-
-  -- how long a slot is
-  abbrev length_of : ℕ
-  length_of = 36000000 * c.finer
 
   abbrev own : Duty
   own = duty_in j (row, x)
@@ -219,20 +202,41 @@ module _ (law : AreSpaced) (C : ℕ) (j : JudgedGroup) (c : Timing) (r : Recordi
 
   -- ---- its slots in time
 
-  abbrev first : ℕ
-  first = c.first + x.place.offset * length_of
+  abbrev begin : ℕ → ℕ
+  begin n = c.begin (slot_of E x n)
 
-  begin_is : (n : ℕ) → begin_of facts c.finer first n ≡ moment_of j c (slot_of E x n)
-  begin_is n =
-      let slot : slot_of E x n - E.opening.first ≡ x.place.offset + n * period = omega arith in
-      let sum : (x.place.offset + n * period) * (36000000 * c.finer) ≡ x.place.offset * (36000000 * c.finer) + n * (period * 36000000 * c.finer) = omega arith in
-      sym (ap (λ (k : ℕ). c.first + k * (36000000 * c.finer)) slot ∙ omega (arith, sum))
+  slots_on : (m d : ℕ) → c.begin m ≤ c.begin (m + d)
+  slots_on m zero = let e : m ≡ m + 0 = omega arith in let g = ap c.begin e in omega (arith, g)
+  slots_on m (suc d) =
+      let rest = slots_on m d in
+      let next = R.timed.rise (m + d) in
+      let e : m + d + 1 ≡ m + suc d = omega arith in
+      let g = ap c.begin e in
+      omega (arith, rest, next, g)
+
+  slots_rise : (m n : ℕ) → m ≤ n → c.begin m ≤ c.begin n
+  slots_rise m n le =
+      let e : m + (n - m) ≡ n = omega (arith, le) in
+      let g = ap c.begin e in
+      omega (arith, slots_on m (n - m), g)
+
+  next_slot : (n : ℕ) → slot_of E x n + period ≡ slot_of E x (n + 1)
+  next_slot n = omega arith
+
+  are_slots : AreSlots facts c.finer c.drift begin
+  are_slots = record {
+    soonest = λ n. let g = ap c.begin (next_slot n) in omega (arith, R.timed.soonest number (slot_of E x n) x there, g);
+    latest = λ n. let g = ap c.begin (next_slot n) in omega (arith, R.timed.latest number (slot_of E x n) x there, g);
+  }
+
+  abbrev moments : List ℕ
+  moments = c.moments x.source
 
   abbrev box_list : List SlotSend
-  box_list = box_sends facts c.finer first (accepted_by own r) slots
+  box_list = box_sends facts begin moments slots
 
   box_is : box_list ≡ sends
-  box_is = same_sends x.limits.hold _ _ slots (λ n lt. sym (R.asked (box.asks.place n) x (slot_of E x n) (box.asks.cell n lt) ∙ ap (known_by units (accepted_of x.source r.heard)) (sym (begin_is n))))
+  box_is = same_sends x.limits.hold _ _ slots (λ n lt. sym (R.asked (box.asks.place n) x (slot_of E x n) (box.asks.cell n lt)))
 
   send_is : (k : ℕ) → (S : SendHere k) → send_at box_list (skipped + k) ≡ S.send
   send_is k S = ap (λ (M : List SlotSend). send_at M (skipped + k)) box_is ∙ S.is
@@ -240,48 +244,18 @@ module _ (law : AreSpaced) (C : ℕ) (j : JudgedGroup) (c : Timing) (r : Recordi
   time_is : (k : ℕ) → (S : SendHere k) → time_at (sent_by own r) k ≡ S.word.mark.time
   time_is k S = ap (λ (m : Mark). m.time) S.mark
 
-  moment_is : (k : ℕ) → (S : SendHere k) → begin_of facts c.finer first (send_at box_list (skipped + k)).slot ≡ moment_of j c (slot_of E x S.send.slot)
-  moment_is k S = ap (λ (s : SlotSend). begin_of facts c.finer first s.slot) (send_is k S) ∙ begin_is S.send.slot
+  moment_is : (k : ℕ) → (S : SendHere k) → begin (send_at box_list (skipped + k)).slot ≡ begin S.send.slot
+  moment_is k S = ap (λ (s : SlotSend). begin s.slot) (send_is k S)
 
   -- the accepted word of a send
-  accepted_is : (S : SlotSend) (raw : ℕ) → (cell_of C E x S).word ≡ Some raw → (mark_at (accepted_by own r) (S.count - 1)).raw ≡ raw
+  accepted_is : (S : SlotSend) (raw : ℕ) → (cell_of C E x S).word ≡ Some raw → (mark_at (c.words x.source) (S.count - 1)).raw ≡ raw
   accepted_is S raw h =
-      let marks = accepted_of x.source r.heard in
+      let marks = c.words x.source in
       let heard : slice_get (map (λ (a : Mark). a.raw) marks) (S.count - 1) ≡ Some raw = ap (λ (ws : List ℕ). slice_get ws (S.count - 1)) (R.heard x.source) ∙ h in
       let inside = slice_get_within (map (λ (a : Mark). a.raw) marks) (S.count - 1) raw heard in
       let (a, here) = get_within marks (S.count - 1) (omega (arith, inside, length-map marks (λ (a : Mark). a.raw))) in
       let is : a.raw ≡ raw = same_Some a.raw raw (sym (slice_get-map (λ (a : Mark). a.raw) marks (S.count - 1) ∙ ap (option_map (λ (a : Mark). a.raw)) here) ∙ heard) in
       ap (λ (m : Mark). m.raw) (get_or_from_slice_get marks (S.count - 1) a no_mark here) ∙ is
-
-  -- ---- when the group's first word is recorded
-
-  record HasFirst (words : List Sent) : Type 0 where
-    pub word : Sent
-    pub at_first : slice_get words 0 ≡ Some word
-    pub after : 2 * moment_of j c c.from ≤ (2 * word.mark.time + j.tolerance) * units
-
-  first_of : (cells : List AnsweredCell) (ws : List Sent) → AllZip (IsRecordedAs j c) cells ws → AllByRecursion (λ (cell : AnsweredCell). c.from ≤ cell.slot) cells → 1 ≤ length ws → HasFirst ws
-  first_of [] [] pairs all some = absurd (omega (arith, some))
-  first_of [] (w ∷ ws) pairs all some = absurd pairs
-  first_of (cell ∷ cells) [] pairs all some = absurd pairs
-  first_of (cell ∷ cells) (w ∷ ws) pairs all some =
-      let early : 2 * (c.first + (cell.slot - j.history.opening.first) * (36000000 * c.finer) + c.delay) ≤ (2 * w.mark.time + j.tolerance) * units = pairs.0.early in
-      let from : c.from ≤ cell.slot = all.0 in
-      let more : (c.from - j.history.opening.first) * (36000000 * c.finer) ≤ (cell.slot - j.history.opening.first) * (36000000 * c.finer) = mul-le-mul_right (36000000 * c.finer) (omega (arith, from)) in
-      record { word = w; at_first = refl; after = omega (arith, early, more) }
-
-  from_on : (cell : AnsweredCell) → is_logged c cell ≡ true → c.from ≤ cell.slot
-  from_on cell h =
-      let late : nat_le c.from cell.slot ≡ true = (and_parts (is_some cell.word) (nat_le c.from cell.slot) h).1 in
-      grind (arith, nat_tests, late)
-
-  span_begins : 1 ≤ length (sent_by own r) → 2 * moment_of j c c.from ≤ (2 * (span_of E.group r).first + j.tolerance) * units
-  span_begins some =
-      let fewer : length own_words ≤ length group_words = omega (arith, length-filter (fits_rest own) group_words, count_by-le-length (fits_rest own) group_words) in
-      let cells = answered_cells C E.opening E.group E.table E.events in
-      let F = first_of (filter (is_logged c) cells) group_words R.sent (all_passes (λ (cell : AnsweredCell). c.from ≤ cell.slot) (is_logged c) from_on cells) (omega (arith, some, as_many, fewer)) in
-      let time : (span_of E.group r).first ≡ F.word.mark.time = ap (λ (z : Option Sent). option_map_or (λ (w : Sent). w.mark.time) z 0) (find_first (λ (w : Sent). w.group == E.group) r.sent ∙ F.at_first) in
-      subst (λ (t : ℕ). 2 * moment_of j c c.from ≤ (2 * t + j.tolerance) * units) (sym time) F.after
 
   -- ---- the output's first slot in the log
 
@@ -305,79 +279,85 @@ module _ (law : AreSpaced) (C : ℕ) (j : JudgedGroup) (c : Timing) (r : Recordi
       let more : suc n * period ≡ n * period + period = omega arith in
       le-div (suc n) (behind + (period - 1)) period some_period (omega (arith, before, more, some_period))
 
+  -- a slot before the output's first one in the log is before the log
+  before_log : (n : ℕ) → n < from_slot → slot_of E x n < c.from
+  before_log n less =
+      let few : from_slot * period ≤ behind + (period - 1) = div-mul-le_self (behind + (period - 1)) period in
+      let next : n + 1 ≤ from_slot = omega (arith, less) in
+      let more : (n + 1) * period ≤ from_slot * period = mul-le-mul_right period next in
+      omega (arith, few, more, some_period)
+
   -- it is at most a period after the log begins
-  from_near : x.place.offset + from_slot * period ≤ (c.from - E.opening.first) + period
+  from_near : slot_of E x from_slot ≤ c.from + period
   from_near =
       let few : from_slot * period ≤ behind + (period - 1) = div-mul-le_self (behind + (period - 1)) period in
+      let begun = R.begun in
       elim (cases_lt from_slot 1) [
         | inl none ↦
             let zero_slots : from_slot ≡ 0 = omega (arith, none) in
             let is : from_slot * period ≡ 0 = ap (λ (n : ℕ). n * period) zero_slots ∙ omega arith in
-            omega (arith, is, within)
+            omega (arith, is, within, begun)
         | inr some ↦
             let least : 1 * period ≤ from_slot * period = mul-le-mul_right period some in
-            omega (arith, few, least, within, some_period)
+            omega (arith, few, least, within, some_period, begun)
       ]
 
   -- ---- the log
 
-  recorded : 1 ≤ length (sent_by own r) → IsRecordOf facts (span_of E.group r) (accepted_by own r) (sent_by own r)
-  recorded some =
+  recorded : IsRecordOf facts (span_of E.group r) (accepted_by own r) (sent_by own r)
+  recorded =
       let long : length box_list ≡ length sends = ap (λ (M : List SlotSend). length M) box_is in
       record {
         finer = c.finer;
-        fine = R.fine;
-        first = first;
+        wrong = c.wrong;
+        drift = c.drift;
+        near = R.timed.near number row x listed there;
+        words = c.words x.source;
+        moments = moments;
+        timed = R.many x.source;
+        rise = R.rise x.source;
+        piece = R.piece x.source;
+        begin = begin;
+        slots = are_slots;
         delay = c.delay;
         short = R.short;
-        slots = slots;
+        passed = slots;
         skipped = skipped;
         enough = omega (arith, long, as_many_sends);
         same = λ k lt.
             let S = send_here k lt in
             ap (λ (m : Mark). m.raw) S.mark
-            ∙ sym (ap (λ (s : SlotSend). (mark_at (accepted_by own r) (s.count - 1)).raw) (send_is k S) ∙ accepted_is S.send S.word.mark.raw S.recorded.word);
+            ∙ sym (ap (λ (s : SlotSend). (mark_at (c.words x.source) (s.count - 1)).raw) (send_is k S) ∙ accepted_is S.send S.word.mark.raw S.recorded.word);
         early = λ k lt.
             let S = send_here k lt in
-            let here = ap (λ (t : ℕ). (2 * t + j.tolerance) * (j.rate * c.finer)) (time_is k S) in
-            let near : 2 * (moment_of j c (slot_of E x S.send.slot) + c.delay) ≤ (2 * S.word.mark.time + j.tolerance) * (j.rate * c.finer) = S.recorded.early in
+            let here = ap (λ (t : ℕ). t * (j.rate * c.finer)) (time_is k S) in
+            let near : c.begin (slot_of E x S.send.slot) + c.delay ≤ S.word.mark.time * (j.rate * c.finer) + c.wrong = S.recorded.early in
             omega (arith, near, here, moment_is k S);
         late = λ k lt.
             let S = send_here k lt in
             let here = ap (λ (t : ℕ). t * (j.rate * c.finer)) (time_is k S) in
-            let near : 2 * (S.word.mark.time * (j.rate * c.finer)) ≤ 2 * (moment_of j c (slot_of E x S.send.slot) + c.delay) + j.tolerance * (j.rate * c.finer) = S.recorded.late in
+            let near : S.word.mark.time * (j.rate * c.finer) ≤ c.begin (slot_of E x S.send.slot) + c.delay + c.wrong = S.recorded.late in
             omega (arith, near, here, moment_is k S);
         from = from_slot;
-        before = λ k lt. below_from (send_at box_list k).slot (ap (λ (M : List SlotSend). is_late (send_at M k).slot) box_is ∙ log.before k lt);
-        begins =
-            let near : (x.place.offset + from_slot * period) * (36000000 * c.finer) ≤ (c.from - E.opening.first + period) * (36000000 * c.finer) = mul-le-mul_right (36000000 * c.finer) from_near in
-            let slot : slot_of E x from_slot - E.opening.first ≡ x.place.offset + from_slot * period = omega arith in
-            let moment : moment_of j c (slot_of E x from_slot) ≡ c.first + (x.place.offset + from_slot * period) * (36000000 * c.finer) = ap (λ (k : ℕ). c.first + k * (36000000 * c.finer)) slot in
-            let sum : (c.from - E.opening.first + period) * (36000000 * c.finer) ≡ (c.from - E.opening.first) * (36000000 * c.finer) + period * 36000000 * c.finer = omega arith in
-            omega (arith, span_begins some, near, moment, sum, begin_is from_slot);
+        earlier = λ k lt. below_from (send_at box_list k).slot (ap (λ (M : List SlotSend). is_late (send_at M k).slot) box_is ∙ log.before k lt);
+        before = λ n less.
+            let early = before_log n less in
+            let rise = slots_rise (slot_of E x n) c.from (omega (arith, early)) in
+            omega (arith, rise, R.opens);
+        opens =
+            let rise = slots_rise (slot_of E x from_slot) (c.from + period) from_near in
+            let latest = R.timed.latest number c.from x there in
+            omega (arith, rise, latest, R.opens);
         after = λ k le lt. absurd (omega (arith, le, lt, long, as_many_sends));
         ends =
             let passed : next_slot_on E (length E.events) x.place.bus ≤ slot_of E x slots = box.asks.passed in
-            let more : (next_slot_on E (length E.events) x.place.bus - E.opening.first) * (36000000 * c.finer) ≤ (slot_of E x slots - E.opening.first) * (36000000 * c.finer) = mul-le-mul_right (36000000 * c.finer) (omega (arith, passed)) in
-            omega (arith, R.ends number x there, more, begin_is slots);
+            let rise = slots_rise (next_slot_on E (length E.events) x.place.bus) (slot_of E x slots) passed in
+            omega (arith, R.ends number x there, rise);
       }
 
-  -- ---- the verdict
+  -- ---- what is found
 
-  unsent : (length (sent_by own r) ≡ 0) → (judgement_of (duties_in j) own r).verdict ≡ verdict.NotSent
-  unfolding judgement_by
-  unsent none =
-      let judged : nat_lt 1 (overlapping own (duties_in j)) ≡ false = le-ltb 1 (overlapping own (duties_in j)) apart in
-      let nothing : (length (sent_by own r) == 0) ≡ true = eq-eqb (length (sent_by own r)) 0 none in
-      by_tests (nat_lt 1 (overlapping own (duties_in j))) (length (sent_by own r) == 0) (length (found_at (duties_in j) own r) == 0) judged nothing
-    where
-      by_tests : (a b e : Bool) → a ≡ false → b ≡ true → ◌≡◌ {A = Verdict} (if a then verdict.Alike else if b then verdict.NotSent else if e then verdict.Ok else verdict.Bad) verdict.NotSent
-      by_tests a b e h k = rw (h, k) refl
-
-  pub group_is_ok : RecordedBoxIsOk → GridPeriodsArePlanned → IsKept r → ((judgement_of (duties_in j) own r).verdict ≡ verdict.Ok) ⊎ ((judgement_of (duties_in j) own r).verdict ≡ verdict.NotSent)
-  group_is_ok judge grid kept = elim (cases_eq (length (sent_by own r)) 0) [
-    | inl none ↦ inr (unsent none)
-    | inr some ↦
-        let planned : ArePlanned facts = outputs_are_planned grid (station_of j) (record E.opening.proposal.plan { number = 0 }) E.group j.rate j.rows E.table number j.tolerance row x K.sound K.planned.own.opening.plan K.rated K.planned.opens listed there in
-        judge (duties_in j) own r kept apart planned (recorded (omega (arith, some)))
-  ]
+  pub group_has_no_finding : RecordedBoxHasNoFinding → GridPeriodsArePlanned → found_at (duties_in j) own r ≡ []
+  group_has_no_finding judge grid =
+      let planned : ArePlanned facts = outputs_are_planned grid (station_of j) (record E.opening.proposal.plan { number = 0 }) E.group j.rate j.rows E.table number j.tolerance row x K.sound K.planned.own.opening.plan K.rated K.planned.opens listed there in
+      judge (duties_in j) own r planned recorded

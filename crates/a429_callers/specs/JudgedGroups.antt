@@ -1,6 +1,7 @@
 -- A group of a box that keeps to the plan of its table, and logs by which it is judged: of what came in, and of what it sent.
-use Rattle.std.specs.Prelude.{◌≡◌, ◌⊎◌, ◌==◌, ◌&&◌, ◌+◌, ◌-◌, ◌*◌, ◌<◌, ◌≤◌, ℕ, Bool, List, [], Some, filter, is_some, length, map, nat_le, option_and_then, slice_get}
+use Rattle.std.specs.Prelude.{◌≡◌, ◌==◌, ◌&&◌, ◌+◌, ◌*◌, ◌≤◌, ℕ, Bool, List, [], Some, filter, is_some, length, map, nat_le, option_and_then, slice_get}
 use Rattle.std.specs.List.{AllZip, zip}
+use Rattle.std.specs.List.Sorted.{IsNonDecreasingBy}
 use Rattle.std.specs.Option.{option_map_or}
 use Rattle.a429_equipment.specs.declared.rows.OutputRow.{OutputRow}
 use Rattle.a429_equipment.specs.declared.rows.SourceRow.{SourceRow}
@@ -9,11 +10,11 @@ use Rattle.a429_equipment.specs.TableRecord.{TableRecord}
 use Rattle.a429_judge.specs.declared.duties.Duty.{Duty}
 use Rattle.a429_judge.specs.declared.duties.Sent.{Sent}
 use Rattle.a429_judge.specs.declared.facts.Facts.{Facts}
-use Rattle.a429_judge.specs.declared.judgements.Verdict.TheVariants as verdict
-use Rattle.a429_judge.specs.Judgements.{judgement_of}
-use Rattle.a429_judge.specs.Laws.{ArePlanned}
-use Rattle.a429_judge.specs.Machine.{known_by}
-use Rattle.a429_judge.specs.Recordings.{IsKept, Recording, accepted_of, foreign_of, overlapping, span_of}
+use Rattle.a429_judge.specs.declared.facts.Mark.{Mark}
+use Rattle.a429_judge.specs.Judgements.{found_at}
+use Rattle.a429_judge.specs.Laws.{AreNear, ArePlanned, IsPieceOf}
+use Rattle.a429_judge.specs.Machine.{known_by, moment_at}
+use Rattle.a429_judge.specs.Recordings.{Recording, accepted_of, foreign_of, overlapping, span_of}
 use Rattle.a429_slots.specs.History.{AnsweredCell, accepted_by, answered_cells}
 use Rattle.a429_slots.specs.Planned.{IsPlanOf, rated_outputs}
 use Rattle.a429_slots.specs.Tables.{Placed, PlanTable, SlotTable, groups_of, outputs_of}
@@ -64,45 +65,60 @@ pub record KeepsPlan (j : JudgedGroup) : Type 0 where
 
 -- ---- what the logs state, by times in units of 1 / (rate * finer) microseconds
 
--- When the group's first slot begins, and how much later a send is recorded than its slot begins, in such units. The log has the sends from
--- slot `from` on.
+-- When the slots of the group begin, and how much later a send is recorded, in such units. How wrong a time of the logs and a period may be. All
+-- words that each source accepted, and when. The log has the sends from slot `from` on.
 pub record Timing : Type 0 where
   pub finer : ℕ
-  pub first : ℕ
+  pub begin : ℕ → ℕ
   pub delay : ℕ
+  pub wrong : ℕ
+  pub drift : ℕ
+  pub words : ℕ → List Mark
+  pub moments : ℕ → List ℕ
   pub from : ℕ
-
--- when a slot begins
-abbrev pub moment_of : JudgedGroup → Timing → ℕ → ℕ
-moment_of j c slot = c.first + (slot - j.history.opening.first) * (36000000 * c.finer)
 
 -- a cell is in the log: it has a word, and its slot is not before that one
 abbrev pub is_logged : Timing → AnsweredCell → Bool
 is_logged c cell = is_some cell.word && nat_le c.from cell.slot
 
--- A cell with a word is recorded: its word, its bus if the log names buses, and its time, up to half the tolerance.
+-- a cell with a word is recorded: its word, its bus if the log names buses, and its time, which may be wrong
 pub record IsRecordedAs (j : JudgedGroup) (c : Timing) (cell : AnsweredCell) (w : Sent) : Type 0 where
   pub word : cell.word ≡ Some w.mark.raw
   pub bus : (number bus : ℕ) (x : Placed) → slice_get (outputs_of j.history.table) number ≡ Some x → x.source ≡ cell.source → w.bus ≡ Some bus → bus ≡ x.place.bus
-  pub early : 2 * (moment_of j c cell.slot + c.delay) ≤ (2 * w.mark.time + j.tolerance) * (j.rate * c.finer)
-  pub late : 2 * (w.mark.time * (j.rate * c.finer)) ≤ 2 * (moment_of j c cell.slot + c.delay) + j.tolerance * (j.rate * c.finer)
+  pub early : c.begin cell.slot + c.delay ≤ w.mark.time * (j.rate * c.finer) + c.wrong
+  pub late : w.mark.time * (j.rate * c.finer) ≤ c.begin cell.slot + c.delay + c.wrong
+
+-- The slots of the group do not go back, and those that are a period of an output apart are so in time, up to the drift. What may be wrong is
+-- within the tolerance.
+pub record AreTimed (j : JudgedGroup) (c : Timing) : Type 0 where
+  pub rise : (slot : ℕ) → c.begin slot ≤ c.begin (slot + 1)
+  pub near : (number : ℕ) (row : OutputRow) (x : Placed) → slice_get j.rows number ≡ Some row → slice_get (outputs_of j.history.table) number ≡ Some x
+      → AreNear (facts_of j.rate j.tolerance row x) c.finer c.wrong c.drift
+  pub soonest : (number slot : ℕ) (x : Placed) → slice_get (outputs_of j.history.table) number ≡ Some x
+      → c.begin slot + period_of x.place * 36000000 * c.finer ≤ c.begin (slot + period_of x.place) + c.drift
+  pub latest : (number slot : ℕ) (x : Placed) → slice_get (outputs_of j.history.table) number ≡ Some x
+      → c.begin (slot + period_of x.place) ≤ c.begin slot + period_of x.place * 36000000 * c.finer + c.drift
 
 -- the logs are those of the history
 pub record IsRecordedRun (C : ℕ) (j : JudgedGroup) (c : Timing) (r : Recording) : Type 0 where
-  pub fine : 1 ≤ c.finer
+  pub timed : AreTimed j c
   pub short : c.delay ≤ 36000000 * c.finer
-  -- one log has the words that were accepted
-  pub heard : (source : ℕ) → map (λ a. a.raw) (accepted_of source r.heard) ≡ accepted_by C j.history.opening source j.history.events
+  -- these are the words that were accepted, of which one log has a piece
+  pub heard : (source : ℕ) → map (λ a. a.raw) (c.words source) ≡ accepted_by C j.history.opening source j.history.events
+  pub many : (source : ℕ) → length (c.moments source) ≡ length (c.words source)
+  pub rise : (source : ℕ) → IsNonDecreasingBy (λ (m : ℕ). m) (c.moments source)
+  pub piece : (source : ℕ) → IsPieceOf (span_of j.history.group r).heard (j.rate * c.finer) c.wrong (c.words source) (moment_at (c.moments source)) (accepted_of source r.heard)
   -- a cell is asked for when the words are accepted that came in by the beginning of its slot
-  pub asked : (k : ℕ) (x : Placed) (slot : ℕ) → IsCellAt j.history k x slot
-      → known_at C j.history x k ≡ known_by (j.rate * c.finer) (accepted_of x.source r.heard) (moment_of j c slot)
+  pub asked : (k : ℕ) (x : Placed) (slot : ℕ) → IsCellAt j.history k x slot → known_at C j.history x k ≡ known_by (c.moments x.source) (c.begin slot)
   -- the other log has those of the group's cells that are in it, and no other words of the group
   pub sent : AllZip (IsRecordedAs j c) (filter (is_logged c) (answered_cells C j.history.opening j.history.group j.history.table j.history.events))
       (filter (λ w. w.group == j.history.group) r.sent)
-  -- the group goes on as long as both logs: they end before a send in its next slot would surely be recorded
+  -- it begins with a slot of the group, by the first word of the group
+  pub begun : j.history.opening.first ≤ c.from
+  pub opens : c.begin c.from + c.delay ≤ (span_of j.history.group r).first * (j.rate * c.finer) + c.wrong
+  -- the group goes on as long as the logs: they end before a send in its next slot would surely be recorded
   pub ends : (number : ℕ) (x : Placed) → slice_get (outputs_of j.history.table) number ≡ Some x
-      → 2 * ((span_of j.history.group r).last * (j.rate * c.finer))
-      < 2 * (moment_of j c (next_slot_on j.history (length j.history.events) x.place.bus) + c.delay) + j.tolerance * (j.rate * c.finer)
+      → (span_of j.history.group r).last * (j.rate * c.finer) ≤ c.begin (next_slot_on j.history (length j.history.events) x.place.bus) + c.delay + c.wrong
 
 -- ---- laws
 
@@ -113,12 +129,12 @@ OutputsArePlanned =
     → IsSound e → IsPlanOf e p → slice_get (rated_outputs e) g ≡ Some (rate, rows) → slice_get (groups_of p) g ≡ Some t
     → slice_get rows number ≡ Some row → slice_get (outputs_of t) number ≡ Some x → ArePlanned (facts_of rate tolerance row x)
 
--- by such logs each output that is not alike another is ok, or sent nothing
-abbrev pub PlannedGroupsAreOk : Type 0
-PlannedGroupsAreOk =
-    (C : ℕ) (j : JudgedGroup) (c : Timing) (r : Recording) (number : ℕ) (row : OutputRow) (x : Placed) → KeepsPlan j → IsRecordedRun C j c r → IsKept r
+-- by such logs nothing is found at an output that is not alike another
+abbrev pub PlannedGroupsHaveNoFinding : Type 0
+PlannedGroupsHaveNoFinding =
+    (C : ℕ) (j : JudgedGroup) (c : Timing) (r : Recording) (number : ℕ) (row : OutputRow) (x : Placed) → KeepsPlan j → IsRecordedRun C j c r
     → slice_get j.rows number ≡ Some row → slice_get (outputs_of j.history.table) number ≡ Some x → overlapping (duty_in j (row, x)) (duties_in j) ≤ 1
-    → ((judgement_of (duties_in j) (duty_in j (row, x)) r).verdict ≡ verdict.Ok) ⊎ ((judgement_of (duties_in j) (duty_in j (row, x)) r).verdict ≡ verdict.NotSent)
+    → found_at (duties_in j) (duty_in j (row, x)) r ≡ []
 
 -- and no word of the group is foreign: each is of one of its outputs
 abbrev pub PlannedGroupsSendNoneForeign : Type 0

@@ -1,9 +1,9 @@
 //! What the machine sends is what a right box sends, so that logs of it are never condemned.
 ghost use Rattle.a429_callers.specs.JudgedExample.{MeetsPremisesOfJudging};
-ghost use Rattle.a429_callers.specs.JudgedGroups.{OutputsArePlanned, PlannedGroupsAreOk, PlannedGroupsSendNoneForeign};
+ghost use Rattle.a429_callers.specs.JudgedGroups.{OutputsArePlanned, PlannedGroupsHaveNoFinding, PlannedGroupsSendNoneForeign};
 ghost use Rattle.a429_callers.specs.SlotBoxes.{GroupsSendAsRightBoxes, OpeningPlanStays};
 
-use a429_judge::laws::{grid_periods_are_planned, recorded_box_is_ok};
+use a429_judge::laws::{grid_periods_are_planned, recorded_box_has_no_finding};
 use a429_slots::laws::{
     plan_was_published, plans_in_force_are_spaced, spacing_empties_first_cells_only,
     words_are_spaced,
@@ -30,19 +30,20 @@ pub fn outputs_are_planned()
     grid_periods_are_planned();
 }
 
-/// A group sends by the plan of its table, which stays in force. One log has the words that came in. Another has the words
-/// that the group sent, from some slot on. Slots may begin at any time. A send may be recorded up to a slot after its slot
-/// begins, and up to half the tolerance before or after that. Then each output of the group that is not alike another is
-/// ok, or sent nothing, and no word of the group is foreign.
-pub fn planned_groups_are_ok()
-    ensures ok { PlannedGroupsAreOk }
+/// A group sends by the plan of its table, which stays in force. One log has a piece of the words that came in. Another has
+/// the words that the group sent, from some slot on. Slots may begin at any time, and each period of an output may be wrong
+/// by `drift`. A send may be recorded up to a slot after its slot begins, and each time of the logs may be wrong by `wrong`.
+/// Twice `wrong` and `drift` are at most the tolerance. Then nothing is found at an output of the group that is not alike
+/// another, and no word of the group is foreign.
+pub fn planned_groups_have_no_finding()
+    ensures outputs { PlannedGroupsHaveNoFinding }
     ensures foreign { PlannedGroupsSendNoneForeign }
 {
     words_are_spaced();
     spacing_empties_first_cells_only();
     plans_in_force_are_spaced();
     grid_periods_are_planned();
-    recorded_box_is_ok();
+    recorded_box_has_no_finding();
 }
 
 /// The premises of these laws can be met, by an output that sends each word twice at most.

@@ -98,15 +98,15 @@ pub record AreNear (f : Facts) (finer wrong drift : ℕ) : Type 0 where
   pub slower : drift < length_of f finer
 
 -- The log of what came in has a piece of the words that a source accepted, each with its time up to `wrong`. The words after the piece came in
--- at its end or later.
-pub record IsPieceOf (f : Facts) (span : Span) (units wrong : ℕ) (words : List Mark) (moment : ℕ → ℕ) (accepted : List Mark) : Type 0 where
+-- at the end of the log or later.
+pub record IsPieceOf (end units wrong : ℕ) (words : List Mark) (moment : ℕ → ℕ) (accepted : List Mark) : Type 0 where
   pub early : (j : ℕ) → j < length words → moment j ≤ time_at words j * units + wrong
   pub late : (j : ℕ) → j < length words → time_at words j * units ≤ moment j + wrong
   pub rise : IsNonDecreasingBy (λ (a : Mark). a.time) words
   pub skipped : ℕ
   pub within : skipped + length accepted ≤ length words
   pub same : (i : ℕ) → i < length accepted → mark_at accepted i ≡ mark_at words (skipped + i)
-  pub rest : (j : ℕ) → skipped + length accepted ≤ j → j < length words → span.heard ≤ time_at words j
+  pub rest : (j : ℕ) → skipped + length accepted ≤ j → j < length words → end ≤ time_at words j
 
 -- Slots of an output, one in each period: slot n begins at `begin n`.
 pub record AreSlots (f : Facts) (finer drift : ℕ) (begin : ℕ → ℕ) : Type 0 where
@@ -122,7 +122,7 @@ pub record IsRightBox (f : Facts) (span : Span) (accepted sends : List Mark) : T
   -- the words that its source accepted, and when
   pub words : List Mark
   pub moment : ℕ → ℕ
-  pub piece : IsPieceOf f span (f.rate * finer) wrong words moment accepted
+  pub piece : IsPieceOf span.heard (f.rate * finer) wrong words moment accepted
   pub begin : ℕ → ℕ
   pub slots : AreSlots f finer drift begin
   pub delay : ℕ

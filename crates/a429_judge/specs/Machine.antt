@@ -64,7 +64,7 @@ pub record IsRecordOf (f : Facts) (span : Span) (accepted sends : List Mark) : T
   pub moments : List ℕ
   pub timed : length moments ≡ length words
   pub rise : IsNonDecreasingBy (λ (m : ℕ). m) moments
-  pub piece : IsPieceOf f span (f.rate * finer) wrong words (moment_at moments) accepted
+  pub piece : IsPieceOf span.heard (f.rate * finer) wrong words (moment_at moments) accepted
   pub begin : ℕ → ℕ
   pub slots : AreSlots f finer drift begin
   pub delay : ℕ

@@ -206,7 +206,7 @@ pub fn is_any_wide(
 {
     let mut wide = false;
     for group in 0..proposal.plan().groups() {
-        let duties = duties_of(alloc, proposal, tolerance, group)?;
+        let duties = duties_of(alloc, proposal, tolerances, group)?;
         wide = either(wide, is_wide_at(&duties));
     }
     Ok(wide)

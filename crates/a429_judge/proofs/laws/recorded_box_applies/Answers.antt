@@ -5,7 +5,7 @@ use Rattle.a429_judge.specs.declared.facts.Mark.{Mark}
 use Rattle.a429_judge.specs.Judging.{mark_at, no_mark, time_at}
 use Rattle.a429_judge.specs.Laws.{AreSlots, IsPieceOf, length_of}
 use Rattle.a429_judge.specs.Machine.{box_sends, moment_at, send_at}
-use Rattle.a429_judge.specs.RecordExample.{example_begin, example_facts, example_heard, example_sends, example_span}
+use Rattle.a429_judge.specs.RecordExample.{example_begin, example_facts, example_heard, example_sends}
 use Rattle.a429_judge.proofs.laws.recorded_box_applies.Goals as goal
 
 one_hold : (hold : ℕ) → example_facts.hold ≡ Some hold → 1 ≤ hold
@@ -72,7 +72,7 @@ after_piece (suc (suc zero)) le lt = absurd (omega (arith, le))
 after_piece (suc (suc (suc zero))) le lt = omega arith
 after_piece (suc (suc (suc (suc j)))) le lt = absurd (omega (arith, lt))
 
-piece : IsPieceOf example_facts example_span 100000 6000000 words (moment_at moments) example_heard
+piece : IsPieceOf 5000 100000 6000000 words (moment_at moments) example_heard
 piece = record {
   early = λ j lt. (times_near j lt).0;
   late = λ j lt. (times_near j lt).1;
