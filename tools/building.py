@@ -1,7 +1,8 @@
 """Proves crates and builds what is made of them: the program a429, and the archive of the static library a429_c.
 
 Next to what it builds, in out/ of the crate, it notes what that was built from, in the file built-from: the compiler, the sum of
-all that the proof read (`stamp` of repository.py), and the sum of the file that was built. Only a build that passed notes it.
+all that the proof read (`stamp` of repository.py), and the sum of the file that was built. Only a build that passed notes it, or
+one that takes what such a build kept.
 
 Variables: A429_JOBS is how many processors it uses; without it, all that memory is enough for. RT_BACKEND=rattle compiles
 by the toolchain's other compiler: in a quarter of the time, to slower code. A429_ANEW=1 proves all from nothing, and takes nothing
@@ -14,7 +15,9 @@ kept, and proves only what changed. If `rt ci` made the program in this checkout
 What a build proves and makes is kept next to the toolchain (kept.py), and other checkouts on the machine take it from there.
 """
 import fcntl
+import functools
 import os
+import re
 import signal
 import subprocess
 import sys
@@ -27,8 +30,8 @@ import repository
 from kept import Kept, is_anew
 from repository import ROOT, below, crates, kit, kit_line, rattle, rattle_words, say, stamp, sum_of, text_of, write
 
-# A library with fewer lines of code is small.
-SMALL_LIBRARY = 1000
+# The seconds of a processor that the proof of each crate took in the last `tools/cost --build`: lines `NAME SECONDS`.
+SECONDS = os.path.join(ROOT, "tools", "seconds")
 
 # What one check takes of memory, at most, in kB.
 MEMORY_OF_A_CHECK = 4_500_000
@@ -119,33 +122,41 @@ def build_library(name, jobs, kept):
     kept.keep_statements(name)
 
 
+@functools.lru_cache(maxsize=None)
+def seconds():
+    """The seconds that the proof of each crate takes, by SECONDS. A crate that is not there counts by its lines of code."""
+    noted = re.findall(r"^(\w+) ([1-9]\d*)$", text_of(SECONDS), re.M)
+    found = {name: int(count) for name, count in noted if name in crates()}
+    lines = {name: crate.lines_of_code() for name, crate in crates().items()}
+    of_a_line = sum(found.values()) / sum(lines[name] for name in found) if found else 1
+    return {name: found.get(name, of_a_line * lines[name]) for name in crates()}
+
+
 def chains(names):
-    """How many lines of code wait for each library one after another, itself with them."""
+    """How many seconds of proofs wait for each library one after another, itself with them."""
     length = {}
     for name in reversed(names):
         above = [length[other] for other in names if name in below(other)]
-        length[name] = crates()[name].lines_of_code() + max(above, default=0)
+        length[name] = seconds()[name] + max(above, default=0)
     return length
 
 
 def division(ready, chain, longest, idle):
     """Divides idle processors among the libraries that are ready, which come with the longest chain first: pairs of a library and
-    its processors. A second processor shortens a proof by two fifths and costs a sixth more in all, and a third more in a
-    small library. So a library gets one only if it is not small, if nothing else could use it, and if the end of the build
-    waits for its chain."""
+    its processors. A second processor shortens a proof by a third, and costs a fourth more in all. So a library gets one only if
+    nothing else could use it, and if the end of the build waits for its chain: it has nine tenths of the longest one that is left."""
     given = ready[:idle]
     spare, found = idle - len(given), []
     for name in given:
-        is_small = crates()[name].lines_of_code() < SMALL_LIBRARY
-        has_second = spare > 0 and 10 * chain[name] >= 8 * longest and not is_small
+        has_second = spare > 0 and 10 * chain[name] >= 9 * longest
         spare -= has_second
         found.append((name, 1 + has_second))
     return found
 
 
 def take_libraries(left, running, kept):
-    """Takes the statements that are kept, from the lowest library up, and says of which libraries. Those that it takes leave the list
-    of libraries that are left."""
+    """Takes the statements that are kept, from the lowest library up, and says of which libraries. It removes these from the list of
+    libraries that are left."""
     taken = []
     for name in list(left):
         if not {*left, *running} & {*below(name)} and kept.take_statements(name):
@@ -185,8 +196,8 @@ def names_of(running):
 
 
 def say_step(name, names, due):
-    """Says that a library is proved, which of the steps that was, and how much is done by the lines of code."""
-    done = 1 - sum(crates()[other].lines_of_code() for other in due) / sum(crates()[other].lines_of_code() for other in names)
+    """Says that a library is proved, which of the steps that was, and how much is done by the seconds of the proofs."""
+    done = 1 - sum(seconds()[other] for other in due) / sum(seconds()[other] for other in names)
     say(f"step {len(names) - len(due)} of {len(names)}: {name} is proved ({100 * done:.0f} %)")
 
 
@@ -270,8 +281,8 @@ class Target:
         return is_there
 
     def build(self):
-        """Takes it if it is kept. Otherwise builds it, by what checks have kept if that is there for each library below, or else from
-        their statements."""
+        """Takes it if it is kept. Otherwise builds it: by what checks have kept, if that is there for each library below, or from the
+        statements of these."""
         kept = Kept([*below(self.name), self.name])
         repository.stamp.cache_clear()
         state, begun = self.state(), time.time()
