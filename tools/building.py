@@ -1,18 +1,23 @@
 """Proves crates and builds what is made of them: the program a429, and the archive of the static library a429_c.
 
 Next to what it builds, in out/ of the crate, it notes what that was built from, in the file built-from: the compiler, the sum of
-all that the proof read (`stamp` of repository.py), and the sum of the file that was built. Only a build that passed notes it.
+all that the proof read (`stamp` of repository.py), and the sum of the file that was built. Only a build that passed notes it, or
+one that takes what such a build kept.
 
 Variables: A429_JOBS is how many processors it uses; without it, all that memory is enough for. RT_BACKEND=rattle compiles
-by the toolchain's other compiler: in a quarter of the time, to slower code.
+by the toolchain's other compiler: in a quarter of the time, to slower code. A429_ANEW=1 proves all from nothing, and takes nothing
+that was proved or built before, in this checkout or another.
 
 A library is proved from nothing, and what stays of it are its statements, which are all that a proof above reads: that is the
 cheapest way to a proved program. If `rt check` was run in each library below a crate, its build begins with what those checks
 kept, and proves only what changed. If `rt ci` made the program in this checkout, nothing is proved again.
+
+What a build proves and makes is kept next to the toolchain (kept.py), and other checkouts on the machine take it from there.
 """
 import fcntl
-import hashlib
+import functools
 import os
+import re
 import signal
 import subprocess
 import sys
@@ -22,10 +27,11 @@ import time
 from concurrent.futures import FIRST_COMPLETED, ThreadPoolExecutor, wait
 
 import repository
-from repository import ROOT, below, crates, kit, kit_line, rattle, rattle_words, stamp
+from kept import Kept, is_anew
+from repository import ROOT, below, crates, kit, kit_line, rattle, rattle_words, say, stamp, sum_of, text_of, write
 
-# A library with fewer lines of code is small.
-SMALL_LIBRARY = 1000
+# The seconds of a processor that the proof of each crate took in the last `tools/cost --build`: lines `NAME SECONDS`.
+SECONDS = os.path.join(ROOT, "tools", "seconds")
 
 # What one check takes of memory, at most, in kB.
 MEMORY_OF_A_CHECK = 4_500_000
@@ -33,10 +39,6 @@ MEMORY_OF_A_CHECK = 4_500_000
 
 class Failed(Exception):
     """A step failed; its text is what the toolchain said."""
-
-
-def say(text):
-    print("a429: " + text, file=sys.stderr, flush=True)
 
 
 def processors():
@@ -47,24 +49,6 @@ def processors():
     with open("/proc/meminfo", encoding="ascii") as file:
         free = next(int(line.split()[1]) for line in file if line.startswith("MemAvailable:"))
     return max(1, min(len(os.sched_getaffinity(0)), free // MEMORY_OF_A_CHECK))
-
-
-def text_of(file):
-    try:
-        return repository.read(file).decode()
-    except OSError:
-        return ""
-
-
-def sum_of(file):
-    """The checksum of a file."""
-    return hashlib.sha256(repository.read(file)).hexdigest()
-
-
-def write(file, text):
-    os.makedirs(os.path.dirname(file), exist_ok=True)
-    with open(file, "w", encoding="utf-8") as opened:
-        opened.write(text)
 
 
 # ---- Commands of the toolchain
@@ -128,63 +112,93 @@ def is_built(name):
     return text_of(crates()[name].stamp) == stamp(name) and os.path.isdir(crates()[name].statements)
 
 
-def build_library(name, jobs):
+def build_library(name, jobs, kept):
     crate = crates()[name]
     if os.path.exists(crate.stamp):
         os.remove(crate.stamp)
     os.makedirs(os.path.dirname(crate.statements), exist_ok=True)
     build(name, jobs, ["--statements", "-o", crate.statements])
     write(crate.stamp, stamp(name))
+    kept.keep_statements(name)
+
+
+@functools.lru_cache(maxsize=None)
+def seconds():
+    """The seconds that the proof of each crate takes, by SECONDS. A crate that is not there counts by its lines of code."""
+    noted = re.findall(r"^(\w+) ([1-9]\d*)$", text_of(SECONDS), re.M)
+    found = {name: int(count) for name, count in noted if name in crates()}
+    lines = {name: crate.lines_of_code() for name, crate in crates().items()}
+    of_a_line = sum(found.values()) / sum(lines[name] for name in found) if found else 1
+    return {name: found.get(name, of_a_line * lines[name]) for name in crates()}
 
 
 def chains(names):
-    """How many lines of code wait for each library one after another, itself with them."""
+    """How many seconds of proofs wait for each library one after another, itself with them."""
     length = {}
     for name in reversed(names):
         above = [length[other] for other in names if name in below(other)]
-        length[name] = crates()[name].lines_of_code() + max(above, default=0)
+        length[name] = seconds()[name] + max(above, default=0)
     return length
 
 
 def division(ready, chain, longest, idle):
     """Divides idle processors among the libraries that are ready, which come with the longest chain first: pairs of a library and
-    its processors. A second processor shortens a proof by two fifths and costs a sixth more in all, and a third more in a
-    small library. So a library gets one only if it is not small, if nothing else could use it, and if the end of the build
-    waits for its chain."""
+    its processors. A second processor shortens a proof by a third, and costs a fourth more in all. So a library gets one only if
+    nothing else could use it, and if the end of the build waits for its chain: it has nine tenths of the longest one that is left."""
     given = ready[:idle]
     spare, found = idle - len(given), []
     for name in given:
-        is_small = crates()[name].lines_of_code() < SMALL_LIBRARY
-        has_second = spare > 0 and 10 * chain[name] >= 8 * longest and not is_small
+        has_second = spare > 0 and 10 * chain[name] >= 9 * longest
         spare -= has_second
         found.append((name, 1 + has_second))
     return found
 
 
-def build_libraries(names):
-    """Builds libraries, each once those below it are built."""
-    chain, idle, running, done = chains(names), processors(), {}, 0
+def take_libraries(left, running, kept):
+    """Takes the statements that are kept, from the lowest library up, and says of which libraries. It removes these from the list of
+    libraries that are left."""
+    taken = []
+    for name in list(left):
+        if not {*left, *running} & {*below(name)} and kept.take_statements(name):
+            left.remove(name)
+            taken.append(name)
+    if taken:
+        count = "1 library is" if len(taken) == 1 else f"{len(taken)} libraries are"
+        say(f"{count} taken from {kept.folder}: {' '.join(taken)}")
+
+
+def build_libraries(names, kept):
+    """Takes or builds libraries, each once those below it are there."""
+    chain, idle, running = chains(names), processors(), {}
     left = sorted(names, key=lambda name: -chain[name])
-    total = sum(crates()[name].lines_of_code() for name in names)
     with ThreadPoolExecutor(idle) as pool:
         try:
             while left or running:
-                waited_for = {*left, *[name for name, _ in running.values()]}
+                take_libraries(left, names_of(running), kept)
+                waited_for = {*left, *names_of(running)}
                 ready = [name for name in left if not waited_for & {*below(name)}]
                 for name, jobs in division(ready, chain, chain[left[0]] if left else 0, idle):
                     left.remove(name)
                     idle -= jobs
-                    running[pool.submit(build_library, name, jobs)] = name, jobs
+                    running[pool.submit(build_library, name, jobs, kept)] = name, jobs
                 for ended in wait(running, return_when=FIRST_COMPLETED).done:
                     name, jobs = running.pop(ended)
                     ended.result()
                     idle += jobs
-                    done += crates()[name].lines_of_code()
-                    step = len(names) - len(left) - len(running)
-                    say(f"step {step} of {len(names)}: {name} is proved ({100 * done // total} %)")
+                    say_step(name, names, [*left, *names_of(running)])
         except BaseException:
             commands.end()
             raise
+
+
+def names_of(running):
+    return [name for name, _ in running.values()]
+
+
+def say_step(name, names, due):
+    """Says that a library is proved, which of the steps that was, and how much is done by the seconds of the proofs."""
+    done = 1 - sum(seconds()[other] for other in due) / sum(seconds()[other] for other in names)
+    say(f"step {len(names) - len(due)} of {len(names)}: {name} is proved ({100 * done:.0f} %)")
 
 
 # ---- What is built
@@ -246,6 +260,9 @@ class Target:
         if not self.names_logic():
             return False
         self.note(self.state(), at)
+        # so that other checkouts take it; a file that was changed and then given an older time has a later ctime
+        if all(os.stat(path).st_ctime < at for path in self.sources()):
+            self.keep(Kept([]))
         return True
 
     def note(self, state, at):
@@ -253,12 +270,29 @@ class Target:
         write(self.stamp, f"{state} {sum_of(self.made)}\n")
         os.utime(self.stamp, (at, at))
 
+    def keep(self, kept):
+        kept.keep(self.name, self.compiler, stamp(self.name), self.made)
+
+    def is_taken(self, kept):
+        """Takes what another checkout built of the same sources, if it is kept, and answers whether it did."""
+        is_there = kept.take(self.name, self.compiler, stamp(self.name), self.made) and self.names_logic()
+        if is_there:
+            say(f"{self.name} is taken from {kept.folder}: it was proved and built from the same sources")
+        return is_there
+
     def build(self):
-        """Builds it, by what checks have kept if that is there for each library below, otherwise from their statements."""
-        kept = [os.path.join(crates()[name].folder, "out", "incremental") for name in below(self.name)]
+        """Takes it if it is kept. Otherwise builds it: by what checks have kept, if that is there for each library below, or from the
+        statements of these."""
+        kept = Kept([*below(self.name), self.name])
+        repository.stamp.cache_clear()
         state, begun = self.state(), time.time()
-        self.build_with_what_is_kept() if all(map(os.path.isdir, kept)) else self.build_from_statements()
+        if not self.is_taken(kept):
+            self.build_with_what_is_kept() if self.has_checks() and not is_anew() else self.build_from_statements(kept)
         self.note(state, begun)
+
+    def has_checks(self):
+        """Whether there is what checks have kept of each library below."""
+        return all(os.path.isdir(os.path.join(crates()[name].folder, "out", "incremental")) for name in below(self.name))
 
     def build_with_what_is_kept(self):
         """Builds it by the toolchain's command, which proves what changed since the last checks."""
@@ -268,10 +302,10 @@ class Target:
         if status:
             raise Failed(without_proofs(said))
 
-    def build_from_statements(self):
-        due = [name for name in below(self.name) if not is_built(name)]
+    def build_from_statements(self, kept):
+        due = [name for name in below(self.name) if is_anew() or not is_built(name)]
         say(f"proving and building {self.name}; {len(due)} of its {len(below(self.name))} libraries are due")
-        build_libraries(due)
+        build_libraries(due, kept)
         say("proving what is left, and building")
         os.makedirs(os.path.dirname(self.made), exist_ok=True)
         with tempfile.TemporaryDirectory(dir=os.path.dirname(self.made)) as room:
@@ -280,6 +314,8 @@ class Target:
             words = [*kind, "--toolchain", kit() + "/toolchain", "--backend", self.compiler, "-o", made]
             build(self.name, min(2, processors()), words)
             os.replace(link(made) if self.crate.is_program else made, self.made)
+        if kept.is_untouched(self.name):
+            self.keep(kept)
 
 
 def link(compiled):
@@ -296,7 +332,7 @@ def build_if_due(name):
     """Builds the program or the archive of a crate if it is due. A second build waits for the first one, and then has little to
     do. If it fails, its errors are printed, and the process ends with status 1."""
     target = Target(name)
-    if not target.is_due():
+    if not is_anew() and not target.is_due():
         return
     signal.signal(signal.SIGTERM, lambda *_: sys.exit(1))
     signal.signal(signal.SIGHUP, lambda *_: sys.exit(1))
@@ -305,7 +341,9 @@ def build_if_due(name):
         fcntl.flock(lock, fcntl.LOCK_EX)
         try:
             commands.begin()
-            if target.is_due():
+            # the sources may have changed while it waited
+            repository.stamp.cache_clear()
+            if is_anew() or target.is_due():
                 target.build()
         except Failed as failed:
             print(str(failed).strip(), file=sys.stderr)

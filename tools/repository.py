@@ -47,9 +47,32 @@ class Crate:
         return sum(read(file).count(b"\n") for file in self.files() if file.endswith(".rt"))
 
 
+def say(text):
+    print("a429: " + text, file=sys.stderr, flush=True)
+
+
 def read(file):
     with open(file, "rb") as opened:
         return opened.read()
+
+
+def text_of(file):
+    """The text of a file; none if it cannot be read."""
+    try:
+        return read(file).decode(errors="replace")
+    except OSError:
+        return ""
+
+
+def sum_of(file):
+    """The checksum of a file."""
+    return hashlib.sha256(read(file)).hexdigest()
+
+
+def write(file, text):
+    os.makedirs(os.path.dirname(file), exist_ok=True)
+    with open(file, "w", encoding="utf-8") as opened:
+        opened.write(text)
 
 
 @functools.lru_cache(maxsize=None)
