@@ -331,7 +331,7 @@ recorded = record {
   begun = omega arith;
   opens = omega arith;
   ends = λ number x there. the_output
-  (λ (y : Placed). (span_of 0 log).last * (100000 * 1) ≤ timing.begin (next_slot_on run (length events) y.place.bus) + 10000000 + 6000000) number x there (omega arith);
+      (λ (y : Placed). (span_of 0 log).last * (100000 * 1) ≤ timing.begin (next_slot_on run (length events) y.place.bus) + 10000000 + 6000000) number x there (omega arith);
 }
   where
     heard : (source : ℕ) → map (λ a. a.raw) (words_of source) ≡ accepted_by 41 opening source events

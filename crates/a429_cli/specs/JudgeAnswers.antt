@@ -8,9 +8,9 @@ use Rattle.a429_recordings.specs.JudgeReplies.{BoxFiles, IsJudgedBy, IsUnjudgedB
 abbrev pub judge_status : Bool → ℕ
 judge_status found = if found then 1 else 0
 
--- the names that a request has: TABLE, IN with those of `--in`, and OUT with those after it; and the values of `--channel`
+-- the names that a request has: TABLE, IN with those of `--in`, and OUT with those after it; and the values of `--channel` and `--tolerance`
 abbrev pub box_names : AskedBytes → BoxFiles (List ℕ)
-box_names r = record { table = r.first; heard = r.second ∷ r.inputs; sent = r.third ∷ r.more; channels = r.channels }
+box_names r = record { table = r.first; heard = r.second ∷ r.inputs; sent = r.third ∷ r.more; channels = r.channels; tolerances = r.tolerances }
 
 -- the sheet of the files that a request names, with the status that says whether something is found
 abbrev pub IsJudgement : (List ℕ → Option (List ℕ)) → AskedBytes → ℕ → List ℕ → Type 0

@@ -31,11 +31,12 @@ fn names_in<'a>(asked: &'a Asked) -> JudgeNames<'a>
         sent: asked.third,
         more_sent: &asked.more,
         channels: &asked.channels,
+        tolerances: &asked.tolerances,
     }
 }
 
 /// Whether what a box sent is right, with status 0 if nothing was found, and otherwise 1. The files are refused first, then
-/// the table and its plan, the tolerance, the first faulty line, and logs that have no time in common.
+/// the table and its plan, the tolerances, the first faulty line, and logs that have no time in common.
 pub fn judge_reply<F: FileReader>(
     alloc: Global,
     files: &mut F,

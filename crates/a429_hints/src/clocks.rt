@@ -1,4 +1,4 @@
-//! Hints about two logs of `judge` that are not on one clock.
+//! Hints about two logs of `judge` that do not fit together.
 
 use crate::hint::HintText;
 use a429_text::{Sheet, SheetForm};
@@ -14,18 +14,23 @@ pub fn tell_apart(heard: &str, hint: &HintText) {
 /// A box with fewer sends says nothing of clocks.
 const FEWEST_SENDS: u64 = 4;
 
-/// How many sends there are, how many of them have a word that is not right, and how many come at a wrong interval.
+/// How many sends have a known word, how many of these are not right, and how many sends come at a wrong interval. How many
+/// outputs send, and how many of them fall silent.
 #[derive(Clone, Copy)]
 struct Sends {
-    sent: u64,
+    known: u64,
     wrong: u64,
     unsteady: u64,
+    outputs: u64,
+    silent: u64,
 }
 
 const NO_SENDS: Sends = Sends {
-    sent: 0,
+    known: 0,
     wrong: 0,
     unsteady: 0,
+    outputs: 0,
+    silent: 0,
 };
 
 /// The sends of a row. `None` if it is no row of an output.
@@ -37,14 +42,16 @@ fn sends_of(heading: &str, row: &str) -> Option<Sends> {
             continue;
         };
         match column {
-            "sent" => sends.sent = number,
+            "sent" => sends.outputs = number.min(1),
+            "known" => sends.known = number,
             "wrong" | "stale" => sends.wrong = sends.wrong.saturating_add(number),
             "soon" | "late" => sends.unsteady = sends.unsteady.saturating_add(number),
+            "silent" => sends.silent = number,
             _ => continue,
         }
         found = found.saturating_add(1);
     }
-    if found == 5 { Some(sends) } else { None }
+    if found == 7 { Some(sends) } else { None }
 }
 
 /// The sends of all rows of comma-separated values.
@@ -54,9 +61,11 @@ fn all_sends(text: &str) -> Sends {
     let heading = lines.next().unwrap_or("");
     for row in lines {
         if let Some(sends) = sends_of(heading, row) {
-            all.sent = all.sent.saturating_add(sends.sent);
+            all.known = all.known.saturating_add(sends.known);
             all.wrong = all.wrong.saturating_add(sends.wrong);
             all.unsteady = all.unsteady.saturating_add(sends.unsteady);
+            all.outputs = all.outputs.saturating_add(sends.outputs);
+            all.silent = all.silent.saturating_add(sends.silent);
         }
     }
     all
@@ -64,16 +73,26 @@ fn all_sends(text: &str) -> Sends {
 
 /// Whether most words are not right, though hardly any comes at a wrong interval.
 fn look_shifted(sends: Sends) -> bool {
-    sends.sent >= FEWEST_SENDS && sends.wrong > sends.sent / 2 && sends.unsteady <= sends.sent / 10
+    sends.known >= FEWEST_SENDS
+        && sends.wrong > sends.known / 2
+        && sends.unsteady <= sends.known / 10
 }
 
-/// Says that a log of what was sent may have another clock than the log of what came in, by the rows of `judge`.
+/// Says that a log of what was sent may have another clock than the log of what came in, or may end earlier, by the rows of
+/// `judge`.
 pub fn tell_clocks(heard: &str, judged: &Sheet, hint: &HintText) {
     let Ok(bytes) = judged.render(hint.alloc, SheetForm::Csv) else {
         return hint.give_up();
     };
     let text = str::from_utf8(&bytes).unwrap_or("");
-    if look_shifted(all_sends(text)) {
+    let sends = all_sends(text);
+    if sends.outputs > 0 && sends.silent == sends.outputs {
+        hint.line_one(
+            "no output sends until the logs end: the box stopped, or this log ends too early; then cut {?} at the same time",
+            heard,
+        );
+    }
+    if look_shifted(sends) {
         hint.line_one(
             "most words are wrong or stale, and hardly any is soon or late: perhaps this log and {?} are not on one clock; then shift the times of one of them",
             heard,

@@ -137,14 +137,7 @@ fn read_sent<'a>(
     ensures ordered { IfOk result (λ read. AreOrdered read.words.items) }
 {
     let channels = input.channels;
-    match read_words(
-        alloc,
-        names,
-        channels,
-        BoxLog::Sent,
-        reading,
-        &input.sent,
-    ) {
+    match read_words(alloc, names, channels, BoxLog::Sent, reading, &input.sent) {
         Ok(words) => Ok(words),
         Err(refusal) => Err(refusal.after_logs(input.heard.len())),
     }

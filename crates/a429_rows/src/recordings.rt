@@ -88,6 +88,6 @@ fn judgement_of_words(rt: &impl Abort, alloc: Global) -> Judgement {
 #[test]
 fn words_of_falling_times_are_not_judged(rt: HostRuntime) {
     let judgement = judgement_of_words(&rt, rt.alloc());
-    assert!(rt; judgement.verdict == Verdict::Ok && judgement.sent == 1);
-    assert!(rt; judgement.delay == Some(440) && judgement.wrong == 0);
+    assert!(rt; judgement.verdict == Verdict::TooShort && judgement.sent == 1);
+    assert!(rt; judgement.delay == Some(440) && judgement.found == 0);
 }

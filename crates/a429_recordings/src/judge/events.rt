@@ -181,7 +181,15 @@ fn add_foreign_event(
 ) -> Result<(), AllocError>
     ensures { OnOk result (rows.new ≡ rows.old ++ foreign_event group.now word.now ∷ []) }
 {
-    add_event(rows, alloc, group, word.bus, Cell::Absent, "foreign", word.mark)
+    add_event(
+        rows,
+        alloc,
+        group,
+        word.bus,
+        Cell::Absent,
+        "foreign",
+        word.mark,
+    )
 }
 
 /// Adds the rows of foreign words. Error: an allocation failed.
