@@ -10,7 +10,8 @@ use Rattle.clap.specs.Words.{Row, Rule, Text, first_of, one_of}
 use Rattle.clap.specs.Walk.{Held, finished, nothing_held, walk_from}
 use Rattle.a429_arguments.specs.CommandLine.{CommandRow, most_frames, options_of, row_of}
 use Rattle.a429_arguments.specs.Requests.{AskedBytes, HasWords, IsName, words_if, words_of, words_of_options, words_with}
-use Rattle.a429_arguments.specs.RequestRows.{AsksFor, IsAskedBy, number_of}
+use Rattle.a429_arguments.specs.RequestRows.{AsksFor, IsAskedBy}
+use Rattle.a429_arguments.specs.Numbers.{number_of}
 use Rattle.a429_arguments.specs.declared.forms.Verb.{Verb}
 use Rattle.a429_arguments.specs.declared.forms.Verb.TheVariants as verb
 use Rattle.a429_arguments.proofs.CommandFacts.{Facts, new, plain_leaf, required, facts, ids_after, ids_if, name_at, name_is_single, number_at, number_is_single, number_place, position_after, shape, third_place, use_if, uses}
@@ -23,7 +24,7 @@ use Rattle.a429_arguments.proofs.PlainWords.{name_is_plain}
 use Rattle.a429_arguments.proofs.SettledWords.{Reads, all_settles}
 use Rattle.a429_arguments.proofs.UsedRows.{row_at}
 use Rattle.a429_arguments.proofs.WordRows.{ArePlain, IsNameIf, IsNumberIf, all_append, all_parts, more_read, new_after, rows_after, rows_are, rows_if, uses_read, within_uses, word_of}
-use Rattle.a429_arguments.proofs.FoundOptions.{all_rows, channels_are_read, end_rows, inputs_are_read, maps_are_read, more_field, options_are_read, uses_read_again}
+use Rattle.a429_arguments.proofs.FoundOptions.{all_rows, channels_are_read, end_rows, inputs_are_read, maps_are_read, more_field, options_are_read, tolerances_are_read, uses_read_again}
 
 -- the text of the number is one that is read as it
 abbrev NumberText : Option (Text × ℕ) → Text → ℕ → Type 0
@@ -140,6 +141,7 @@ module _ (r : AskedBytes) (text : Text) (has : HasWords r) (number_is : NumberTe
     inputs = inputs_are_read r us f has;
     channels = channels_are_read r us f has;
     maps = maps_are_read r us f has;
+    tolerances = tolerances_are_read r us f has;
     options = options_are_read r us f has;
   }
 

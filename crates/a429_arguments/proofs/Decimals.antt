@@ -13,7 +13,7 @@ use Rattle.clap.specs.Words.{Text}
 use Rattle.clap.specs.declared.builder.value_parser.ValueParser.TheVariants as reads
 use Rattle.clap.proofs.ValueTestLemmas.{Accepts-accepts, accepts-Accepts}
 use Rattle.a429_arguments.specs.Requests.{IsName}
-use Rattle.a429_arguments.specs.RequestRows.{number_of, number_up_to}
+use Rattle.a429_arguments.specs.Numbers.{number_of, number_up_to}
 
 digits_are_name : (ds : List ℕ) → AllDigits 10 ds → IsName ds
 digits_are_name [] all = tt

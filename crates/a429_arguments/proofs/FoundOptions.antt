@@ -8,9 +8,10 @@ use Rattle.std.proofs.lemmas.Bool.{and_parts, or_parts}
 use Rattle.std.proofs.lemmas.Slice.Eq.{bytes_eq-Decides}
 use Rattle.clap.specs.Words.{Row, Rule, Text, first_of, one_of}
 use Rattle.clap.specs.Walk.{has_row}
-use Rattle.a429_arguments.specs.CommandLine.{All, AsText, Bcd, Bits, Bnr, Channels, Code, Csv, Data, Events, From, Group, Html, Inputs, Json, Limit, MakesNames, Maps, OptionName, Rate, Rows, Sdi, Sent, Slack, Slots, Ssm, Summary, Time, Tolerance, Until, Width, last_time, least_rate, most_bits, most_pair, most_percent, most_rate, most_slack, most_slots, most_tolerance, options_of, row_of}
+use Rattle.a429_arguments.specs.CommandLine.{All, AsText, Bcd, Bits, Bnr, Channels, Code, Csv, Data, Events, From, Group, Html, Inputs, Json, Limit, MakesNames, Maps, OptionName, Rate, Rows, Sdi, Sent, Slack, Slots, Ssm, Summary, Time, Tolerances, Until, Width, last_time, least_rate, most_bits, most_pair, most_percent, most_rate, most_slack, most_slots, options_of, row_of}
 use Rattle.a429_arguments.specs.Requests.{AskedBytes, HasWords, OptionBytes, flag_word, has_one_value, has_option, is_csv, is_flag, is_json, origin_word, unit_word, word_given}
-use Rattle.a429_arguments.specs.RequestRows.{AreFields, AreOptions, form_of, has_other_form, is_set, is_value_given, lacks_csv, lacks_rows, number_of, origin_given, unit_given, values_of, width_given}
+use Rattle.a429_arguments.specs.RequestRows.{AreFields, AreOptions, form_of, has_other_form, is_set, is_value_given, lacks_csv, lacks_rows, origin_given, unit_given, values_of, width_given}
+use Rattle.a429_arguments.specs.Numbers.{number_of}
 use Rattle.a429_text.specs.declared.sheets.SheetForm.{SheetForm}
 use Rattle.a429_text.specs.declared.sheets.SheetForm.TheVariants as form
 use Rattle.a429_arguments.specs.declared.forms.Verb.{Verb}
@@ -249,14 +250,11 @@ module _ (r : AskedBytes) (us : List (Rule × Text)) (f : Facts r.verb us) (has 
     slack =
         ap (number_of 0 most_slack) (one_field Slack (option_map decimal r.options.slack) refl refl)
         ∙ number_of_decimal 0 most_slack r.options.slack (omega arith) (from_zero most_slack r.options.slack (has.options Slack));
-    tolerance =
-        ap (number_of 0 most_tolerance) (one_field Tolerance (option_map decimal r.options.tolerance) refl refl)
-        ∙ number_of_decimal 0 most_tolerance r.options.tolerance (omega arith) (from_zero most_tolerance r.options.tolerance (has.options Tolerance));
     events = flag_field Events r.options.events refl;
     fields = fields_are_read;
     text = flag_field AsText r.options.text refl;
     names = flag_field MakesNames r.options.names refl;
-    taken = rw (made_of v (is_value_given end_rows) (λ made. value_is ∙ has.encoded made), rows_are_had, csv_is_had, none_repeated Channels refl refl, none_repeated Maps refl refl, one_form_is_had) refl;
+    taken = rw (made_of v (is_value_given end_rows) (λ made. value_is ∙ has.encoded made), rows_are_had, csv_is_had, none_repeated Channels refl refl, none_repeated Maps refl refl, none_repeated Tolerances refl refl, one_form_is_had) refl;
   }
 
   -- ---- the other values
@@ -269,6 +267,9 @@ module _ (r : AskedBytes) (us : List (Rule × Text)) (f : Facts r.verb us) (has 
 
   pub maps_are_read : values_of (id_of Maps) end_rows ≡ r.maps
   maps_are_read = none_repeated Maps refl refl ∙ sym has.maps
+
+  pub tolerances_are_read : values_of (id_of Tolerances) end_rows ≡ r.tolerances
+  tolerances_are_read = none_repeated Tolerances refl refl ∙ sym has.tolerances
 
   pub uses_read_again : AllByRecursion (λ (u : Rule × Text). row_at u.0.id end_rows ≡ Some (use_row u)) us
   uses_read_again =

@@ -4,6 +4,7 @@ pub mod CommandWords
 pub mod UsedRows
 pub mod SettledWords
 pub mod Decimals
+pub mod TextHalves
 pub mod Elsewhere
 pub mod Found
 pub mod PushedWords

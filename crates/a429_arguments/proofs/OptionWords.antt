@@ -9,7 +9,7 @@ use Rattle.clap.specs.Simple.{filled}
 use Rattle.clap.specs.Takes.{value_passes}
 use Rattle.clap.specs.Walk.{Held, Waiting, arg_by_id, arg_by_long, has_row, idle}
 use Rattle.clap.proofs.OnLiterals.{clap_on_literals}
-use Rattle.a429_arguments.specs.CommandLine.{All, AsText, Bcd, Bits, Bnr, Channels, Code, Csv, Data, Events, From, Group, Html, Inputs, Json, Limit, MakesNames, Maps, OptionName, Rate, Rows, Sdi, Sent, Slack, Slots, Ssm, Summary, Time, Tolerance, Until, Width, option_rule}
+use Rattle.a429_arguments.specs.CommandLine.{All, AsText, Bcd, Bits, Bnr, Channels, Code, Csv, Data, Events, From, Group, Html, Inputs, Json, Limit, MakesNames, Maps, OptionName, Rate, Rows, Sdi, Sent, Slack, Slots, Ssm, Summary, Time, Tolerances, Until, Width, option_rule}
 use Rattle.a429_arguments.specs.Requests.{OptionBytes, flag_word, is_csv, is_flag, is_json, option_words, word_given, words_of_options}
 use Rattle.a429_arguments.proofs.CommandWords.{row}
 use Rattle.a429_arguments.proofs.PlainWords.{IsPlainWord, TakesValues, at_word, for_none}
@@ -41,6 +41,7 @@ unfolding clap_on_literals
 kind_of_option o Inputs word given = absurd (cc given)
 kind_of_option o Channels word given = absurd (cc given)
 kind_of_option o Maps word given = absurd (cc given)
+kind_of_option o Tolerances word given = absurd (cc given)
 kind_of_option o Csv word given = record { range = refl; action = refl; reading = refl; missing = refl; passes = refl }
 kind_of_option o Json word given = record { range = refl; action = refl; reading = refl; missing = refl; passes = refl }
 kind_of_option o All word given = record { range = refl; action = refl; reading = refl; missing = refl; passes = refl }
@@ -55,7 +56,7 @@ kind_of_option o MakesNames word given = record { range = refl; action = refl; r
 kind_of_option o _ word given = record { range = refl; action = refl; reading = refl; trailing = refl }
 
 abbrev pub all_options : List OptionName
-all_options = Csv ∷ Json ∷ All ∷ Group ∷ Slots ∷ Width ∷ Html ∷ Time ∷ From ∷ Until ∷ Sent ∷ Summary ∷ Code ∷ Limit ∷ Rate ∷ Rows ∷ Slack ∷ Inputs ∷ Channels ∷ Maps ∷ AsText ∷ MakesNames ∷ Tolerance ∷ Events ∷ Sdi ∷ Ssm ∷ Data ∷ Bnr ∷ Bits ∷ Bcd ∷ []
+all_options = Csv ∷ Json ∷ All ∷ Group ∷ Slots ∷ Width ∷ Html ∷ Time ∷ From ∷ Until ∷ Sent ∷ Summary ∷ Code ∷ Limit ∷ Rate ∷ Rows ∷ Slack ∷ Inputs ∷ Channels ∷ Maps ∷ AsText ∷ MakesNames ∷ Tolerances ∷ Events ∷ Sdi ∷ Ssm ∷ Data ∷ Bnr ∷ Bits ∷ Bcd ∷ []
 
 abbrev option_named : Text → List OptionName → Option OptionName
 option_named id [] = None

@@ -6,7 +6,7 @@ use Rattle.std.specs.Str.{bytes_eq}
 use Rattle.std.proofs.lemmas.Bool.{eqb-true}
 use Rattle.clap.specs.ValueTests.{is_unsigned_in}
 use Rattle.clap.specs.Words.{Text}
-use Rattle.a429_arguments.specs.CommandLine.{All, AsText, Bcd, Bits, Bnr, Channels, Code, Csv, Data, Events, From, Group, Html, Inputs, Json, Limit, MakesNames, Maps, OptionName, Rate, Rows, Sdi, Sent, Slack, Slots, Ssm, Summary, Time, Tolerance, Until, Width, last_time, least_rate, most_bits, most_pair, most_percent, most_rate, most_slack, most_slots, most_tolerance}
+use Rattle.a429_arguments.specs.CommandLine.{All, AsText, Bcd, Bits, Bnr, Channels, Code, Csv, Data, Events, From, Group, Html, Inputs, Json, Limit, MakesNames, Maps, OptionName, Rate, Rows, Sdi, Sent, Slack, Slots, Ssm, Summary, Time, Tolerances, Until, Width, last_time, least_rate, most_bits, most_pair, most_percent, most_rate, most_slack, most_slots}
 use Rattle.a429_arguments.specs.Requests.{CanBeGiven, IsName, IsOrigin, IsWidth, OptionBytes, flag_word, is_csv, is_json, last_origin, origin_word, unit_word, word_given}
 use Rattle.a429_arguments.specs.RequestRows.{origin_given, unit_given, width_given}
 use Rattle.a429_arguments.specs.declared.times.LogOrigin.{LogOrigin}
@@ -78,9 +78,9 @@ words_pass o can Slack = number_passes 0 most_slack o.slack (omega arith) (from_
 words_pass o can Inputs = tt
 words_pass o can Channels = tt
 words_pass o can Maps = tt
+words_pass o can Tolerances = tt
 words_pass o can AsText = flag_passes o.text
 words_pass o can MakesNames = flag_passes o.names
-words_pass o can Tolerance = number_passes 0 most_tolerance o.tolerance (omega arith) (from_zero most_tolerance o.tolerance (can Tolerance))
 words_pass o can Events = flag_passes o.events
 words_pass o can Sdi = number_passes 0 most_pair o.fields.sdi (omega arith) (from_zero most_pair o.fields.sdi (can Sdi))
 words_pass o can Ssm = number_passes 0 most_pair o.fields.ssm (omega arith) (from_zero most_pair o.fields.ssm (can Ssm))

@@ -108,7 +108,7 @@ pub data OptionName : Type 0 where
   Maps : OptionName
   AsText : OptionName
   MakesNames : OptionName
-  Tolerance : OptionName
+  Tolerances : OptionName
   Events : OptionName
   Sdi : OptionName
   Ssm : OptionName
@@ -140,7 +140,7 @@ option_rule Channels = values_rule (codes "channel")
 option_rule Maps = values_rule (codes "map")
 option_rule AsText = flag_rule (codes "text")
 option_rule MakesNames = flag_rule (codes "names")
-option_rule Tolerance = number_value_rule (codes "tolerance") 0 most_tolerance
+option_rule Tolerances = values_rule (codes "tolerance")
 option_rule Events = flag_rule (codes "events")
 option_rule Sdi = number_value_rule (codes "sdi") 0 most_pair
 option_rule Ssm = number_value_rule (codes "ssm") 0 most_pair
@@ -165,7 +165,7 @@ options_of verb.Diff = All ∷ Csv ∷ Json ∷ []
 options_of verb.Draw = Group ∷ Slots ∷ Width ∷ Html ∷ []
 options_of verb.Simulate = Time ∷ From ∷ Channels ∷ Until ∷ Sent ∷ Summary ∷ Csv ∷ Json ∷ []
 options_of verb.Survey = Time ∷ From ∷ Channels ∷ Rate ∷ Rows ∷ Slack ∷ Csv ∷ Json ∷ []
-options_of verb.Judge = Inputs ∷ Tolerance ∷ Events ∷ Time ∷ From ∷ Channels ∷ Csv ∷ Json ∷ []
+options_of verb.Judge = Inputs ∷ Tolerances ∷ Events ∷ Time ∷ From ∷ Channels ∷ Csv ∷ Json ∷ []
 options_of _ = []
 
 -- what a command is given: one to three names, perhaps a number up to the most, perhaps as many names as one likes, and options

@@ -2,11 +2,11 @@
 use Rattle.std.specs.Prelude.{◌≡◌, [], ℕ, Bool, List, Option, Some, None, true, false, MatchOption, ◌&&◌, ◌||◌, not, codes, if◌then◌else◌, is_some, option_map, unwrap_or}
 use Rattle.std.specs.List.{list_all}
 use Rattle.std.specs.Str.{bytes_eq}
-use Rattle.std.specs.Str.Parse.{digits_value, without_leading_plus}
-use Rattle.clap.specs.ValueTests.{is_unsigned_in}
 use Rattle.clap.specs.Words.{Row, Text, first_of, one_of, all_of, subcommand_of, takes}
-use Rattle.a429_arguments.specs.CommandLine.{command_line, last_time, least_rate, most_bits, most_frames, most_pair, most_percent, most_rate, most_slack, most_slots, most_tolerance, row_of}
+use Rattle.a429_arguments.specs.CommandLine.{command_line, last_time, least_rate, most_bits, most_frames, most_pair, most_percent, most_rate, most_slack, most_slots, row_of}
+use Rattle.a429_arguments.specs.Numbers.{number_of, number_up_to}
 use Rattle.a429_arguments.specs.Requests.{AskedBytes, FieldBytes, HasWords, IsName, OptionBytes, is_one_alone, last_origin, words_of, words_with}
+use Rattle.a429_arguments.specs.Tolerances.{are_tolerances}
 use Rattle.a429_arguments.specs.declared.choices.Choices.{Choices}
 use Rattle.a429_arguments.specs.declared.forms.Verb.TheVariants as verb
 use Rattle.a429_arguments.specs.declared.times.LogOrigin.{LogOrigin}
@@ -24,11 +24,6 @@ abbrev pub is_set : Option Text → Bool
 is_set None = false
 is_set (Some text) = bytes_eq text (codes "true")
 
--- the number of an argument, by its text: Some None if it is not given, and None if the text is no whole number of this range
-unfoldable pub number_of : ℕ → ℕ → Option Text → Option (Option ℕ)
-number_of least most None = Some None
-number_of least most (Some text) = if is_unsigned_in least most text then Some (Some (digits_value 10 (without_leading_plus text))) else None
-
 -- how many slots wide folds are, by the text of that: Some None if it is not given, and None if the text is another than the three that there are
 abbrev pub width_given : Option Text → Option (Option ℕ)
 width_given None = Some None
@@ -42,10 +37,6 @@ unit_given None = Some unit.Microseconds
 unit_given (Some text) =
     if bytes_eq text (codes "us") then Some unit.Microseconds
     else (if bytes_eq text (codes "ms") then Some unit.Milliseconds else (if bytes_eq text (codes "s") then Some unit.Seconds else None))
-
--- the whole number of a text, up to the most; nothing if the text is no such number
-unfoldable pub number_up_to : ℕ → Text → Option ℕ
-number_up_to most text = if is_unsigned_in 0 most text then Some (digits_value 10 (without_leading_plus text)) else None
 
 -- from when on times are counted, by the text of that; nothing if the text is neither `first` nor a number of at most eighteen digits
 abbrev pub origin_given : Option Text → Option LogOrigin
@@ -99,6 +90,10 @@ are_renames texts = list_all is_rename texts && not (has_one_from_twice texts)
 abbrev pub has_wrong_renames : Text → List Row → Bool
 has_wrong_renames id rows = not (are_renames (values_of id rows))
 
+-- those of `--tolerance` cannot be given together
+abbrev pub has_wrong_tolerances : List Row → Bool
+has_wrong_tolerances rows = not (are_tolerances (values_of (codes "tolerance") rows))
+
 -- an option lacks the one that it needs
 abbrev pub lacks_option : List Row → Bool
 lacks_option rows = lacks_rows rows || lacks_csv rows
@@ -107,15 +102,19 @@ lacks_option rows = lacks_rows rows || lacks_csv rows
 abbrev pub has_wrong_rename : List Row → Bool
 has_wrong_rename rows = has_wrong_renames (codes "channel") rows || has_wrong_renames (codes "map") rows
 
+-- a text of an option that may be given again is wrong
+abbrev pub has_wrong_text : List Row → Bool
+has_wrong_text rows = has_wrong_rename rows || has_wrong_tolerances rows
+
 -- a log of sent words is asked for, and another form or a summary
 abbrev pub has_other_form : List Row → Bool
 has_other_form rows =
     is_set (one_of (codes "sent") rows)
     && (is_set (one_of (codes "csv") rows) || (is_set (one_of (codes "json") rows) || is_set (one_of (codes "summary") rows)))
 
--- what is given to a command of this name does not go together, or a text FROM=TO is wrong
+-- what is given to a command of this name does not go together, or such a text is wrong
 abbrev pub are_refused : Text → List Row → Bool
-are_refused name rows = lacks_value name rows || (lacks_option rows || (has_wrong_rename rows || has_other_form rows))
+are_refused name rows = lacks_value name rows || (lacks_option rows || (has_wrong_text rows || has_other_form rows))
 
 -- the choices, if each of them is there
 abbrev pub choices_of : Option (Option ℕ) → Option TimeUnit → Option LogOrigin → Option SheetForm → Option Choices
@@ -159,7 +158,6 @@ pub record AreOptions (name : Text) (rows : List Row) (o : OptionBytes) : Type 0
   pub rate : number_of least_rate most_rate (one_of (codes "rate") rows) ≡ Some o.rate
   pub rows_asked : is_set (one_of (codes "rows") rows) ≡ o.rows
   pub slack : number_of 0 most_slack (one_of (codes "slack") rows) ≡ Some o.slack
-  pub tolerance : number_of 0 most_tolerance (one_of (codes "tolerance") rows) ≡ Some o.tolerance
   pub events : is_set (one_of (codes "events") rows) ≡ o.events
   pub fields : AreFields rows o.fields
   pub text : is_set (one_of (codes "text") rows) ≡ o.text
@@ -192,6 +190,7 @@ pub record IsAskedBy (rows : List Row) (r : AskedBytes) : Type 0 where
   pub inputs : values_of (codes "in") rows ≡ r.inputs
   pub channels : values_of (codes "channel") rows ≡ r.channels
   pub maps : values_of (codes "map") rows ≡ r.maps
+  pub tolerances : values_of (codes "tolerance") rows ≡ r.tolerances
   pub options : AreOptions (row_of r.verb).name rows r.options
 
 -- by what was found of the arguments: the command's name and its values

@@ -8,7 +8,7 @@ use Rattle.clap.specs.declared.builder.action.ArgAction.{ArgAction}
 use Rattle.clap.specs.declared.builder.action.ArgAction.TheVariants.{SetTrue}
 use Rattle.clap.specs.declared.error.Error.{Error}
 use Rattle.clap.specs.declared.error.kind.ErrorKind.TheVariants.{OutOfMemory}
-use Rattle.a429_arguments.specs.CommandLine.{All, AsText, Bcd, Bits, Bnr, Channels, Code, Csv, Data, Events, From, Group, Html, Inputs, Json, Limit, MakesNames, Maps, OptionName, Rate, Rows, Sdi, Sent, Slack, Slots, Ssm, Summary, Time, Tolerance, Until, Width, last_time, least_rate, most_bits, most_pair, most_percent, most_rate, most_slack, most_slots, most_tolerance, option_rule, options_of, row_of}
+use Rattle.a429_arguments.specs.CommandLine.{All, AsText, Bcd, Bits, Bnr, Channels, Code, Csv, Data, Events, From, Group, Html, Inputs, Json, Limit, MakesNames, Maps, OptionName, Rate, Rows, Sdi, Sent, Slack, Slots, Ssm, Summary, Time, Tolerances, Until, Width, last_time, least_rate, most_bits, most_pair, most_percent, most_rate, most_slack, most_slots, option_rule, options_of, row_of}
 use Rattle.a429_arguments.specs.Texts.{texts_of}
 use Rattle.a429_text.specs.declared.sheets.SheetForm.{SheetForm}
 use Rattle.a429_text.specs.declared.sheets.SheetForm.TheVariants as form
@@ -63,8 +63,6 @@ pub record OptionBytes : Type 0 where
   -- rows for `import`, and by how much their intervals are wider than those of the recording, in per cent
   pub rows : Bool
   pub slack : Option ℕ
-  -- how far recorded times may be wrong, in microseconds
-  pub tolerance : Option ℕ
   -- a row for each finding, instead of one for each output
   pub events : Bool
   -- labels are written so that a spreadsheet keeps their zeros
@@ -75,7 +73,7 @@ pub record OptionBytes : Type 0 where
 
 -- What is asked for, by the bytes of its texts: what contracts see of an `Asked`. A command that is given one name has no second one, and so with the
 -- third one, the number (of frames) and further names. The inputs are further logs of what came in. Texts FROM=TO give the channels of a log names,
--- and the headings of a file columns.
+-- and the headings of a file columns. Texts US and GROUP=US say how far recorded times may be wrong.
 pub record AskedBytes : Type 0 where
   pub verb : Verb
   pub first : Text
@@ -86,6 +84,7 @@ pub record AskedBytes : Type 0 where
   pub inputs : List Text
   pub channels : List Text
   pub maps : List Text
+  pub tolerances : List Text
   pub options : OptionBytes
 
 abbrev pub no_fields : FieldBytes
@@ -110,7 +109,6 @@ no_options = record {
   rate = None;
   rows = false;
   slack = None;
-  tolerance = None;
   events = false;
   text = false;
   names = false;
@@ -129,6 +127,7 @@ asked_by_names v first second more = record {
   inputs = [];
   channels = [];
   maps = [];
+  tolerances = [];
   options = no_options;
 }
 
@@ -183,7 +182,7 @@ word_given o Channels = None
 word_given o Maps = None
 word_given o AsText = flag_word o.text
 word_given o MakesNames = flag_word o.names
-word_given o Tolerance = option_map decimal o.tolerance
+word_given o Tolerances = None
 word_given o Events = flag_word o.events
 word_given o Sdi = option_map decimal o.fields.sdi
 word_given o Ssm = option_map decimal o.fields.ssm
@@ -270,7 +269,6 @@ CanBeGiven o Until = IfSome o.until (λ n. n ≤ last_time)
 CanBeGiven o Limit = IfSome o.limit (λ n. (1 ≤ n) × (n ≤ most_percent))
 CanBeGiven o Rate = IfSome o.rate (λ n. (least_rate ≤ n) × (n ≤ most_rate))
 CanBeGiven o Slack = IfSome o.slack (λ n. n ≤ most_slack)
-CanBeGiven o Tolerance = IfSome o.tolerance (λ n. n ≤ most_tolerance)
 CanBeGiven o Sdi = IfSome o.fields.sdi (λ n. n ≤ most_pair)
 CanBeGiven o Ssm = IfSome o.fields.ssm (λ n. n ≤ most_pair)
 CanBeGiven o Data = IfSome o.fields.hex IsName
@@ -293,6 +291,7 @@ pub record HasWords (r : AskedBytes) : Type 0 where
   pub inputs : r.inputs ≡ []
   pub channels : r.channels ≡ []
   pub maps : r.maps ≡ []
+  pub tolerances : r.tolerances ≡ []
   pub options : (name : OptionName) → CanBeGiven r.options name
   -- the lines of `simulate` have no form as JSON
   pub summarized : r.verb ≡ verb.Simulate → is_json r.options.form ≡ true → r.options.summary ≡ true
@@ -338,7 +337,6 @@ given_of o = record {
   rate = o.rate;
   rows = o.rows;
   slack = o.slack;
-  tolerance = o.tolerance;
   events = o.events;
   text = o.text;
   names = o.names;
@@ -356,6 +354,7 @@ asked_of q = record {
   inputs = texts_of q.inputs.items;
   channels = texts_of q.channels.items;
   maps = texts_of q.maps.items;
+  tolerances = texts_of q.tolerances.items;
   options = given_of q.options;
 }
 

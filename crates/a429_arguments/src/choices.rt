@@ -4,12 +4,14 @@ ghost use Rattle.std.specs.List.{list_all};
 ghost use Rattle.a429_arguments.specs.Requests.{is_one_alone};
 ghost use Rattle.a429_text.specs.Renames.{is_rename};
 ghost use Rattle.clap.specs.Words.{first_of, found_of, one_of, rows_of};
-ghost use Rattle.a429_arguments.specs.RequestRows.{are_refused, are_renames, choices_given, form_given, form_of, has_other_form, has_wrong_renames, is_set, is_value_given, lacks_csv, lacks_rows, lacks_value, width_given};
+ghost use Rattle.a429_arguments.specs.RequestRows.{are_refused, are_renames, choices_given, form_given, form_of, has_other_form, has_wrong_renames, has_wrong_tolerances, has_wrong_text, is_set, is_value_given, lacks_csv, lacks_rows, lacks_value, width_given};
 
 use crate::options::{
-    BCD, BITS, BNR, CHANNEL, CODE, CSV, DATA, JSON, MAP, ROWS, SENT, SLACK, SUMMARY, TEXT, WIDTH,
+    BCD, BITS, BNR, CHANNEL, CODE, CSV, DATA, JSON, MAP, ROWS, SENT, SLACK, SUMMARY, TEXT,
+    TOLERANCE, WIDTH,
 };
 use crate::times::{LogOrigin, origin_given, unit_given};
+use crate::tolerances;
 use a429_logs::TimeUnit;
 use a429_text::SheetForm;
 use a429_text::renames::{has_one_from_twice, is_rename};
@@ -236,6 +238,24 @@ fn map_fault(found: &ArgMatches<'_>) -> Option<&'static str>
     renames_fault(found, MAP.id, form, twice)
 }
 
+/// What is wrong with the texts of `--tolerance`, if it is given.
+fn tolerance_fault(found: &ArgMatches<'_>) -> Option<&'static str>
+    ensures { is_some result ≡ has_wrong_tolerances (rows_of (found_of found.now)) }
+{
+    match found.get_strs(TOLERANCE.id) {
+        Some(texts) => tolerances::fault_in(texts),
+        None => None,
+    }
+}
+
+/// What is wrong, if a text of an option that may be given again is wrong.
+fn given_again_fault(found: &ArgMatches<'_>) -> Option<&'static str>
+    ensures { is_some result ≡ has_wrong_text (rows_of (found_of found.now)) }
+{
+    let renames = first_fault(channel_fault(found), map_fault(found));
+    first_fault(renames, tolerance_fault(found))
+}
+
 /// What is wrong, if a log of sent words is asked for in another form, or with a summary.
 fn sent_fault(found: &ArgMatches<'_>) -> Option<&'static str>
     ensures { is_some result ≡ has_other_form (rows_of (found_of found.now)) }
@@ -249,13 +269,13 @@ fn sent_fault(found: &ArgMatches<'_>) -> Option<&'static str>
     }
 }
 
-/// What is wrong, if what is given to the command of this name does not go together, or a text FROM=TO is wrong.
+/// What is wrong, if what is given to the command of this name does not go together, or a text of an option is wrong.
 fn fault_of(name: &str, found: &ArgMatches<'_>) -> Option<&'static str>
     ensures { is_some result ≡ are_refused name.now (rows_of (found_of found.now)) }
 {
     let needed = first_fault(slack_fault(found), text_fault(found));
-    let renames = first_fault(channel_fault(found), map_fault(found));
-    let others = first_fault(needed, first_fault(renames, sent_fault(found)));
+    let texts = first_fault(given_again_fault(found), sent_fault(found));
+    let others = first_fault(needed, texts);
     first_fault(value_fault_of(name, found), others)
 }
 

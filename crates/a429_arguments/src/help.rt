@@ -359,7 +359,8 @@ pub const HEARD_LOGS: &str = "A further log of what came in; may be given again"
 
 pub const TOLERANCE: &str = "\
 How far recorded times may be wrong, 0 to 30000000 us
-[default: two slots of the group, or half its
+for all groups, or for one as GROUP=US; may be given
+again [default: two slots of the group, or half its
 shortest period if that is less]";
 
 pub const EVENTS: &str = "A row for each finding instead of each output";

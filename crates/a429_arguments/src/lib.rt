@@ -2,8 +2,9 @@
 //!
 //! `forms` has a row for each command: its names, its options and its help. All else that depends on the commands of the
 //! program comes from these rows. `requests` reads what is asked for (`Asked`), and `given` the arguments that a system gives;
-//! `memory` has arguments in memory. `times` has the options for the times in a log. `laws` says that a request in its plain
-//! form is read as that request. It is for commands: a program that embeds the libraries does not need it.
+//! `memory` has arguments in memory. `times` has the options for the times in a log, and `tolerances` the texts of
+//! `--tolerance`. `laws` says that a request in its plain form is read as that request. It is for commands: a program that
+//! embeds the libraries does not need it.
 //!
 //! ```text
 //! match parse(alloc, words) {
@@ -21,3 +22,4 @@ pub mod memory;
 mod options;
 pub mod requests;
 pub mod times;
+pub mod tolerances;

@@ -20,9 +20,6 @@ const MOST_RATE: u64 = 100_000;
 /// By how much an interval may be widened, in per cent (profile).
 const MOST_SLACK: u64 = 99;
 
-/// The greatest tolerance, in microseconds: that of the longest interval of an output (profile).
-const MOST_TOLERANCE: u64 = 30_000_000;
-
 /// The greatest SDI and the greatest SSM (ARINC 429 Part 1: two bits each).
 const MOST_PAIR: u64 = 3;
 
@@ -156,13 +153,7 @@ pub const SLACK: OptionForm = number!("slack", "PERCENT", 0, MOST_SLACK, OptionH
 pub const IN: OptionForm = texts!("in", "LOG", OptionHelp::HeardLogs);
 
 /// `--tolerance`
-pub const TOLERANCE: OptionForm = number!(
-    "tolerance",
-    "US",
-    0,
-    MOST_TOLERANCE,
-    OptionHelp::Tolerance
-);
+pub const TOLERANCE: OptionForm = texts!("tolerance", "US", OptionHelp::Tolerance);
 
 /// `--events`
 pub const EVENTS: OptionForm = flag!("events", OptionHelp::Events);

@@ -4,7 +4,8 @@ ghost use Rattle.clap.specs.Words.{HasKind, Text, found_of, one_of, rows_of, sub
 ghost use Rattle.a429_arguments.specs.CommandLine.{IsRow, name_id, number_id};
 ghost use Rattle.a429_arguments.specs.Texts.{texts_of};
 ghost use Rattle.a429_arguments.specs.Requests.{AskedBytes, FieldBytes, IsRead, asked_of, fields_of, given_of};
-ghost use Rattle.a429_arguments.specs.RequestRows.{AreFields, AreGivenTexts, AsksFor, IsAskedBy, IsChosen, IsFound, IsGivenNumber, IsGivenText, ReadsOptions, number_of, values_of};
+ghost use Rattle.a429_arguments.specs.RequestRows.{AreFields, AreGivenTexts, AsksFor, IsAskedBy, IsChosen, IsFound, IsGivenNumber, IsGivenText, ReadsOptions, values_of};
+ghost use Rattle.a429_arguments.specs.Numbers.{number_of};
 ghost use Rattle.a429_arguments.specs.Usage.{ComesTo, elsewhere, found_kinds, is_live, is_run, kinds_of_words, live_kinds_of_words};
 
 use crate::choices::{Choices, choices_in, is_given};
@@ -73,8 +74,6 @@ pub struct Options<'a> {
     pub rows: bool,
     /// By how much their intervals are wider than those of the recording, 0 to 99 per cent (`--slack`).
     pub slack: Option<u32>,
-    /// How far recorded times may be wrong, in microseconds (`--tolerance`). `None`: the default of each group.
-    pub tolerance: Option<u32>,
     /// Each finding has a row, instead of each output (`--events`).
     pub events: bool,
     /// Labels are written so that a spreadsheet keeps their zeros (`--text`).
@@ -103,6 +102,8 @@ pub struct Asked<'a> {
     pub channels: Vec<&'a str>,
     /// The columns that headings of a file are given, each as FROM=TO (`--map`).
     pub maps: Vec<&'a str>,
+    /// How far recorded times may be wrong, each as US or GROUP=US (`--tolerance`). `tolerance_for` has the number of a group.
+    pub tolerances: Vec<&'a str>,
     pub options: Options<'a>,
 }
 
@@ -129,8 +130,8 @@ pub fn other_call_error(alloc: Global, message: &str) -> Error
     words_error(alloc, None, ErrorKind::InvalidSubcommand, message)
 }
 
-/// What the arguments ask for, by what was found of them. Error: `--width`, `--time`, `--from`, `--channel` or `--map`
-/// has a value that it does not take, or options do not go together.
+/// What the arguments ask for, by what was found of them. Error: `--width`, `--time`, `--from`, `--channel`, `--map` or
+/// `--tolerance` has a value that it does not take, or options do not go together.
 fn read_matches<'a>(alloc: Global, matches: &ArgMatches<'a>) -> Result<Asked<'a>, Error>
     ensures asked { (r : AskedBytes) → IsFound (subcommand_rows_of matches.now) r → IsRead r result }
     ensures kinds { ComesTo (found_kinds (subcommand_rows_of matches.now) (is_live (subcommand_rows_of matches.now))) is_run result }
@@ -163,7 +164,7 @@ fn read_asked<'a>(
         → IsAskedBy (rows_of (found_of found.now)) r → asked_of q ≡ r) }
 {
     let (more, inputs) = files_in(alloc, found, form.more)?;
-    let (channels, maps) = renames_in(alloc, found)?;
+    let (channels, maps, tolerances) = lists_in(alloc, found)?;
     Ok(Asked {
         verb: form.verb,
         first: name_in(found, Some(form.first)),
@@ -174,6 +175,7 @@ fn read_asked<'a>(
         inputs,
         channels,
         maps,
+        tolerances,
         options: options_in(found, choices),
     })
 }
@@ -238,17 +240,19 @@ fn files_in<'a>(
     Ok((more, inputs))
 }
 
-/// The names that channels are given, and the columns that headings are given.
-fn renames_in<'a>(
+/// The names that channels are given, the columns that headings are given, and how far recorded times may be wrong.
+fn lists_in<'a>(
     alloc: Global,
     found: &ArgMatches<'a>,
-) -> Result<(Vec<&'a str>, Vec<&'a str>), AllocError>
+) -> Result<(Vec<&'a str>, Vec<&'a str>, Vec<&'a str>), AllocError>
     ensures channels { IfOk result (λ lists. texts_of lists.0.items ≡ values_of (codes "channel") (rows_of (found_of found.now))) }
     ensures maps { IfOk result (λ lists. texts_of lists.1.items ≡ values_of (codes "map") (rows_of (found_of found.now))) }
+    ensures tolerances { IfOk result (λ lists. texts_of lists.2.items ≡ values_of (codes "tolerance") (rows_of (found_of found.now))) }
 {
     let channels = texts_in(alloc, found, CHANNEL.id)?;
     let maps = texts_in(alloc, found, MAP.id)?;
-    Ok((channels, maps))
+    let tolerances = texts_in(alloc, found, TOLERANCE.id)?;
+    Ok((channels, maps, tolerances))
 }
 
 /// What is given of the options, with these choices. An option that the command has not is found nowhere.
@@ -272,7 +276,6 @@ fn options_in<'a>(found: &ArgMatches<'a>, choices: Choices) -> Options<'a>
         rate: asked_number(found, RATE.id),
         rows: is_given(found, ROWS.id),
         slack: asked_number(found, SLACK.id),
-        tolerance: asked_number(found, TOLERANCE.id),
         events: is_given(found, EVENTS.id),
         text: is_given(found, TEXT.id),
         names: is_given(found, NAMES.id),

@@ -1,7 +1,8 @@
 //! The options for the times in a log: their unit, and from when on they are counted.
 ghost use Rattle.std.specs.Prelude.{◌≡◌, Some, codes};
 ghost use Rattle.clap.specs.Words.{first_of, found_of, rows_of};
-ghost use Rattle.a429_arguments.specs.RequestRows.{number_up_to, origin_given, unit_given};
+ghost use Rattle.a429_arguments.specs.RequestRows.{origin_given, unit_given};
+ghost use Rattle.a429_arguments.specs.Numbers.{number_up_to};
 ghost use Rattle.a429_arguments.specs.Requests.{last_origin};
 
 use crate::options::{FROM, TIME};

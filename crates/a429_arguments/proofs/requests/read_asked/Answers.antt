@@ -16,5 +16,5 @@ returns-clause-asked c = λ r same wide is.
     let number = c.number_in.ensures r.number (subst (λ (x : CommandRow). IsGivenNumber rows x.number r.number) row is.number) in
     let more = c.in_ok-more.ensures.more r.more (subst (λ (x : CommandRow). AreGivenTexts rows x.more r.more) row is.more) in
     let options = c.options_in.ensures r.options (row_of r.verb).name wide is.options in
-    asked_is r c.args.form.now.verb _ _ _ _ _ _ _ _ _ (sym same) first second third number more (c.in_ok-more.ensures.inputs ∙ is.inputs) (c.in_ok-channels.ensures.channels ∙ is.channels)
-    (c.in_ok-channels.ensures.maps ∙ is.maps) options
+    asked_is r c.args.form.now.verb _ _ _ _ _ _ _ _ _ _ (sym same) first second third number more (c.in_ok-more.ensures.inputs ∙ is.inputs) (c.in_ok-channels.ensures.channels ∙ is.channels)
+    (c.in_ok-channels.ensures.maps ∙ is.maps) (c.in_ok-channels.ensures.tolerances ∙ is.tolerances) options

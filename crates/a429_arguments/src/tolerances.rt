@@ -1,0 +1,169 @@
+//! The texts of `--tolerance`, which say how far recorded times may be wrong: `US` is for all groups, and `GROUP=US` for the
+//! group of this name.
+//!
+//! The last `=` counts: `a=b=500` is for the group `a=b`.
+ghost use Rattle.std.specs.Prelude.{◌≡◌, false, is_some, not, option_map};
+ghost use Rattle.std.specs.List.{list_all};
+ghost use Rattle.a429_arguments.specs.Texts.{texts_of};
+ghost use Rattle.a429_arguments.specs.Tolerances.{FitTogether, HasToleranceForm, NamesGroup, TolerancesAreFor, are_tolerances, first_general_number, first_own_number, general_number, is_general_again, is_tolerance, microseconds_of, own_number, tolerance_for, tolerance_group};
+ghost use Rattle.a429_text.specs.Renames.{halves};
+
+use a429_text::renames;
+
+/// The greatest tolerance, in microseconds: that of the longest interval of an output (profile).
+const MOST_TOLERANCE: u32 = 30_000_000;
+
+/// GROUP and US of a text GROUP=US. `None` for a text US.
+fn halves(text: &str) -> Option<(&str, &str)>
+    ensures { option_map (λ p. (p.0.now, p.1.now)) result ≡ halves text.now }
+{
+    match renames::halves(text.as_bytes()) {
+        Some((group, _)) => Some((&text[..group.len()], &text[group.len() + 1..])),
+        None => None,
+    }
+}
+
+/// The number of US in microseconds. `None` if it is no whole number from 0 to 30000000.
+fn microseconds_in(text: &str) -> Option<u32>
+    ensures { result ≡ microseconds_of text.now }
+{
+    match text.parse::<u32>() {
+        Ok(number) => {
+            if number <= MOST_TOLERANCE {
+                Some(number)
+            } else {
+                None
+            }
+        }
+        Err(_) => None,
+    }
+}
+
+/// GROUP of a text GROUP=US, which is for the group of this name. `None` for a text US, which is for all groups.
+pub fn tolerance_group<'a>(text: &'a str) -> Option<&'a str>
+    ensures { option_map (λ group. group.now) result ≡ tolerance_group text.now }
+{
+    match halves(text) {
+        Some((group, _)) => Some(group),
+        None => None,
+    }
+}
+
+/// The number that a text gives the group of this name alone, in microseconds.
+fn own_number(text: &str, group: &[u8]) -> Option<u32>
+    ensures { result ≡ own_number group.now text.now }
+{
+    match halves(text) {
+        Some((own, number)) if own.as_bytes() == group => microseconds_in(number),
+        _ => None,
+    }
+}
+
+/// The number that a text gives all groups, in microseconds.
+fn general_number(text: &str) -> Option<u32>
+    ensures { result ≡ general_number text.now }
+{
+    match tolerance_group(text) {
+        Some(_) => None,
+        None => microseconds_in(text),
+    }
+}
+
+/// The number of the first text that gives the group of this name one of its own.
+fn first_own_number(texts: &[&str], group: &[u8]) -> Option<u32>
+    ensures { result ≡ first_own_number group.now (texts_of texts.now) }
+{
+    for text in texts {
+        if let Some(number) = own_number(*text, group) {
+            return Some(number);
+        }
+    }
+    None
+}
+
+/// The number of the first text that gives all groups one.
+fn first_general_number(texts: &[&str]) -> Option<u32>
+    ensures { result ≡ first_general_number (texts_of texts.now) }
+{
+    for text in texts {
+        if let Some(number) = general_number(*text) {
+            return Some(number);
+        }
+    }
+    None
+}
+
+/// How far recorded times of the group of this name may be wrong by these texts, in microseconds: the number of its own,
+/// and if there is none that of all groups. `None` if no text gives it a number.
+pub fn tolerance_for(texts: &[&str], group: &[u8]) -> Option<u32>
+    ensures { result ≡ tolerance_for (texts_of texts.now) group.now }
+{
+    match first_own_number(texts, group) {
+        Some(number) => Some(number),
+        None => first_general_number(texts),
+    }
+}
+
+/// Whether a text is US, or GROUP=US with a byte in GROUP.
+fn is_tolerance(text: &str) -> bool
+    ensures { result ≡ is_tolerance text.now }
+{
+    match halves(text) {
+        Some((group, number)) => !group.is_empty() && microseconds_in(number).is_some(),
+        None => microseconds_in(text).is_some(),
+    }
+}
+
+/// Whether all these texts are.
+fn have_form(texts: &[&str]) -> bool
+    ensures { result ≡ list_all is_tolerance (texts_of texts.now) }
+{
+    for text in texts {
+        if !is_tolerance(*text) {
+            return false;
+        }
+    }
+    true
+}
+
+/// Whether two of the texts are for all groups.
+fn is_general_twice(texts: &[&str]) -> bool
+    ensures { result ≡ is_general_again false (texts_of texts.now) }
+{
+    let mut seen = false;
+    for text in texts {
+        if tolerance_group(*text).is_none() {
+            if seen {
+                return true;
+            }
+            seen = true;
+        }
+    }
+    false
+}
+
+/// What is wrong, if these texts cannot be given together: one is neither US nor GROUP=US, or two are for one group or for
+/// all groups.
+pub fn fault_in(texts: &[&str]) -> Option<&'static str>
+    ensures { is_some result ≡ not (are_tolerances (texts_of texts.now)) }
+{
+    if !have_form(texts) {
+        Some(
+            "'--tolerance <US>' takes 0 to 30000000, or a group, '=' and such a number, as in engine=500",
+        )
+    } else if renames::has_one_from_twice(texts) {
+        Some("'--tolerance <US>' is given twice for one group")
+    } else if is_general_twice(texts) {
+        Some("'--tolerance <US>' is given twice for all groups")
+    } else {
+        None
+    }
+}
+
+/// What some texts say: the definitions, by examples.
+pub fn tolerances_are_as_written()
+    ensures numbers { TolerancesAreFor }
+    ensures groups { NamesGroup }
+    ensures form { HasToleranceForm }
+    ensures together { FitTogether }
+{}
