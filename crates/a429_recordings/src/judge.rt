@@ -216,7 +216,7 @@ fn is_no_group(names: &Names, text: &str) -> bool
 
 /// The first group for which a tolerance is given, but which is not there. `None`: each is there.
 fn no_group_of<'a>(names: &Names, tolerances: &'a [&'a str]) -> Option<&'a str>
-    ensures { option_map (λ (name : &str). name.now) result ≡ no_group_of names.now (texts_of tolerances.now) }
+    ensures { option_map (λ name. name.now) result ≡ no_group_of names.now (texts_of tolerances.now) }
 {
     for text in tolerances {
         if is_no_group(names, text) {
