@@ -126,7 +126,7 @@ Examples:
   a429 import examples/displays/labels.csv > table.toml
   a429 import rows.csv --map \"Min (ms)=min_ms\" > table.toml";
 
-pub const PLAN: &str = "Plan a station on the fewest buses, with the bound that shows it";
+pub const PLAN: &str = "Plan a station on the fewest buses for its periods, with their bound";
 
 pub const PLAN_END: &str = "\
 Example:
