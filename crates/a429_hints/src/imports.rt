@@ -9,8 +9,8 @@ use a429_console::refusals::evidence::RowsEvidence;
 use a429_console::refusals::{CommandRefusal, CsvKind};
 use a429_filter::Filter;
 use a429_import::{
-    CsvLine, Heading, IMPORT_COLUMNS, ImportColumn, LineCount, column_in, csv_lines, form_fault,
-    is_column_named, made_name, named_by,
+    CsvLine, Heading, IMPORT_COLUMNS, ImportColumn, column_in, csv_lines, form_fault,
+    is_column_named, made_name, misquoted_line, named_by,
 };
 
 /// How many bytes of a file are read for a hint.
@@ -31,12 +31,10 @@ pub fn tell_rows(
     if let Some(kind) = other_rows(&evidence.bytes) {
         return hint.say_line(kind);
     }
-    if let CommandRefusal::Csv {
-        line,
-        kind: CsvKind::Wide,
-    } = refusal
-    {
-        return tell_wide(*line, hint);
+    if let CommandRefusal::Csv { line, kind } = refusal {
+        if tell_text(*line, *kind, maps, evidence, hint) {
+            return;
+        }
     }
     let Ok(lines) = csv_lines(hint.alloc, maps, first_lines(&evidence.bytes)) else {
         return hint.give_up();
@@ -83,12 +81,27 @@ fn tell_lines(
     }
 }
 
-/// Says that a row has too many fields. The row is not read for it.
-fn tell_wide(line: u64, hint: &HintText) {
+/// Says that a row has too many fields, or that the quotes of a field are wrong. No row is read for it. The answer is whether
+/// this is so.
+fn tell_text(
+    line: u64,
+    kind: CsvKind,
+    maps: &[&str],
+    evidence: &RowsEvidence,
+    hint: &HintText,
+) -> bool {
+    let text = match kind {
+        CsvKind::Wide => {
+            "the row has more than 100000 fields; spreadsheet programs have at most 16384 columns"
+        }
+        CsvKind::Form if misquoted_line(maps, &evidence.bytes).is_some() => {
+            "a field begins with a quote; the quote that closes it is missing, or text follows it; write quotes inside it twice"
+        }
+        _ => return false,
+    };
     hint.turn_to_line(line as usize);
-    hint.say_line(
-        "the row has more than 100000 fields; spreadsheet programs have at most 16384 columns",
-    );
+    hint.say_line(text);
+    true
 }
 
 /// The lines of a file that are read for a hint: as many as 1 MiB has. Rows of a person have fewer bytes, and a hint needs
@@ -139,10 +152,6 @@ fn tell_faulty_rows(
         return;
     };
     match (column_of(evidence), kind) {
-        (None, _) if has_open_quote(&evidence.bytes, line) => {
-            hint.turn_to_line(line as usize);
-            return hint.say_line("the row has a quote that is not closed");
-        }
         (None, _) => tell_count(file, row, hint),
         (Some(column), CsvKind::Differs) => tell_differs(FileField { file, row, column }, hint),
         (Some(column), _) => tell_form(FileField { file, row, column }, hint),
@@ -190,19 +199,6 @@ fn tell_count(file: FileRows, row: &CsvLine, hint: &HintText) {
         row.len(),
         file.titles.len(),
     );
-}
-
-/// Whether the number of quotes from a line to the end of a text is odd.
-fn has_open_quote(bytes: &[u8], line: u64) -> bool {
-    let mut count = LineCount::new();
-    let mut is_open = false;
-    for byte in bytes {
-        if count.line() >= line && *byte == b'"' {
-            is_open = !is_open;
-        }
-        count.pass(*byte);
-    }
-    is_open
 }
 
 /// Says what is wrong with a field that does not have the form of its column.

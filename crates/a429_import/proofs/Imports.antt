@@ -13,6 +13,7 @@ use Rattle.a429_table.specs.Faults.{faults, first}
 use Rattle.a429_table.specs.Reading.{GivesUnlessMemory, document, judged, reading}
 use Rattle.a429_table.specs.Stated.{stated}
 use Rattle.a429_table.proofs.Documents.{document-text}
+use Rattle.a429_import.specs.declared.fault.CsvFaultKind.TheVariants.{Form}
 use Rattle.a429_import.specs.declared.fault.ImportColumn.{ImportColumn}
 use Rattle.a429_import.specs.declared.fault.ImportFault.{ImportFault}
 use Rattle.a429_import.specs.declared.fault.ImportFault.TheVariants.{NoMemory, Csv, Wide, Table}
@@ -20,9 +21,10 @@ use Rattle.a429_import.specs.declared.lines.CsvLine.{CsvLine}
 use Rattle.a429_import.specs.declared.rows.ImportRow.{ImportRow}
 use Rattle.a429_import.specs.ImportFaults.{of_table}
 use Rattle.a429_import.specs.ImportForms.{from_heading, separator_in}
+use Rattle.a429_import.specs.ImportQuotes.{has_wrong_quotes}
 use Rattle.a429_import.specs.ImportRows.{rows_stated}
 use Rattle.a429_import.specs.ImportTables.{record_stated, root_members}
-use Rattle.a429_import.specs.Imports.{AreNamedLines, IsImport, IsImportBy, IsImportOf, IsImportUnless, has_wide_row, is_wide_text}
+use Rattle.a429_import.specs.Imports.{AreNamedLines, IsImport, IsImportBy, IsImportIf, IsImportOf, IsImportUnless, has_wide_row, is_misquoted_text, is_wide_text, separated}
 use Rattle.a429_import.specs.MadeLines.{first_twin}
 use Rattle.a429_import.proofs.ImportRanges.{stated_in_range}
 use Rattle.a429_import.proofs.ImportRecords.{tree_states}
@@ -78,10 +80,28 @@ by_wide : (makes_names : Bool) (lines : List CsvLine) (line : ℕ) → IsImportB
 by_wide false lines line h = h
 by_wide true lines line h = unless_wide (first_twin lines) h.0 line h.2
 
-pub import_of : (maps : List (List ℕ)) (makes_names : Bool) (text : List ℕ) (lines : List CsvLine) (result : Result (Vec ℕ Global) ImportFault) → is_wide_text maps text ≡ false → AreNamedLines maps text lines
-    → IsImportBy makes_names lines result → IsImport maps makes_names text result
-import_of maps makes_names text lines (Ok bytes) narrow are h = (narrow, lines, are, h)
-import_of maps makes_names text lines (Err NoMemory) narrow are h = tt
-import_of maps makes_names text lines (Err (Csv line kind column)) narrow are h = (narrow, lines, are, h)
-import_of maps makes_names text lines (Err (Wide line)) narrow are h = absurd (by_wide makes_names lines line h)
-import_of maps makes_names text lines (Err (Table f)) narrow are h = (narrow, lines, are, h)
+-- the rest of what is imported, if the quotes are right
+module _ (maps : List (List ℕ)) (makes_names : Bool) (text : List ℕ) where
+  quoted : (lines : List CsvLine) (result : Result (Vec ℕ Global) ImportFault) → is_misquoted_text maps text ≡ false → AreNamedLines maps text lines → IsImportBy makes_names lines result
+      → IsImportIf (is_misquoted_text maps text) maps makes_names text result
+  quoted lines result right are h = subst (λ (b : Bool). IsImportIf b maps makes_names text result) (sym right) (lines, are, h)
+
+  pub import_of : (lines : List CsvLine) (result : Result (Vec ℕ Global) ImportFault) → is_wide_text maps text ≡ false → is_misquoted_text maps text ≡ false → AreNamedLines maps text lines
+      → IsImportBy makes_names lines result → IsImport maps makes_names text result
+  import_of lines (Ok bytes) narrow right are h = (narrow, quoted lines (Ok bytes) right are h)
+  import_of lines (Err NoMemory) narrow right are h = tt
+  import_of lines (Err (Csv line kind column)) narrow right are h = (narrow, quoted lines (Err (Csv line kind column)) right are h)
+  import_of lines (Err (Wide line)) narrow right are h = absurd (by_wide makes_names lines line h)
+  import_of lines (Err (Table f)) narrow right are h = (narrow, quoted lines (Err (Table f)) right are h)
+
+  -- a text whose quotes are wrong
+  pub misquoted_import : (line : ℕ) (result : Result (Vec ℕ Global) ImportFault) → is_wide_text maps text ≡ false → is_misquoted_text maps text ≡ true → result ≡ Err (Csv line Form None) → IsImport maps makes_names text result
+  misquoted_import line result narrow wrong is =
+      let fault : Result (Vec ℕ Global) ImportFault = Err (Csv line Form None) in
+      let there : IsImportIf (is_misquoted_text maps text) maps makes_names text fault = subst (λ (b : Bool). IsImportIf b maps makes_names text fault) (sym wrong) (line, refl) in
+      subst (λ (r : Result (Vec ℕ Global) ImportFault). IsImport maps makes_names text r) (sym is) (narrow, there)
+
+-- quotes that are wrong by the form of the text
+pub misquoted_by : (maps : List (List ℕ)) (text : List ℕ) (separator : ℕ) (rows : List ℕ) (wrong : Bool) → separator ≡ separator_in maps text → rows ≡ from_heading maps text
+    → wrong ≡ has_wrong_quotes (separated separator) rows text → is_misquoted_text maps text ≡ wrong
+misquoted_by maps text separator rows wrong by from is = ap₂ (λ (s : ℕ) (xs : List ℕ). has_wrong_quotes (separated s) xs text) (sym by) (sym from) ∙ sym is

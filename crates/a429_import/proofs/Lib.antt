@@ -19,6 +19,8 @@ mod FirstLimits
 mod FullRows
 pub mod ImportForms
 pub mod ImportWidths
+pub mod ImportQuotes
+pub mod WrittenQuotes
 mod PartsOfText
 mod ImportMaps
 pub mod MadeNames

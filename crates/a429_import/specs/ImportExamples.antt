@@ -5,6 +5,7 @@ use Rattle.a429_import.specs.declared.rows.RowNumbers.{RowNumbers}
 use Rattle.a429_import.specs.ImportFields.{label_in, millis_in, rate_in, sdi_in}
 use Rattle.a429_import.specs.ImportForms.{heading_of}
 use Rattle.a429_import.specs.ImportMaps.{mapped, names_by}
+use Rattle.a429_import.specs.Imports.{is_misquoted_text}
 use Rattle.a429_import.specs.ImportRows.{is_in_millis, is_named, numbers_of}
 use Rattle.a429_import.specs.MadeLines.{made_fields}
 use Rattle.a429_import.specs.MadeNames.{made_field, made_name}
@@ -87,3 +88,17 @@ pub record MakesNames : Type 0 where
 -- the fields of a line below a heading
 pub record MakesFields : Type 0 where
   pub some : made_fields (codes "Source" ∷ codes "note" ∷ codes "group" ∷ []) (codes "True Heading" ∷ codes "No 1" ∷ [] ∷ []) ≡ codes "true-heading" ∷ codes "No 1" ∷ [] ∷ []
+
+-- quotes: a field that is not closed, in the heading, in rows and above the heading; text after the quote that closes a field; quotes within a field
+-- are text
+pub record ReadsQuotes : Type 0 where
+  pub closed : is_misquoted_text [] (codes "group,rate\n\"g,1\",\"a \"\"b\"\"\n\"\r\n") ≡ false
+  pub not_closed : is_misquoted_text [] (codes "group,rate\n1,\"x\n2,y\n") ≡ true
+  pub doubled : is_misquoted_text [] (codes "group,rate\n1,\"x\"\"") ≡ true
+  pub heading : is_misquoted_text [] (codes "group;rate;\"x\r\n1;2;\r\n") ≡ true
+  pub above : is_misquoted_text [] (codes "Outputs,\"x\ngroup,rate\n1,2\n") ≡ true
+  pub after : is_misquoted_text [] (codes "group,rate\n1,\"x\n2,\"y\"\n") ≡ true
+  pub space : is_misquoted_text [] (codes "group,rate\n\"x\" ,2\n") ≡ true
+  pub title : is_misquoted_text [] (codes "\"A\" to B\ngroup,rate\n1,2\n") ≡ false
+  pub within : is_misquoted_text [] (codes "group,rate\n5\",=\"203\"") ≡ false
+  pub mark : is_misquoted_text [] (239 ∷ 187 ∷ 191 ∷ codes "\"group\",rate\n") ≡ false

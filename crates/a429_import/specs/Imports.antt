@@ -10,7 +10,7 @@ use Rattle.toml.specs.Data.{table}
 use Rattle.a429_table.specs.declared.fault.TableFault.TheVariants as fault
 use Rattle.a429_table.specs.Faults.{faults, first}
 use Rattle.a429_table.specs.Reading.{reading}
-use Rattle.a429_import.specs.declared.fault.CsvFaultKind.TheVariants.{Differs}
+use Rattle.a429_import.specs.declared.fault.CsvFaultKind.TheVariants.{Differs, Form}
 use Rattle.a429_import.specs.declared.fault.ImportColumn.{ImportColumn}
 use Rattle.a429_import.specs.declared.fault.ImportFault.{ImportFault}
 use Rattle.a429_import.specs.declared.fault.ImportFault.TheVariants.{NoMemory, Csv, Wide, Table}
@@ -18,6 +18,7 @@ use Rattle.a429_import.specs.declared.lines.CsvLine.{CsvLine}
 use Rattle.a429_import.specs.declared.rows.ImportRow.{ImportRow}
 use Rattle.a429_import.specs.ImportForms.{from_heading, separator_in}
 use Rattle.a429_import.specs.ImportMaps.{AreNamedBy}
+use Rattle.a429_import.specs.ImportQuotes.{has_wrong_quotes}
 use Rattle.a429_import.specs.ImportRows.{CsvFault, rows_stated}
 use Rattle.a429_import.specs.ImportTables.{root_members, record_stated}
 use Rattle.a429_import.specs.MadeLines.{AreMade, first_twin}
@@ -66,6 +67,10 @@ has_wide_row separator text = list_any is_wide (records (separated separator) te
 abbrev pub is_wide_text : List (List ℕ) → List ℕ → Bool
 is_wide_text maps text = has_wide_row (separator_in maps text) (strip_bom (from_heading maps text))
 
+-- a field in quotes does not end with a quote and a separator or a line end: the text ends within one, or text follows the quote
+abbrev pub is_misquoted_text : List (List ℕ) → List ℕ → Bool
+is_misquoted_text maps text = has_wrong_quotes (separated (separator_in maps text)) (from_heading maps text) text
+
 -- the import of lines: the text is read as the record of the rows; a table is refused for its first fault
 abbrev pub IsImportOf : List CsvLine → Result (Vec ℕ Global) ImportFault → Type 0
 IsImportOf lines (Ok text) = (rows : List ImportRow) × (rows_stated lines ≡ Ok rows) × (reading text.items ≡ Ok (record_stated rows))
@@ -86,8 +91,13 @@ abbrev pub IsImportBy : Bool → List CsvLine → Result (Vec ℕ Global) Import
 IsImportBy false lines result = IsImportOf lines result
 IsImportBy true lines result = (made : List CsvLine) × AreMade lines made × IsImportUnless (first_twin lines) made result
 
--- the same for a text; a row with too many fields is refused before any line is looked at, and an allocation may fail before all lines are known
+-- the import of a text, unless its quotes are wrong: then no line is looked at. The line of that fault is not stated
+abbrev pub IsImportIf : Bool → List (List ℕ) → Bool → List ℕ → Result (Vec ℕ Global) ImportFault → Type 0
+IsImportIf true maps makes_names text result = (line : ℕ) × (result ≡ Err (Csv line Form None))
+IsImportIf false maps makes_names text result = (lines : List CsvLine) × AreNamedLines maps text lines × IsImportBy makes_names lines result
+
+-- the same; a row with too many fields is refused before all that, and an allocation may fail before all lines are known
 abbrev pub IsImport : List (List ℕ) → Bool → List ℕ → Result (Vec ℕ Global) ImportFault → Type 0
 IsImport maps makes_names text (Err NoMemory) = Unit {0}
 IsImport maps makes_names text (Err (Wide line)) = is_wide_text maps text ≡ true
-IsImport maps makes_names text result = (is_wide_text maps text ≡ false) × (lines : List CsvLine) × AreNamedLines maps text lines × IsImportBy makes_names lines result
+IsImport maps makes_names text result = (is_wide_text maps text ≡ false) × IsImportIf (is_misquoted_text maps text) maps makes_names text result

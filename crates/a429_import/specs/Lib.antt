@@ -3,6 +3,7 @@ pub mod ImportFields
 pub mod ImportRows
 pub mod ImportMaps
 pub mod ImportForms
+pub mod ImportQuotes
 pub mod ImportColumns
 pub mod ImportExamples
 pub mod ImportTables

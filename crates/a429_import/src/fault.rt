@@ -70,7 +70,8 @@ impl ImportColumn {
 /// What is wrong with a row.
 #[derive(Clone, Copy, Debug, PartialEq, Eq)]
 pub enum CsvFaultKind {
-    /// The row has more or fewer fields than the heading, or a field does not have the form of its column.
+    /// The row has more or fewer fields than the heading, or a field does not have the form of its column. Or a field in
+    /// quotes does not end with a quote and then a separator or a line end.
     Form,
     /// The heading lacks a column, or has it twice.
     Column,
@@ -107,9 +108,9 @@ pub enum ImportFault {
     /// An allocation failed. This can come instead of any other answer.
     #[error("out of memory")]
     NoMemory,
-    /// The rows have a fault of this kind, and no earlier row has a fault. Two texts that become one name are looked for
-    /// in all rows before any other fault. Lines are counted from 1; `column` is `None` if the row has more or fewer
-    /// fields than the heading.
+    /// The rows have a fault of this kind, and no earlier row has a fault. Fields in quotes are looked at before any other
+    /// fault, and then two texts that become one name. Lines are counted from 1. `column` is `None` if the row has more or
+    /// fewer fields than the heading. It is also `None` if the quotes of a field that begins on the line are wrong.
     #[error("csv line {line} {kind}")]
     Csv {
         line: u64,

@@ -1,12 +1,12 @@
 //! An equipment table from rows of comma-separated values.
-ghost use Rattle.std.specs.Prelude.{◌≡◌, [], false, List, Ok, true};
+ghost use Rattle.std.specs.Prelude.{◌≡◌, [], false, List, None, Ok, true};
 ghost use Rattle.a429_import.specs.declared.lines.CsvLine.{CsvLine};
 ghost use Rattle.a429_import.specs.declared.rows.ImportRow.{ImportRow};
 ghost use Rattle.a429_import.specs.ImportForms.{from_heading, separator_in};
 ghost use Rattle.a429_import.specs.ImportMaps.{given_texts};
 ghost use Rattle.a429_import.specs.ImportReading.{HasRows, HaveRows, StandsFor};
 ghost use Rattle.a429_import.specs.ImportRows.{rows_stated};
-ghost use Rattle.a429_import.specs.Imports.{IsImport, IsImportBy, IsImportOf, is_wide_text};
+ghost use Rattle.a429_import.specs.Imports.{IsImport, IsImportBy, IsImportOf, is_misquoted_text, is_wide_text};
 ghost use Rattle.a429_import.specs.MadeLines.{AreMade};
 ghost use Rattle.a429_import.specs.MadeReading.{HasMade, IsReadBy};
 
@@ -15,6 +15,7 @@ use crate::fault::{CsvFaultKind, ImportColumn, ImportFault};
 use crate::forms::{Form, form_of};
 use crate::limits::limit_fault;
 use crate::made_reading::NamesRead;
+use crate::quotes::misquoted_line_of;
 use crate::reading::{LinesRead, RowsRead, wrong_heading};
 use crate::tables::table_text;
 use crate::text_reading::read_lines;
@@ -112,13 +113,46 @@ fn read_table(
     requires separator { form.separator ≡ separator_in (given_texts maps.now) text.now }
     requires text { form.text.now ≡ from_heading (given_texts maps.now) text.now }
     requires read { IsReadBy makes_names read.old [] }
-    ensures { is_wide_text (given_texts maps.now) text.now ≡ false → IsImport (given_texts maps.now) makes_names text.now result }
+    ensures { is_wide_text (given_texts maps.now) text.now ≡ false → is_misquoted_text (given_texts maps.now) text.now ≡ false
+        → IsImport (given_texts maps.now) makes_names text.now result }
 {
     read_lines(alloc, maps, makes_names, text, form, read)?;
     table_by(alloc, makes_names, read)
 }
 
-/// The same. No row of the text has too many fields.
+/// The same. No row of the text has too many fields, and its quotes are right.
+fn table_of_text(
+    alloc: Global,
+    maps: &[&str],
+    makes_names: bool,
+    text: &[u8],
+    form: Form<'_>,
+) -> Result<Vec<u8>, ImportFault>
+    requires separator { form.separator ≡ separator_in (given_texts maps.now) text.now }
+    requires text { form.text.now ≡ from_heading (given_texts maps.now) text.now }
+    ensures { is_wide_text (given_texts maps.now) text.now ≡ false → is_misquoted_text (given_texts maps.now) text.now ≡ false
+        → IsImport (given_texts maps.now) makes_names text.now result }
+{
+    // A row with a new name has 11 bytes. So a chain has 12 names on average at most.
+    let mut read = NamesRead::new(alloc, makes_names, text.len() / 128)?;
+    let table = read_table(alloc, maps, makes_names, text, form, &mut read);
+    // One call, instead of a drop of each of its parts.
+    std::mem::drop(read);
+    table
+}
+
+/// The fault of a field that does not end as a field in quotes does.
+fn wrong_quotes(line: u64) -> ImportFault
+    ensures { result ≡ ImportFault.Csv line CsvFaultKind.Form None }
+{
+    ImportFault::Csv {
+        line,
+        kind: CsvFaultKind::Form,
+        column: None,
+    }
+}
+
+/// The same, unless quotes of the text are wrong.
 fn narrow_table(
     alloc: Global,
     maps: &[&str],
@@ -130,12 +164,10 @@ fn narrow_table(
     requires text { form.text.now ≡ from_heading (given_texts maps.now) text.now }
     ensures { is_wide_text (given_texts maps.now) text.now ≡ false → IsImport (given_texts maps.now) makes_names text.now result }
 {
-    // A row with a new name has 11 bytes. So a chain has 12 names on average at most.
-    let mut read = NamesRead::new(alloc, makes_names, text.len() / 128)?;
-    let table = read_table(alloc, maps, makes_names, text, form, &mut read);
-    // One call, instead of a drop of each of its parts.
-    std::mem::drop(read);
-    table
+    match misquoted_line_of(text, form) {
+        Some(line) => Err(wrong_quotes(line)),
+        None => table_of_text(alloc, maps, makes_names, text, form),
+    }
 }
 
 /// The equipment table, as TOML of version 2, that rows of comma-separated values describe (profile: import): a row of
@@ -147,7 +179,8 @@ fn narrow_table(
 /// With `makes_names`, the texts of groups, sources and receivers become names: `made_name` makes them. The answer has
 /// a comment above each group, source and receiver whose text differs from its name. Two texts of a column that become
 /// one name are refused: the fault is the first line whose text differs from the text of an earlier line with the same
-/// name. This comes before any other fault except a row with too many fields.
+/// name. This comes before any other fault except a row with too many fields, and a field that does not end as a field in
+/// quotes does.
 pub fn import_table(
     alloc: Global,
     maps: &[&str],

@@ -41,6 +41,7 @@ mod maps;
 mod named_rows;
 mod names;
 mod plain;
+mod quotes;
 mod reading;
 mod rows;
 mod same_tables;
@@ -55,7 +56,8 @@ pub use columns::{COLUMNS as IMPORT_COLUMNS, Heading, is_column, is_named as is_
 pub use fault::{CsvFaultKind, ImportColumn, ImportFault};
 pub use fields::{may_be_thousands, millis_in};
 pub use import::import_table;
-pub use lines::{CsvLine, LineCount, csv_lines};
+pub use lines::{CsvLine, csv_lines};
 pub use made_names::made_name;
 pub use maps::{column_in, is_met, named_by};
+pub use quotes::misquoted_line;
 pub use rows::{RowNumbers, form_fault, row_numbers};

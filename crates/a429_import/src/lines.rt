@@ -70,7 +70,7 @@ pub struct LineCount {
 
 impl LineCount {
     /// Before the first byte of a text.
-    pub fn new() -> LineCount {
+    fn new() -> LineCount {
         LineCount {
             at: 0,
             line: 1,
@@ -78,13 +78,8 @@ impl LineCount {
         }
     }
 
-    /// The line of the next byte, counted from 1.
-    pub fn line(&self) -> u64 {
-        self.line
-    }
-
     /// Counts one more byte.
-    pub fn pass(&mut self, byte: u8) {
+    fn pass(&mut self, byte: u8) {
         let ends_line = byte == b'\r' || byte == b'\n' && !self.is_after_return;
         if ends_line {
             self.line = self.line.saturating_add(1);

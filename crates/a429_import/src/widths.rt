@@ -14,7 +14,7 @@ const MOST_FIELDS: usize = 100_000;
 
 /// Where in a row a byte is.
 #[derive(Clone, Copy)]
-enum Part {
+pub enum Part {
     /// Before its first field.
     Row,
     /// The same, after a carriage return.
@@ -31,7 +31,7 @@ enum Part {
 
 /// What a byte ends.
 #[derive(Clone, Copy)]
-enum Ended {
+pub enum Ended {
     Nothing,
     /// A field that is not the last of its row.
     Field,
@@ -71,7 +71,7 @@ fn pass_first(separator: u8, byte: u8) -> (Part, Ended)
 
 /// Passes a byte as the library `csv` does.
 #[inline(always)]
-fn pass(separator: u8, part: Part, byte: u8) -> (Part, Ended)
+pub fn pass(separator: u8, part: Part, byte: u8) -> (Part, Ended)
     ensures part { state_of result.0 ≡ (step (separated separator) (state_of part) byte).0 }
     ensures ended { result.1 ≡ ended_by (step (separated separator) (state_of part) byte).1 }
 {

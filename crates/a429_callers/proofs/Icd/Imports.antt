@@ -1,10 +1,11 @@
 -- What is imported_table from the text of an interface control document has the same plan.
-use Rattle.std.proofs.Common.{◌≡◌, ◌∙◌, ℕ, Bool, false, List, [], ◌∷◌, Option, None, Some, Vec, Global, Result, Ok, Err, ap, ap₂, refl, sym}
+use Rattle.std.proofs.Common.{◌≡◌, ◌∙◌, ℕ, Bool, false, List, [], ◌∷◌, Option, None, Some, Vec, Global, Result, Ok, Err, ap, ap₂, map, refl, subst, sym}
 use Rattle.std.proofs.lemmas.Option.{none-some}
 use Rattle.csv.specs.Records.{fields_of}
 use Rattle.toml.specs.Data.{table}
 use Rattle.a429_equipment.specs.Sound.{IsSound}
 use Rattle.a429_equipment.specs.TableRecord.{TableRecord}
+use Rattle.a429_documents.specs.Document.{icd_rows}
 use Rattle.a429_slots.specs.OnePlan.{PlansAreUnique}
 use Rattle.a429_slots.specs.Proposed.{Proposed}
 use Rattle.a429_slots.specs.Tables.{PlanTable}
@@ -18,13 +19,15 @@ use Rattle.a429_import.specs.declared.fault.ImportFault.TheVariants.{Csv, NoMemo
 use Rattle.a429_import.specs.declared.lines.CsvLine.{CsvLine}
 use Rattle.a429_import.specs.declared.rows.ImportRow.{ImportRow}
 use Rattle.a429_callers.specs.ImportedIcd.{HasPlanTextOf, ImportedIcdIsSamePlan, ImportsPlan, IsWholeInIcd, icd_csv}
-use Rattle.a429_import.specs.Imports.{AreNamedLines, IsImport, IsImportOf, is_wide_text}
+use Rattle.a429_import.specs.Imports.{AreNamedLines, IsImport, IsImportIf, IsImportOf, is_misquoted_text, is_wide_text}
 use Rattle.a429_import.specs.ImportMaps.{AreNamedBy, names_by}
 use Rattle.a429_import.specs.ImportRows.{CsvFault, rows_after, rows_stated, unless_wrong, wrong_column}
 use Rattle.a429_import.specs.ImportTables.{record_stated, root_members}
 use Rattle.a429_callers.proofs.Icd.Faults.{none_at_all}
 use Rattle.a429_callers.proofs.Icd.Groups.{new_number}
 use Rattle.a429_callers.proofs.Icd.Records.{is_renumbered, sent_part}
+use Rattle.a429_callers.proofs.Icd.Fields.{texts}
+use Rattle.a429_callers.proofs.Icd.Texts.{quotes_are_right}
 use Rattle.a429_callers.proofs.Icd.Rows.{no_row_is_wide, read_table, rows_stated_are}
 use Rattle.a429_import.proofs.ImportRanges.{same_ok}
 use Rattle.a429_callers.proofs.Icd.OwnWords.{IsReadTable, read_table_is}
@@ -107,12 +110,20 @@ module _ (bytes : List ℕ) (a : Proposed) (A : IsWholeInIcd bytes a) (one_plan 
   narrow : is_wide_text [] (icd_csv a) ≡ false
   narrow = no_row_is_wide a.station sound a.plan A.plan
 
+  quoted : is_misquoted_text [] (icd_csv a) ≡ false
+  quoted = quotes_are_right (map texts (icd_rows false a.station a.plan))
+
+  of_rows : (result : Result (Vec ℕ Global) ImportFault) → IsImportIf (is_misquoted_text [] (icd_csv a)) [] false (icd_csv a) result → ImportsPlan a result
+  of_rows result imports =
+      let of = subst (λ (b : Bool). IsImportIf b [] false (icd_csv a) result) quoted imports in
+      of_lines of.0 of.1 result of.2
+
   of_text : (result : Result (Vec ℕ Global) ImportFault) → IsImport [] false (icd_csv a) result → ImportsPlan a result
-  of_text (Ok text) imports = of_lines imports.1 imports.2 (Ok text) imports.3
+  of_text (Ok text) imports = of_rows (Ok text) imports.1
   of_text (Err NoMemory) imports = tt
-  of_text (Err (Csv line kind column)) imports = of_lines imports.1 imports.2 (Err (Csv line kind column)) imports.3
+  of_text (Err (Csv line kind column)) imports = of_rows (Err (Csv line kind column)) imports.1
   of_text (Err (Wide line)) imports = cc (sym imports ∙ narrow)
-  of_text (Err (Table f)) imports = of_lines imports.1 imports.2 (Err (Table f)) imports.3
+  of_text (Err (Table f)) imports = of_rows (Err (Table f)) imports.1
 
 pub same_plan : PlansAreUnique → ImportedIcdIsSamePlan
 same_plan one_plan bytes a result A imports = of_text bytes a A one_plan result imports

@@ -1,5 +1,5 @@
 -- The text of an interface control document is read as its rows.
-use Rattle.std.proofs.Common.{◌≡◌, ◌∙◌, ◌+◌, ℕ, zero, suc, Bool, true, false, List, [], ◌∷◌, ◌++◌, Option, None, Some, arith, drop, filter, get_or, length, map, take, ap, ap₂, sym, subst, refl}
+use Rattle.std.proofs.Common.{◌≡◌, ◌∙◌, ◌+◌, ◌-◌, ℕ, zero, suc, Bool, true, false, List, [], ◌∷◌, ◌++◌, Option, None, Some, arith, drop, filter, get_or, length, map, take, ap, ap₂, sym, subst, refl}
 use Rattle.std.specs.Prelude.{◌||◌, codes, not, unwrap_or}
 use Rattle.std.specs.List.{AllByRecursion, find, flat_map, list_any}
 use Rattle.std.specs.Option.{option_map_or}
@@ -16,9 +16,11 @@ use Rattle.a429_text.specs.Sheets.{csv_text_of}
 use Rattle.a429_documents.specs.Document.{icd_columns}
 use Rattle.a429_import.specs.ImportForms.{ends_line, first_line, from_heading, from_line, heading_among, heading_of, is_heading, separator_in, separators, without_byte_order_mark}
 use Rattle.a429_import.specs.ImportRows.{is_named}
-use Rattle.a429_import.specs.Imports.{AreLines, has_text, has_wide_row, is_wide, is_wide_text, separated}
+use Rattle.a429_import.specs.Imports.{AreLines, has_text, has_wide_row, is_misquoted_text, is_wide, is_wide_text, separated}
+use Rattle.a429_import.specs.ImportQuotes.{has_wrong_quotes, is_misquoted, is_misquoted_from, text_before}
 use Rattle.a429_import.proofs.FirstPlaces.{position_first}
 use Rattle.a429_import.proofs.ImportForms.{among_here}
+use Rattle.a429_import.proofs.WrittenQuotes.{written_right}
 
 -- the lines of these rows
 abbrev text_of : List (List (List ℕ)) → List ℕ
@@ -121,10 +123,14 @@ text_is rows = ap (λ (t : List ℕ). t ++ text_of rows) heading_text
 commas_separate : (rows : List (List (List ℕ))) → separator_in [] (text rows) ≡ 44
 commas_separate rows = ap (separator_in []) (text_is rows) ∙ by_commas (text_of rows)
 
+from_itself : (rows : List (List (List ℕ))) → from_heading [] (text rows) ≡ text rows
+from_itself rows = let is = text_is rows in ap (from_heading []) is ∙ all_of_it (text_of rows) ∙ sym is
+
+unmarked : (rows : List (List (List ℕ))) → strip_bom (text rows) ≡ text rows
+unmarked rows = let is = text_is rows in ap strip_bom is ∙ no_mark (text_of rows) ∙ sym is
+
 from_the_first : (rows : List (List (List ℕ))) → strip_bom (from_heading [] (text rows)) ≡ text rows
-from_the_first rows =
-    let is = text_is rows in
-    ap (λ (t : List ℕ). strip_bom (from_heading [] t)) is ∙ ap strip_bom (all_of_it (text_of rows)) ∙ no_mark (text_of rows) ∙ sym is
+from_the_first rows = ap strip_bom (from_itself rows) ∙ unmarked rows
 
 pub lines_back : (rows : List (List (List ℕ))) (lines : List CsvLine) → HaveTexts (icd_columns ∷ rows) → AreLines [] (csv_text_of (icd_columns ∷ rows)) lines → AreRowsOf (icd_columns ∷ rows) lines
 unfolding csv_text_of
@@ -159,3 +165,19 @@ pub no_wide_row : (rows : List (List (List ℕ))) → AreNarrow (icd_columns ∷
 unfolding csv_text_of has_wide_row
 no_wide_row rows narrow =
     ap₂ (λ (s : ℕ) (xs : List ℕ). has_wide_row s xs) (commas_separate rows) (from_the_first rows) ∙ none_wide (length (text rows) + 1) (icd_columns ∷ rows) narrow
+
+-- ---- the quotes are right
+
+nothing_before : (xs : List ℕ) → text_before xs xs ≡ []
+nothing_before xs = let none : length xs - length xs ≡ 0 = omega arith in ap (λ (n : ℕ). take n xs) none
+
+none_open : is_misquoted false default_config [] ≡ false
+unfolding is_misquoted_from strip_bom
+none_open = refl
+
+pub quotes_are_right : (rows : List (List (List ℕ))) → is_misquoted_text [] (csv_text_of (icd_columns ∷ rows)) ≡ false
+unfolding csv_text_of
+quotes_are_right rows =
+    let above = ap (is_misquoted false default_config) (nothing_before (text rows)) ∙ none_open in
+    let below = ap (is_misquoted_from true default_config st.StartRecord) (unmarked rows) ∙ written_right (icd_columns ∷ rows) in
+    ap₂ (λ (s : ℕ) (xs : List ℕ). has_wrong_quotes (separated s) xs (text rows)) (commas_separate rows) (from_itself rows) ∙ ap₂ (λ (a b : Bool). a || b) above below

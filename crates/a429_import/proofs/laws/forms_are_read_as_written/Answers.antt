@@ -1,9 +1,11 @@
 use Rattle.std.proofs.Common.{refl}
 use Rattle.std.specs.Path.{rsplit_once}
+use Rattle.csv.specs.Reading.{strip_bom}
 use Rattle.a429_word.specs.Decimal.{decimal_number, is_numeral}
 use Rattle.a429_word.specs.Texts.{label_value}
 use Rattle.a429_import.specs.ImportFields.{hold_in, label_in, millis_in, number_in, rate_in, sdi_in, text_in, utf8_in}
 use Rattle.a429_import.specs.ImportForms.{heading_among}
+use Rattle.a429_import.specs.ImportQuotes.{is_misquoted_from}
 use Rattle.a429_import.specs.ImportRows.{column_field, is_column_in_millis, is_named, numbers_of}
 use Rattle.a429_equipment.specs.NameForm.{is_name}
 use Rattle.a429_import.specs.MadeNames.{made_field, made_name}
@@ -48,3 +50,7 @@ returns-clause-names c = record { cut = refl; runs = refl; stays = refl; last = 
 pub returns-clause-made : goal.returns-clause-made
 unfolding made_field made_name is_name text_in utf8_in is_utf8 chars is_named lib.Utf8.encode
 returns-clause-made c = record { some = refl }
+
+pub returns-clause-quotes : goal.returns-clause-quotes
+unfolding is_misquoted_from is_named heading_among strip_bom
+returns-clause-quotes c = record { closed = refl; not_closed = refl; doubled = refl; heading = refl; above = refl; after = refl; space = refl; title = refl; within = refl; mark = refl }

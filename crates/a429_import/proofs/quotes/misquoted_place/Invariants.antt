@@ -1,0 +1,10 @@
+use Rattle.std.proofs.Common.{◌≡◌, drop}
+use Rattle.csv.specs.declared.parser.State.TheVariants as st
+use Rattle.a429_import.specs.ImportQuotes.{is_misquoted_from}
+use Rattle.a429_import.specs.ImportWidths.{state_of}
+use Rattle.a429_import.specs.Imports.{separated}
+use Rattle.a429_import.proofs.quotes.misquoted_place.Given as goal
+
+abbrev pub invariant-loop-place : goal.invariant-loop-place
+invariant-loop-place l =
+    is_misquoted_from l.of_rows (separated l.separator) (state_of l.part) (drop l.place l.text) ≡ is_misquoted_from l.of_rows (separated l.separator) st.StartRecord l.text

@@ -1,0 +1,136 @@
+//! Fields in quotes that do not end with a quote and a separator or a line end (RFC 4180). The library `csv` reads on, so
+//! rows below such a field would become a part of it.
+ghost use Rattle.std.specs.Prelude.{◌≡◌, false, is_some, true};
+ghost use Rattle.csv.specs.Reading.{strip_bom};
+ghost use Rattle.csv.specs.declared.parser.State.TheVariants as st;
+ghost use Rattle.a429_import.specs.ImportQuotes.{breaks_quotes, has_wrong_quotes, is_after_quote, is_in_text, is_inside_quotes, is_misquoted, is_misquoted_from, text_before};
+ghost use Rattle.a429_import.specs.ImportWidths.{state_of};
+ghost use Rattle.a429_import.specs.Imports.{is_misquoted_text, separated};
+ghost use Rattle.a429_import.specs.ImportMaps.{given_texts};
+
+use crate::forms::{Form, form_of, without_mark};
+use crate::lines::line_at;
+use crate::widths::{Ended, Part, pass};
+
+/// Whether a byte is inside quotes.
+fn is_inside_quotes(part: Part) -> bool
+    ensures { result ≡ is_inside_quotes (state_of part) }
+{
+    match part {
+        Part::Quoted => true,
+        _ => false,
+    }
+}
+
+/// Whether a byte comes after a quote inside quotes.
+fn is_after_quote(part: Part) -> bool
+    ensures { result ≡ is_after_quote (state_of part) }
+{
+    match part {
+        Part::Quote => true,
+        _ => false,
+    }
+}
+
+/// Whether a byte comes after one of a field outside quotes.
+fn is_in_text(part: Part) -> bool
+    ensures { result ≡ is_in_text (state_of part) }
+{
+    match part {
+        Part::Text => true,
+        _ => false,
+    }
+}
+
+/// Whether text follows the quote that closes a field of a row, by where a byte is and where the next one is.
+#[inline(always)]
+fn breaks_quotes(of_rows: bool, before: Part, after: Part) -> bool
+    ensures { result ≡ breaks_quotes of_rows (state_of before) (state_of after) }
+{
+    of_rows && is_after_quote(before) && is_in_text(after)
+}
+
+/// The place at which a field begins, after the byte at another place.
+fn field_after(ended: Ended, begin: usize, place: usize) -> usize {
+    match ended {
+        Ended::Nothing => begin,
+        _ => place.saturating_add(1),
+    }
+}
+
+/// The place at which the first field begins that does not end as a field in quotes does. Line ends may come before the
+/// field.
+fn misquoted_place(of_rows: bool, separator: u8, text: &[u8]) -> Option<usize>
+    ensures { is_some result ≡ is_misquoted_from of_rows (separated separator) st.StartRecord text.now }
+{
+    let mut part = Part::Row;
+    let mut begin = 0;
+    for place in 0..text.len() {
+        let (next, ended) = pass(separator, part, text[place]);
+        if breaks_quotes(of_rows, part, next) {
+            return Some(begin);
+        }
+        part = next;
+        begin = field_after(ended, begin, place);
+    }
+    if is_inside_quotes(part) {
+        Some(begin)
+    } else {
+        None
+    }
+}
+
+/// What comes before the end of a text.
+fn text_before<'a>(end: &[u8], text: &'a [u8]) -> &'a [u8]
+    ensures { result.now ≡ text_before end.now text.now }
+{
+    if end.len() <= text.len() {
+        &text[..text.len() - end.len()]
+    } else {
+        &[]
+    }
+}
+
+/// The line on which such a field begins above the heading: the heading is inside its quotes.
+#[tactic(auto, using(crate::proofs::ImportWidths::same_mark))]
+fn line_above(text: &[u8], form: Form<'_>) -> Option<u64>
+    ensures { is_some result ≡ is_misquoted false (separated form.entry.separator) (text_before form.entry.text.now text.now) }
+{
+    let lines = without_mark(text_before(form.text, text));
+    match misquoted_place(false, form.separator, lines) {
+        Some(place) => Some(line_at(text, text, lines, place)),
+        None => None,
+    }
+}
+
+/// The line on which the first such field begins from the heading on.
+#[tactic(auto, using(crate::proofs::ImportWidths::same_mark))]
+fn line_of_rows(text: &[u8], form: Form<'_>) -> Option<u64>
+    ensures { is_some result ≡ is_misquoted true (separated form.entry.separator) form.entry.text.now }
+{
+    let rows = without_mark(form.text);
+    match misquoted_place(true, form.separator, rows) {
+        Some(place) => Some(line_at(text, form.text, rows, place)),
+        None => None,
+    }
+}
+
+/// The line on which the first field begins that does not end as a field in quotes does, counted from 1. The form is that of
+/// the text.
+pub fn misquoted_line_of(text: &[u8], form: Form<'_>) -> Option<u64>
+    ensures { is_some result ≡ has_wrong_quotes (separated form.entry.separator) form.entry.text.now text.now }
+{
+    match line_above(text, form) {
+        Some(line) => Some(line),
+        None => line_of_rows(text, form),
+    }
+}
+
+/// The line on which the first field begins whose quotes are wrong, counted from 1: the field is not closed, or text follows
+/// the quote that closes it. Above the heading, whose names are read by texts HEADING=COLUMN, the first alone counts. `None`
+/// if there is no such field.
+pub fn misquoted_line(maps: &[&str], text: &[u8]) -> Option<u64>
+    ensures { is_some result ≡ is_misquoted_text (given_texts maps.now) text.now }
+{
+    misquoted_line_of(text, form_of(maps, text))
+}
