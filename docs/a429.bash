@@ -6,7 +6,7 @@ word      Print the fields of a 32-bit word, and its data as BNR and as BCD
 encode    Print the 32-bit word that has these fields
 lines     Decode a recorded line: print its words, its faults, and the rest
 import    Print an equipment table, made from a spreadsheet's rows
-plan      Plan a station on the fewest buses, with the bound that shows it
+plan      Plan a station on the fewest buses for its periods, with their bound
 check     Check whether a plan's text shows the fewest buses for a station
 icd       Print the data of each output for an interface control document
 margin    Show what would save a bus in each group

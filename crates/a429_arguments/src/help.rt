@@ -129,6 +129,10 @@ Examples:
 pub const PLAN: &str = "Plan a station on the fewest buses for its periods, with their bound";
 
 pub const PLAN_END: &str = "\
+Each label recurs at the greatest power of two of slots in its interval. No
+schedule with these periods has fewer buses. Other periods can need fewer:
+`bound` of `a429 margin` is a lower bound for all of them.
+
 Example:
   a429 plan examples/first/table.toml";
 
