@@ -100,14 +100,20 @@ fn figure(number: Option<i64>) -> String {
     number.map_or(String::new(), |number| number.to_string())
 }
 
+/// When the logs end: that of what came in, and the later of the two.
+struct Ends {
+    heard: i64,
+    both: i64,
+}
+
 /// The row of an output, and whether something is found.
-fn judge(out: &mut impl Write, group: &Group, output: &Output, accepted: &[Mark], last: i64, tolerance: i64) -> io::Result<bool> {
+fn judge(out: &mut impl Write, group: &Group, output: &Output, accepted: &[Mark], ends: &Ends, tolerance: i64) -> io::Result<bool> {
     let (rate, sends) = (group.rate, &output.sends);
     let mut firsts: HashMap<u32, i64> = HashMap::new();
     for word in accepted {
         firsts.entry(word.raw).or_insert(word.time);
     }
-    let [mut wrong, mut stale, mut soon, mut late, mut missed] = [0u64; 5];
+    let [mut known, mut wrong, mut stale, mut soon, mut late, mut missed] = [0u64; 6];
     // Of each send the greatest place of an equal word that was the latest at some moment of its window.
     let mut right: Vec<Option<usize>> = Vec::with_capacity(sends.len());
     let (mut past, mut by) = (0, 0);
@@ -120,7 +126,9 @@ fn judge(out: &mut impl Write, group: &Group, output: &Output, accepted: &[Mark]
         }
         let from = past.saturating_sub(1);
         let place = (from..by).rev().find(|place| accepted[*place].raw == send.raw);
-        if place.is_none() {
+        let is_known = past > 0 && send.time + tolerance < ends.heard;
+        known += u64::from(is_known);
+        if is_known && place.is_none() {
             match firsts.get(&send.raw) {
                 Some(time) if *time <= send.time + tolerance => stale += 1,
                 _ => wrong += 1,
@@ -139,24 +147,30 @@ fn judge(out: &mut impl Write, group: &Group, output: &Output, accepted: &[Mark]
         while answer < sends.len() && right[answer].is_none_or(|right| right < place) {
             answer += 1;
         }
-        let reach = (word.time + tolerance) * rate + (output.period + 1) * SLOT;
+        let since = word.time.max(group.first.unwrap_or(0));
+        let reach = (since + tolerance) * rate + (output.period + 1) * SLOT;
         if let Some(send) = sends.get(answer) {
             delay = delay.max(Some((send.time - word.time).max(0)));
         }
-        if word.time > group.first.unwrap_or(0) + tolerance && reach <= last * rate {
+        if reach <= ends.heard * rate {
             missed += u64::from(sends.get(answer).is_none_or(|send| send.time * rate > reach));
         }
     }
     let intervals = || sends.windows(2).map(|pair| pair[1].time - pair[0].time);
-    let found = wrong + stale + soon + late + missed > 0;
-    let verdict = match (sends.is_empty(), found) {
-        (true, _) => "not-sent",
-        (false, true) => "bad",
-        (false, false) => "ok",
+    let silent = u64::from(sends.last().is_some_and(|send| send.time + output.greatest + tolerance < ends.both));
+    let found = wrong + stale + soon + late + silent + missed > 0;
+    let verdict = match (sends.len(), found) {
+        (0, true) => "not-sent",
+        (_, true) => "bad",
+        (0, false) if accepted.is_empty() => "not-sent",
+        (0 | 1, false) => "too-short",
+        (_, false) if known == 0 => "too-short",
+        (_, false) => "ok",
     };
     let (name, source, sent) = (&group.name, output.source, sends.len());
     let (least, greatest, delay) = (figure(intervals().min()), figure(intervals().max()), figure(delay));
-    writeln!(out, "{name},s{source},{sent},{least},{greatest},{delay},{wrong},{stale},{soon},{late},{missed},0,{verdict}")?;
+    write!(out, "{name},s{source},{sent},{known},{least},{greatest},{delay},")?;
+    writeln!(out, "{wrong},{stale},{soon},{late},0,{silent},{missed},{tolerance},{verdict}")?;
     Ok(found)
 }
 
@@ -186,17 +200,18 @@ fn main() -> Result<(), Box<dyn Error>> {
         }
         ends[1] = time;
     }
-    let last = ends[0].min(ends[1]);
+    let ends = Ends { heard: ends[0], both: ends[0].max(ends[1]) };
     let mut out = BufWriter::new(io::stdout());
-    writeln!(out, "group,source,sent,least_us,greatest_us,late_us,wrong,stale,soon,late,missed,again,verdict")?;
+    write!(out, "group,source,sent,known,least_us,greatest_us,late_us,")?;
+    writeln!(out, "wrong,stale,soon,late,again,silent,missed,tolerance_us,verdict")?;
     let mut found = false;
     for group in &groups {
         for output in &group.outputs {
-            found |= judge(&mut out, group, output, &accepted[output.source], last, tolerance)?;
+            found |= judge(&mut out, group, output, &accepted[output.source], &ends, tolerance)?;
         }
         found |= group.foreign > 0;
         let verdict = if group.foreign > 0 { "bad" } else { "ok" };
-        writeln!(out, "{},foreign,{},,,,,,,,,,{verdict}", group.name, group.foreign)?;
+        writeln!(out, "{},foreign,{},,,,,,,,,,,,,{verdict}", group.name, group.foreign)?;
     }
     out.flush()?;
     std::process::exit(i32::from(found));

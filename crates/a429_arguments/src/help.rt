@@ -377,8 +377,9 @@ counts its foreign words. The status is 1 if something is found:
   stale    a later word came in before
   soon     it was sent before the minimum interval was over
   late     it was sent after the maximum interval was over
-  missed   a word that came in was not sent in time
   again    a word was sent more often than `hold` says
+  silent   nothing more was sent, for longer than the maximum interval
+  missed   a word that came in was not sent in time
   foreign  a word that no output of the group sends
 
 Example:
