@@ -36,6 +36,7 @@ replay_has_words table script a b = record {
   more = tt;
   inputs = refl;
   channels = refl;
+  tolerances = refl;
   maps = refl;
   options = can_give_nothing;
   summarized = λ _ json. absurd (false≢true json);
