@@ -102,6 +102,7 @@ fn figure(number: Option<i64>) -> String {
 
 /// When the logs end: that of what came in, and the later of the two.
 struct Ends {
+    first: i64,
     heard: i64,
     both: i64,
 }
@@ -147,7 +148,7 @@ fn judge(out: &mut impl Write, group: &Group, output: &Output, accepted: &[Mark]
         while answer < sends.len() && right[answer].is_none_or(|right| right < place) {
             answer += 1;
         }
-        let since = word.time.max(group.first.unwrap_or(0));
+        let since = word.time.max(group.first.unwrap_or(ends.first));
         let reach = (since + tolerance) * rate + (output.period + 1) * SLOT;
         if let Some(send) = sends.get(answer) {
             delay = delay.max(Some((send.time - word.time).max(0)));
@@ -188,10 +189,12 @@ fn main() -> Result<(), Box<dyn Error>> {
         }
         ends[0] = time;
     }
+    let mut first = None;
     for (time, name, raw) in words(sent) {
         let (name, bus) = name.split_once('.').ok_or("no bus")?;
         let group = groups.iter_mut().find(|group| group.name == name).ok_or("no such group")?;
         group.first.get_or_insert(time);
+        first.get_or_insert(time);
         let bus: u32 = bus.parse()?;
         let fits = |place: &usize| group.outputs[*place].bus == bus;
         match group.of_label[source_of(raw)].filter(|_| is_odd(raw)).filter(fits) {
@@ -200,7 +203,7 @@ fn main() -> Result<(), Box<dyn Error>> {
         }
         ends[1] = time;
     }
-    let ends = Ends { heard: ends[0], both: ends[0].max(ends[1]) };
+    let ends = Ends { first: first.unwrap_or(0), heard: ends[0], both: ends[0].max(ends[1]) };
     let mut out = BufWriter::new(io::stdout());
     write!(out, "group,source,sent,known,least_us,greatest_us,late_us,")?;
     writeln!(out, "wrong,stale,soon,late,again,silent,missed,tolerance_us,verdict")?;

@@ -1,5 +1,5 @@
 -- The logs of a box, and which words of them are an output's.
-use Rattle.std.specs.Prelude.{ℕ, ◌-◌, ◌==◌, ◌&&◌, ◌≤◌, List, [], ◌∷◌, ◌++◌, Bool, Option, None, Some, true, count_by, filter, length, map, max, not, slice_index_or}
+use Rattle.std.specs.Prelude.{ℕ, ◌-◌, ◌==◌, ◌&&◌, ◌≤◌, List, [], ◌∷◌, ◌++◌, Bool, Option, None, Some, true, count_by, filter, length, map, max, not, slice_get, slice_index_or}
 use Rattle.std.specs.List.{find, list_any}
 use Rattle.std.specs.List.Sorted.{IsNonDecreasingBy}
 use Rattle.std.specs.Option.{option_map_or}
@@ -81,9 +81,9 @@ overlaps d e = d.label == e.label && option_map_or (λ j. option_map_or (λ k. j
 abbrev pub overlapping : Duty → List Duty → ℕ
 overlapping d duties = count_by (overlaps d) duties
 
--- the time of the first word of a group that was sent, or 0 if there is none
+-- the time of the first word of a group that was sent; if there is none, of the first word that was sent, or 0
 abbrev pub first_sent : ℕ → List Sent → ℕ
-first_sent group sent = option_map_or (λ w. w.mark.time) (find (λ w. w.group == group) sent) 0
+first_sent group sent = option_map_or (λ w. w.mark.time) (find (λ w. w.group == group) sent) (option_map_or (λ w. w.mark.time) (slice_get sent 0) 0)
 
 -- What the logs show: the first word of the group that was sent, the last word that came in, and the last word of both logs. Until then the log of
 -- what was sent has all words of the group.

@@ -30,7 +30,7 @@ pub struct Facts {
 /// to the end of the log that ends last.
 #[derive(Clone, Copy)]
 pub struct Span {
-    /// The first word of the group that was sent; 0 if there is none.
+    /// The first word of the group that was sent. If there is none, the first word that was sent, or 0.
     pub first: u64,
     /// The last word that came in, from any receiver.
     pub heard: u64,

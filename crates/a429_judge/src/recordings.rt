@@ -126,7 +126,7 @@ fn foreign_of(alloc: Global, duties: &[Duty], group: usize, sent: &[Sent]) -> Ga
     found
 }
 
-/// The time of the first word of a group, or 0 if there is none.
+/// The time of the first word of a group; if there is none, of the first word, or 0.
 fn first_sent(group: usize, sent: &[Sent]) -> u64
     ensures { result ≡ first_sent group sent.now }
 {
@@ -135,7 +135,10 @@ fn first_sent(group: usize, sent: &[Sent]) -> u64
             return word.mark.time;
         }
     }
-    0
+    match sent.first() {
+        Some(word) => word.mark.time,
+        None => 0,
+    }
 }
 
 impl Judge {
