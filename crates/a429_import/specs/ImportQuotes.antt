@@ -1,4 +1,4 @@
--- Where a field in quotes ends: with a quote, and then comes a separator, a line end or the end of the text (RFC 4180; profile: import).
+-- How a field in quotes ends: with a quote, and then comes a separator, a line end or the end of the text (RFC 4180; profile: import).
 use Rattle.std.specs.Prelude.{ℕ, ◌-◌, ◌&&◌, ◌||◌, Bool, true, false, List, [], ◌∷◌, length, take}
 use Rattle.csv.specs.Machine.{step}
 use Rattle.csv.specs.Reading.{strip_bom}
