@@ -51,8 +51,8 @@ pub fn publish<R: Wait>(
     ensures book { planner.new.book ≡ planner.old.book }
 {
     one_station_is_equality();
-    let _station = station.rate();
-    let _next = next.rate();
+    station.rows_are_sound();
+    next.rows_are_sound();
     let _ = planner.publish(rt, plan);
 }
 
@@ -87,7 +87,7 @@ pub fn ends_run_once()
 fn plan_of(alloc: Global, equipment: &Equipment) -> Option<Plan<OUTPUTS>>
     ensures { IfSome result (IsPlanOf equipment.now) }
 {
-    let _sound = equipment.rate();
+    equipment.rows_are_sound();
     plan(alloc, equipment).ok()
 }
 

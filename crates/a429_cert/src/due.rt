@@ -1,7 +1,6 @@
 //! What an equipment table asks of the text of its plan.
 
 ghost use Rattle.std.specs.Prelude.{◌≡◌, ◌<◌, Some, length, IfOk, IfErr};
-ghost use Rattle.a429_equipment.specs.Sound.{IsSound};
 ghost use Rattle.a429_cert.specs.Due.{AreDueOfGroup, IsDue, IsDueOfRow};
 ghost use Rattle.a429_cert.specs.Judged.{IsNoVerdict, IsGroupUnfit};
 
@@ -70,6 +69,7 @@ fn due_outputs(
     ensures due { IfOk result (λ outputs. AreDueOfGroup equipment.now rate group outputs.items) }
     ensures fault { IfErr result (IsGroupUnfit equipment.now rate group) }
 {
+    equipment.rows_are_sound();
     let mut outputs = Vec::new(alloc);
     let rows = equipment.outputs(group);
     for (output, row) in rows.iter().enumerate() {
@@ -86,7 +86,6 @@ fn due_outputs(
 pub fn due_of(alloc: Global, equipment: &Equipment) -> Result<DueTable, NoVerdict>
     ensures due { IfOk result (IsDue equipment.now) }
     ensures fault { IfErr result (IsNoVerdict equipment.now) }
-    ensures sound { IsSound equipment.now }
 {
     let version = equipment.version();
     let mut groups = Vec::new(alloc);

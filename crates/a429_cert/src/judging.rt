@@ -64,6 +64,7 @@ pub fn refusal_of(
     ensures fault { IfErr result (IsNoVerdict equipment.now) }
 {
     fewest_by_demand();
+    equipment.rows_are_sound();
     let due = due_of(alloc, equipment)?;
     match check_lines(alloc, &due, text) {
         Ok(()) => Ok(None),

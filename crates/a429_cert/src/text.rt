@@ -135,6 +135,7 @@ fn write_groups(text: &mut String, proposal: &Proposal<OUTPUTS>) -> Result<(), A
     ensures { Writes result text.old text.new (groups_text proposal.now.station proposal.now.plan) }
 {
     let equipment = proposal.equipment();
+    equipment.rows_are_sound();
     let version = equipment.version();
     let sources = equipment.sources();
     let groups = equipment.groups();

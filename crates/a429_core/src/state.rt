@@ -138,6 +138,7 @@ impl<const C: u32> State<C> {
     {
         sends_are_recalled();
         let (equipment, newest) = proposal.into_parts();
+        equipment.rows_are_sound();
         if !frames_fit(&newest, first_slot) {
             return Err(OpenFault::SlotsSpent);
         }

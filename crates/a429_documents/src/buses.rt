@@ -133,6 +133,7 @@ fn add_group(rows: &mut Rows, proposal: &Proposal<OUTPUTS>, group: usize)
     ensures { rows.new ≡ rows.old ++ group_rows proposal.now.station proposal.now.plan group }
 {
     let equipment = proposal.equipment();
+    equipment.rows_are_sound();
     let sources = equipment.sources();
     let groups = equipment.groups();
     let table = proposal.plan().group(group);

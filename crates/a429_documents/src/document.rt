@@ -188,6 +188,7 @@ fn add_groups(rows: &mut Rows, keeps_zeros: bool, proposal: &Proposal<OUTPUTS>)
     ensures { rows.new ≡ rows.old ++ icd_rows keeps_zeros proposal.now.station proposal.now.plan }
 {
     let equipment = proposal.equipment();
+    equipment.rows_are_sound();
     let groups = equipment.groups();
     for number in 0..groups.len() {
         let outputs = equipment.outputs(number);

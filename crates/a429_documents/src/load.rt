@@ -134,7 +134,9 @@ fn add_groups(
     ensures above { result ≡ any_above limit proposal.now.plan }
 {
     fewest_by_demand();
-    let groups = proposal.equipment().groups();
+    let equipment = proposal.equipment();
+    equipment.rows_are_sound();
+    let groups = equipment.groups();
     let mut above = false;
     for number in 0..groups.len() {
         let table = proposal.plan().group(number);

@@ -250,6 +250,7 @@ fn add_groups(
     ensures { AddsSuch result rows.old rows.new (IsMargin proposal.now.station proposal.now.plan) }
 {
     let equipment = proposal.equipment();
+    equipment.rows_are_sound();
     let sources = equipment.sources();
     let groups = equipment.groups();
     for number in 0..groups.len() {

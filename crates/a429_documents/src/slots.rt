@@ -155,6 +155,7 @@ fn add_group(rows: &mut Rows, proposal: &Proposal<OUTPUTS>, all: bool, group: us
     ensures { rows.new ≡ rows.old ++ rows_at proposal.now.station proposal.now.plan all group }
 {
     let equipment = proposal.equipment();
+    equipment.rows_are_sound();
     let sources = equipment.sources();
     let groups = equipment.groups();
     let table = proposal.plan().group(group);

@@ -60,10 +60,19 @@ impl Equipment {
         Ok(Equipment { rows, index })
     }
 
+    /// The equipment keeps to the limits of a table, and each number and name is in range. It does nothing. A function
+    /// calls it if its proof needs this fact. The other functions do not state it: a fact of many parts makes every proof
+    /// above it longer.
+    pub fn rows_are_sound(&self)
+        ensures { IsSound self.now }
+    {
+        // a proof knows the invariant if the body mentions a field
+        let _rows = &self.rows;
+    }
+
     /// The version of its table: 1 or 2 (profile: equipment table).
     pub fn version(&self) -> u32
         ensures version { result ≡ self.now.version }
-        ensures sound { IsSound self.now }
     {
         self.rows.version.number()
     }
@@ -72,7 +81,6 @@ impl Equipment {
     /// 2, in which each group has its own.
     pub fn rate(&self) -> Option<u32>
         ensures rate { result ≡ self.now.rate }
-        ensures sound { IsSound self.now }
     {
         self.rows.rate
     }
@@ -80,7 +88,6 @@ impl Equipment {
     /// The receivers, at most 16.
     pub fn receivers(&self) -> &[ReceiverRow]
         ensures rows { result.now ≡ self.now.receivers }
-        ensures sound { IsSound self.now }
     {
         self.rows.receivers.as_slice()
     }
@@ -88,7 +95,6 @@ impl Equipment {
     /// The sources, at most 256. No word of a receiver is for two of them.
     pub fn sources(&self) -> &[SourceRow]
         ensures rows { result.now ≡ self.now.sources }
-        ensures sound { IsSound self.now }
     {
         self.rows.sources.as_slice()
     }
@@ -96,7 +102,6 @@ impl Equipment {
     /// The groups, at most 8.
     pub fn groups(&self) -> &[GroupRow]
         ensures rows { result.now ≡ self.now.groups }
-        ensures sound { IsSound self.now }
     {
         self.rows.groups.as_slice()
     }
@@ -105,7 +110,6 @@ impl Equipment {
     pub fn group_rate(&self, group: usize) -> u32
         requires { group < length self.now.groups }
         ensures rate { option_map (λ row. row.rate) (slice_get self.now.groups group) ≡ Some result }
-        ensures sound { IsSound self.now }
     {
         self.rows.groups[group].rate
     }
@@ -114,7 +118,6 @@ impl Equipment {
     pub fn outputs(&self, group: usize) -> &[OutputRow]
         requires { group < length self.now.groups }
         ensures rows { slice_get self.now.outputs group ≡ Some result.now }
-        ensures sound { IsSound self.now }
     {
         self.rows.outputs[group].as_slice()
     }
@@ -125,7 +128,6 @@ impl Equipment {
         requires group { group < length self.now.groups }
         requires output { output < length (outputs_in self.now group) }
         ensures hold { option_map (λ row. row.hold) (slice_get (outputs_in self.now group) output) ≡ Some result }
-        ensures sound { IsSound self.now }
     {
         self.rows.outputs[group][output].hold
     }

@@ -103,6 +103,7 @@ fn count_sinks(alloc: Global, groups: usize) -> Result<Vec<CountSink>, AllocErro
 
 /// How many threads a run needs: one for each receiver and each group.
 fn threads_of(equipment: &Equipment) -> usize {
+    equipment.rows_are_sound();
     equipment.receivers().len() + equipment.groups().len()
 }
 

@@ -94,6 +94,7 @@ impl Names {
     pub fn of(alloc: Global, equipment: &Equipment) -> Result<Names, AllocError>
         ensures { IfOk result (λ names. names ≡ naming_of equipment.now) }
     {
+        equipment.rows_are_sound();
         let receivers = receiver_names(alloc, equipment.receivers())?;
         let sources = source_names(alloc, equipment.sources())?;
         let groups = group_names(alloc, equipment.groups())?;

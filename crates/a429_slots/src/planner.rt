@@ -99,6 +99,7 @@ pub fn plan<const N: usize>(alloc: Global, equipment: &Equipment) -> Result<Plan
     ensures planned { IfOk result (λ plan. IsPlanOf equipment.now plan) }
     ensures fault { IfErr result (IsFaultOf equipment.now) }
 {
+    equipment.rows_are_sound();
     let sources = equipment.sources();
     let mut plan = Plan::empty();
     for group in 0..equipment.groups().len() {

@@ -314,6 +314,7 @@ pub fn live_planned<
     if frames > FRAMES {
         return Err(LiveFault::TooMuch);
     }
+    equipment.rows_are_sound();
     let watchers = equipment.groups().len().max(1) as u32;
     let Ok(opened) = Board::open(rt, alloc, plan, watchers) else {
         return Err(LiveFault::NoMemory);

@@ -99,7 +99,7 @@ fn plan_of_read(
     ensures fault { IfErr result (λ fault. (p : Planning) → IsReplanFault (record { station = station.now; planner = p }) table.now fault) }
 {
     let _ = table;
-    let _sound = equipment.rate();
+    equipment.rows_are_sound();
     let plan = plan(alloc, equipment)?;
     if station.same_station(equipment) {
         Ok(plan)
@@ -138,7 +138,7 @@ impl<'a, R: Wait> Station<'a, R> {
         requires first { planner.list ≡ planner.last ∷ [] }
         ensures { result ≡ record { station = equipment.now; planner = planner } }
     {
-        let _sound = equipment.rate();
+        equipment.rows_are_sound();
         Station {
             rt,
             alloc,

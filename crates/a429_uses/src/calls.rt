@@ -27,7 +27,7 @@ pub fn plan_table(alloc: Global, table: &[u8]) -> Option<Proposal<OUTPUTS>>
     ensures { IfSome result (λ p. IsPlanOf p.station p.plan) }
 {
     let equipment = read_equipment(alloc, table).ok()?;
-    let _groups = equipment.groups();
+    equipment.rows_are_sound();
     Proposal::of(alloc, equipment).ok()
 }
 

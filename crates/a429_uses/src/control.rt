@@ -28,7 +28,7 @@ fn further_plan(alloc: Global, station: &Equipment, table: &[u8]) -> anyhow::Res
     if !station.same_station(&next) {
         bail!("the table is of another station");
     }
-    let _sound = next.rate();
+    next.rows_are_sound();
     Ok(plan(alloc, &next)?)
 }
 

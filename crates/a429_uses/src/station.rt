@@ -113,7 +113,7 @@ fn open_station<R: Wait>(
     requires group { 0 < length equipment.now.groups }
     ensures { IfOk result (λ ends. EndsAreReady equipment.now ends.receiver ends.transmit ends.planner) }
 {
-    let _sound = equipment.rate();
+    equipment.rows_are_sound();
     let plan = plan(alloc, equipment)?;
     let (receiver, transmitter) = open_values(alloc, equipment)?;
     let (transmit, planner) = open_board(rt, alloc, plan, transmitter)?;

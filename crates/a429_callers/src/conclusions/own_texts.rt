@@ -16,7 +16,7 @@ pub fn own_text_checked(alloc: Global, table: &[u8]) -> Option<Result<Verdict, C
     let Ok(equipment) = read_equipment(alloc, table) else {
         return None;
     };
-    let _rate = equipment.rate();
+    equipment.rows_are_sound();
     let Ok(proposal) = Proposal::of(alloc, equipment) else {
         return None;
     };

@@ -46,7 +46,7 @@ pub fn run_station<
     one_run();
     word_was_accepted();
     known_words_go_out_in_time();
-    let _sound = equipment.rate();
+    equipment.rows_are_sound();
     match live(rt, alloc, equipment, sources, sinks, frames, gate, control) {
         Ok(report) => Some(report),
         Err(_) => None,

@@ -19,6 +19,7 @@ pub fn source_name(equipment: &Equipment, group: usize, output: usize) -> Name
     ensures { result ≡ output_name equipment.now group output }
 {
     if group >= equipment.groups().len() {
+        equipment.rows_are_sound();
         return Name::of("");
     }
     let Some(output) = equipment.outputs(group).get(output) else {

@@ -182,7 +182,9 @@ fn groups(proposal: &Proposal<OUTPUTS>) -> usize
     ensures count { result ≡ length proposal.now.station.groups }
     ensures few { result ≤ 8 }
 {
-    proposal.equipment().groups().len()
+    let equipment = proposal.equipment();
+    equipment.rows_are_sound();
+    equipment.groups().len()
 }
 
 /// Adds the rows of the groups that both proposals have.

@@ -51,6 +51,7 @@ fn drawn_group(proposal: &Proposal<OUTPUTS>, form: DrawingForm, number: usize) -
     requires { number < length (groups_of proposal.now.plan) }
 {
     let equipment = proposal.equipment();
+    equipment.rows_are_sound();
     let groups = equipment.groups();
     DrawnGroup {
         number,

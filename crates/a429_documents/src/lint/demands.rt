@@ -17,6 +17,7 @@ pub fn demands_of_groups(
 ) -> Result<Vec<Vec<Demand>>, AllocError>
     ensures { IfOk result (λ asked. AreAsked equipment.now (map (λ v. v.items) asked.items)) }
 {
+    equipment.rows_are_sound();
     let sources = equipment.sources();
     let mut all = Vec::new(alloc);
     for group in 0..equipment.groups().len() {

@@ -250,6 +250,7 @@ pub fn add_groups(
     requires asked { AreAsked equipment.now (map (λ v. v.items) asked.now) }
     ensures { found.new ≡ found.old ++ group_findings equipment.now (map (λ v. v.items) asked.now) kind }
 {
+    equipment.rows_are_sound();
     let sources = equipment.sources();
     let groups = equipment.groups();
     for number in 0..groups.len() {

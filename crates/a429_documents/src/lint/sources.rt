@@ -88,6 +88,7 @@ fn add_source(
 pub fn add_sources(found: &mut Rows, equipment: &Equipment, kind: SourceFinding)
     ensures { found.new ≡ found.old ++ of_each (length equipment.now.sources) (source_rows equipment.now kind) }
 {
+    equipment.rows_are_sound();
     let sources = equipment.sources();
     for number in 0..sources.len() {
         add_source(found, equipment, kind, number, &sources[number]);

@@ -224,6 +224,7 @@ fn put_group(text: &mut Text, proposal: &Proposal<OUTPUTS>, number: usize)
     ensures { text.new ≡ text.old ++ part_at proposal.now.station proposal.now.plan number }
 {
     let equipment = proposal.equipment();
+    equipment.rows_are_sound();
     let sources = equipment.sources();
     let groups = equipment.groups();
     let table = proposal.plan().group(number);

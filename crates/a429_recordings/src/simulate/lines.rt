@@ -143,7 +143,7 @@ impl Setting {
         ensures name { result.now ≡ name_at (naming_of self.now.proposal.station).groups group }
         ensures short { length result.now ≤ 16 }
     {
-        prove!(self.proposal.equipment().groups().len() <= 8);
+        self.proposal.equipment().rows_are_sound();
         self.names.group_name(group)
     }
 
@@ -155,7 +155,7 @@ impl Setting {
         ensures name { result.now ≡ name_at (naming_of self.now.proposal.station).sources source }
         ensures short { length result.now ≤ 16 }
     {
-        prove!(self.proposal.equipment().sources().len() <= 256);
+        self.proposal.equipment().rows_are_sound();
         self.names.source_name(source)
     }
 
@@ -166,7 +166,7 @@ impl Setting {
         ensures name { result.now ≡ name_at (naming_of self.now.proposal.station).receivers receiver }
         ensures short { length result.now ≤ 16 }
     {
-        prove!(self.proposal.equipment().receivers().len() <= 16);
+        self.proposal.equipment().rows_are_sound();
         self.names.receiver_name(receiver)
     }
 

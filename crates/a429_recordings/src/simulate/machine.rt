@@ -66,7 +66,9 @@ impl Run {
         ensures { IsOpening proposal.now result }
     {
         let unheard = Heard { word: 0, time: 0 };
-        let heard = vec![in alloc; unheard; proposal.equipment().sources().len()]?;
+        let equipment = proposal.equipment();
+        equipment.rows_are_sound();
+        let heard = vec![in alloc; unheard; equipment.sources().len()]?;
         let state = open_machine(alloc, proposal.copied(alloc)?)?;
         Ok(Run { state, heard })
     }

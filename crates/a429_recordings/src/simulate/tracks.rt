@@ -102,7 +102,9 @@ pub fn rate_of(proposal: &Proposal<OUTPUTS>, group: usize) -> u32
     ensures rate { result ≡ rate_of proposal.now group }
     ensures some { 1 ≤ result }
 {
-    proposal.equipment().group_rate(group)
+    let equipment = proposal.equipment();
+    equipment.rows_are_sound();
+    equipment.group_rate(group)
 }
 
 /// How long a number of slots lasts at a rate in bit/s, in microseconds, rounded up.
@@ -146,6 +148,7 @@ fn longest_frame(equipment: &Equipment, plan: &Plan<OUTPUTS>) -> u64
     ensures value { result ≡ longest_frame equipment.now.groups (groups_of plan.now) }
     ensures few { result < 1000000000000 }
 {
+    equipment.rows_are_sound();
     let mut longest = 0;
     for group in 0..plan.groups() {
         let frame = plan.group(group).frame();
@@ -217,6 +220,7 @@ pub fn tracks_of(
     ensures { IsTracking proposal.now words.now last result }
 {
     let (equipment, plan) = (proposal.equipment(), proposal.plan());
+    equipment.rows_are_sound();
     let first = first_time(words);
     let start = silent_until(words, last);
     let mut tracks = Vec::new(alloc);

@@ -66,7 +66,7 @@ due_output-requires c =
     let e : TableRecord = c.args.equipment.now in
     let rows : List OutputRow = c.outputs-rows.result.now in
     let known : AllByRecursion (λ o. o.source < length e.sources) rows =
-    all_at (AllByRecursion (λ o. o.source < length e.sources)) e.outputs c.args.group rows c.outputs-rows.ensures.sound.known_sources c.outputs-rows.ensures.rows in
+    all_at (AllByRecursion (λ o. o.source < length e.sources)) e.outputs c.args.group rows c.rows_are_sound.ensures.known_sources c.outputs-rows.ensures.rows in
     all_at (λ (o : OutputRow). o.source < length e.sources) rows c.loop-output.output (get_or rows c.loop-output.output blank) known (slice_get-get_or rows c.loop-output.output blank c.loop-output-test.true)
 
 pub returns-in_err-push-in-Some-clause-due : goal.returns-in_err-push-in-Some-clause-due

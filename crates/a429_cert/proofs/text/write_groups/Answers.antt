@@ -14,7 +14,7 @@ use Rattle.a429_cert.proofs.text.write_groups.Goals as goal
 
 pub write_group-requires : goal.write_group-requires
 write_group-requires c =
-    let sound : IsSound c.args.proposal.now.station = subst IsSound c.equipment-equipment.ensures.equipment c.sources-sources.ensures.sound in
+    let sound : IsSound c.args.proposal.now.station = subst IsSound c.equipment-equipment.ensures.equipment c.rows_are_sound.ensures in
     let there : slice_get (groups_of c.args.proposal.now.plan) c.loop-number.number ≡ Some c.group.result.now = ap (λ (p : PlanTable). slice_get (groups_of p) c.loop-number.number) (sym c.plan.ensures.plan) ∙ c.group.ensures in
     let rows : c.sources-sources.result.now ≡ c.args.proposal.now.station.sources = c.sources-sources.ensures.rows ∙ ap (λ (e : TableRecord). e.sources) c.equipment-equipment.ensures.equipment in
     let known = plan_known c.args.proposal.now.station c.args.proposal.now.plan c.loop-number.number c.group.result.now sound c.plan.ensures.own there in

@@ -17,7 +17,7 @@ add_buses-requires-clause-known c =
     let e : TableRecord = c.args.proposal.now.station in
     let p : PlanTable = c.args.proposal.now.plan in
     let t : SlotTable = c.group-table.result.now in
-    let sound : IsSound e = subst IsSound c.equipment-equipment.ensures.equipment c.sources-sources.ensures.sound in
+    let sound : IsSound e = subst IsSound c.equipment-equipment.ensures.equipment c.rows_are_sound.ensures in
     let sources : c.sources-sources.result.now ≡ e.sources = c.sources-sources.ensures.rows ∙ ap (λ (e : TableRecord). e.sources) c.equipment-equipment.ensures.equipment in
     let there : slice_get (groups_of p) c.args.group ≡ Some t = ap (λ (p : PlanTable). slice_get (groups_of p) c.args.group) (sym c.plan.ensures.plan) ∙ c.group-table.ensures in
     subst (λ (ss : List SourceRow). HasSources ss t) (sym sources) (plan_known e p c.args.group t sound c.plan.ensures.own there)

@@ -17,7 +17,7 @@ add_group-above-requires-clause-shares c =
     let i = c.loop-number.number in
     let t = c.group-table.result.now in
     let there : slice_get (groups_of p) i ≡ Some t = ap (λ (p : PlanTable). slice_get (groups_of p) i) (sym c.plan.ensures.plan) ∙ c.group-table.ensures in
-    let sound : IsSound e = subst IsSound c.equipment.ensures.equipment c.groups-groups.ensures.sound in
+    let sound : IsSound e = subst IsSound c.equipment-equipment.ensures.equipment c.rows_are_sound.ensures in
     let g : IsSomeGroup e.sources t = some_group e.sources i e.groups e.outputs (groups_of p) t c.plan.ensures.own.groups sound.some_outputs there in
     are_shares g.rate e.sources g.rows t g.planned
 
@@ -28,7 +28,7 @@ add_group-above-requires-clause-some c =
     let i = c.loop-number.number in
     let t = c.group-table.result.now in
     let there : slice_get (groups_of p) i ≡ Some t = ap (λ (p : PlanTable). slice_get (groups_of p) i) (sym c.plan.ensures.plan) ∙ c.group-table.ensures in
-    let sound : IsSound e = subst IsSound c.equipment.ensures.equipment c.groups-groups.ensures.sound in
+    let sound : IsSound e = subst IsSound c.equipment-equipment.ensures.equipment c.rows_are_sound.ensures in
     let g : IsSomeGroup e.sources t = some_group e.sources i e.groups e.outputs (groups_of p) t c.plan.ensures.own.groups sound.some_outputs there in
     some_bus c.fewest_by_demand.ensures.only e.sources t g
 
@@ -39,7 +39,7 @@ loop-number-preserved c =
     let i = c.loop-number.number in
     let row : GroupRow = c.index-groups-number.result in
     let t = c.group-table.result.now in
-    let groups : c.groups-groups.result.now ≡ e.groups = c.groups-groups.ensures.rows ∙ ap (λ (e : TableRecord). e.groups) c.equipment.ensures.equipment in
+    let groups : c.groups-groups.result.now ≡ e.groups = c.groups-groups.ensures.rows ∙ ap (λ (e : TableRecord). e.groups) c.equipment-equipment.ensures.equipment in
     let here : slice_get e.groups i ≡ Some row = ap (λ (gs : List GroupRow). slice_get gs i) (sym groups) ∙ read_is c.groups-groups.result.now i row c.loop-number-test.true c.index-groups-number.is in
     let there : slice_get (groups_of p) i ≡ Some t = ap (λ (p : PlanTable). slice_get (groups_of p) i) (sym c.plan.ensures.plan) ∙ c.group-table.ensures in
     record {
@@ -50,6 +50,6 @@ loop-number-preserved c =
 pub returns-clause-rows : goal.returns-clause-rows
 returns-clause-rows c =
     let e : TableRecord = c.args.proposal.now.station in
-    let groups : c.groups-groups.result.now ≡ e.groups = c.groups-groups.ensures.rows ∙ ap (λ (e : TableRecord). e.groups) c.equipment.ensures.equipment in
+    let groups : c.groups-groups.result.now ≡ e.groups = c.groups-groups.ensures.rows ∙ ap (λ (e : TableRecord). e.groups) c.equipment-equipment.ensures.equipment in
     let past : length e.groups ≤ c.loop-number.number = subst (λ (gs : List GroupRow). length gs ≤ c.loop-number.number) groups c.loop-number-test.false in
     groups_whole c.args.limit c.args.shown e.groups (groups_of c.args.proposal.now.plan) c.loop-number.number c.loop-number.rows _ past c.loop-number.invariant.rows

@@ -37,7 +37,7 @@ pub group_plan-requires : goal.group_plan-requires
 group_plan-requires g c =
     let all : size (layout (plan.the_row (param 0 (number g.row.N)))) < 2 ^ 63 = assumption in
     let e = c.args.equipment.now in
-    let sound : IsSound e = c.sources-sources.ensures.sound in
+    let sound : IsSound e = c.rows_are_sound.ensures in
     let limits : (1 ≤ length c.outputs.result.now) × (length c.outputs.result.now ≤ 128) =
     all_at (λ rows. (1 ≤ length rows) × (length rows ≤ 128)) e.outputs c.loop-group.group c.outputs.result.now sound.some_outputs c.outputs.ensures.rows in
     let known : AllByRecursion (λ o. o.source < length e.sources) c.outputs.result.now =
@@ -63,11 +63,11 @@ push-requires g c =
     let all : size (layout (plan.the_row (param 0 (number g.row.N)))) < 2 ^ 63 = assumption in
     let e = c.args.equipment.now in
     let below : c.loop-group.group < length e.groups = subst (λ (rows : List GroupRow). c.loop-group.group < length rows) c.groups-group-end.ensures.rows c.loop-group-test.true in
-    (all, (part_fits (size (layout (the_row (param 0 (number g.row.N))))) all, room_for e c.sources-sources.result.now c.loop-group.group (groups_of c.loop-group.plan) c.sources-sources.ensures.sound below c.loop-group.invariant.planned))
+    (all, (part_fits (size (layout (the_row (param 0 (number g.row.N))))) all, room_for e c.sources-sources.result.now c.loop-group.group (groups_of c.loop-group.plan) c.rows_are_sound.ensures below c.loop-group.invariant.planned))
 
 pub returns-clause-planned : goal.returns-clause-planned
 returns-clause-planned g c =
-    all_planned c.args.equipment.now c.sources-sources.result.now c.groups-group-end.result.now c.loop-group.group c.loop-group.plan c.sources-sources.ensures.sound c.sources-sources.ensures.rows c.groups-group-end.ensures.rows
+    all_planned c.args.equipment.now c.sources-sources.result.now c.groups-group-end.result.now c.loop-group.group c.loop-group.plan c.rows_are_sound.ensures c.sources-sources.ensures.rows c.groups-group-end.ensures.rows
     c.loop-group-test.false c.loop-group.invariant.number c.loop-group.invariant.planned
 
 pub returns-in-Err-clause-fault : goal.returns-in-Err-clause-fault

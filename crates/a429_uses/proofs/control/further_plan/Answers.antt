@@ -10,12 +10,12 @@ returns-clause-known c =
     let t = c.args.station.now in
     let same : same_station t c.in_ok-next.next ≡ true = search rules in
     let sources = ((c.one_station_is_equality.ensures t c.in_ok-next.next).0 same).1 in
-    plan_known t c.in_ok-next.next c.in_ok-plan.field-0 (ap (λ (s : List SourceRow). length s) sources) c.rate-sound.ensures.sound c.in_ok-plan.ensures.planned
+    plan_known t c.in_ok-next.next c.in_ok-plan.field-0 (ap (λ (s : List SourceRow). length s) sources) c.rows_are_sound.ensures c.in_ok-plan.ensures.planned
 
 pub returns-clause-planned : goal.returns-clause-planned
 returns-clause-planned c =
     let next = c.in_ok-next.next in
     let plan = c.in_ok-plan.field-0 in
-    let of : IsPlanned c.args.table.now = record { record_of = next; plan = plan; reads = c.in_ok-next.ensures; sound = c.rate-sound.ensures.sound; planned = c.in_ok-plan.ensures.planned } in
+    let of : IsPlanned c.args.table.now = record { record_of = next; plan = plan; reads = c.in_ok-next.ensures; sound = c.rows_are_sound.ensures; planned = c.in_ok-plan.ensures.planned } in
     let same : same_station c.args.station.now next ≡ true = search rules in
     (of, same, refl)

@@ -10,5 +10,5 @@ pub returns : goal.returns
 returns c =
     let planned = c.in-Ok-of.ensures.planned in
     own c.args.table.now c.deref.result.now c.in-Ok-of.proposal.station c.in-Ok-of.proposal.plan c.check.result c.own_text_is_fewest.ensures
-    (c.in-Ok.ensures ∙ ap Ok (sym planned.0)) (subst IsSound (sym planned.0) c.rate-rate.ensures.sound)
+    (c.in-Ok.ensures ∙ ap Ok (sym planned.0)) (subst IsSound (sym planned.0) c.rows_are_sound.ensures)
     (subst (λ (e : TableRecord). IsPlanOf e c.in-Ok-of.proposal.plan) (sym planned.0) planned.1) (c.deref.ensures.value ∙ c.in-Ok-plan_text.ensures) c.check.ensures.answer c.check.ensures.fault

@@ -14,8 +14,8 @@ returns-in-Ok-clause-own g c =
 
 pub returns-in-Ok-clause-latest : goal.returns-in-Ok-clause-latest
 returns-in-Ok-clause-latest g c =
-    all_latest g.L.LineSource g.B.BusSink (asked c.args.equipment.now c.args.frames c.args.sources.items c.args.sinks.items) c.one_run.ensures c.word_was_accepted.ensures c.rate-sound.ensures.sound.apart c.in-Ok.report c.in-Ok.ensures.ran
+    all_latest g.L.LineSource g.B.BusSink (asked c.args.equipment.now c.args.frames c.args.sources.items c.args.sinks.items) c.one_run.ensures c.word_was_accepted.ensures c.rows_are_sound.ensures.apart c.in-Ok.report c.in-Ok.ensures.ran
 
 pub returns-in-Ok-clause-in_time : goal.returns-in-Ok-clause-in_time
 returns-in-Ok-clause-in_time g c =
-    all_in_time g.L.LineSource g.B.BusSink (asked c.args.equipment.now c.args.frames c.args.sources.items c.args.sinks.items) c.known_words_go_out_in_time.ensures c.rate-sound.ensures.sound.apart c.in-Ok.report c.in-Ok.ensures.ran
+    all_in_time g.L.LineSource g.B.BusSink (asked c.args.equipment.now c.args.frames c.args.sources.items c.args.sinks.items) c.known_words_go_out_in_time.ensures c.rows_are_sound.ensures.apart c.in-Ok.report c.in-Ok.ensures.ran

@@ -6,7 +6,7 @@ use Rattle.a429_console.proofs.refusals.names.source_name.Goals as goal
 pub returns-then-group-groups : goal.returns-then-group-groups
 returns-then-group-groups c =
     let past = subst (λ rows. length rows ≤ c.args.group) c.groups.ensures.rows c.if-group-groups.true in
-    c.of.ensures ∙ no_group c.args.equipment.now c.args.group c.args.output c.groups.ensures.sound past
+    c.of.ensures ∙ no_group c.args.equipment.now c.args.group c.args.output c.rows_are_sound.ensures past
 
 pub returns-in_default : goal.returns-in_default
 returns-in_default c =

@@ -19,7 +19,7 @@ returns-clause-stands g c =
     let q : Proposed = c.args.proposal in
     let parts = c.into_parts-equipment.ensures in
     let own : IsPlanOf q.station q.plan = parts.own in
-    let sound : IsSound q.station = subst IsSound parts.equipment c.sources.ensures.sound in
+    let sound : IsSound q.station = subst IsSound parts.equipment c.rows_are_sound.ensures in
     let count : length c.sources.result.now ≡ length q.station.sources = ap length c.sources.ensures.rows ∙ ap (λ (t : TableRecord). length t.sources) parts.equipment in
     let kept : c.in_ok-sources.sources.items ≡ replicate (length q.station.sources) unheard =
     c.in_ok-sources.ensures.items_if_clones_equal (λ y h. h) ∙ ap (λ (n : ℕ). replicate n unheard) count in

@@ -31,7 +31,7 @@ loop-group-preserved c =
 pub returns : goal.returns
 returns c =
     let e : TableRecord = c.args.equipment.now in
-    let long : length (rated_outputs e) ≡ length e.outputs = length-rated e c.groups-group-end.ensures.sound.outputs_of_groups in
-    let past : length (rated_outputs e) ≤ c.loop-group.group = omega (arith, long, c.groups-group-end.ensures.sound.outputs_of_groups, ap length c.groups-group-end.ensures.rows, c.loop-group-test.false) in
+    let long : length (rated_outputs e) ≡ length e.outputs = length-rated e c.rows_are_sound.ensures.outputs_of_groups in
+    let past : length (rated_outputs e) ≤ c.loop-group.group = omega (arith, long, c.rows_are_sound.ensures.outputs_of_groups, ap length c.groups-group-end.ensures.rows, c.loop-group-test.false) in
     subst (λ (rated : List (ℕ × List OutputRow)). AllZip (λ (rated : ℕ × List OutputRow) (demands : List Demand). AllZip (IsAsked rated.0 e.sources) rated.1 demands) rated (map (λ v. v.items) c.loop-group.all.items)) (take_all c.loop-group.group (rated_outputs e) past)
     c.loop-group.invariant

@@ -25,7 +25,7 @@ bounds-asked-number c =
 pub add_group-requires-clause-known : goal.add_group-requires-clause-known
 add_group-requires-clause-known c =
     subst (λ (ss : List SourceRow). HaveSources ss c.outputs-rows.result.now) (sym c.sources-sources.ensures.rows)
-    (all_at (HaveSources c.args.equipment.now.sources) c.args.equipment.now.outputs c.loop-number.number c.outputs-rows.result.now c.outputs-rows.ensures.sound.known_sources c.outputs-rows.ensures.rows)
+    (all_at (HaveSources c.args.equipment.now.sources) c.args.equipment.now.outputs c.loop-number.number c.outputs-rows.result.now c.rows_are_sound.ensures.known_sources c.outputs-rows.ensures.rows)
 
 pub add_group-requires-clause-each : goal.add_group-requires-clause-each
 add_group-requires-clause-each c =
@@ -49,7 +49,7 @@ add_group-requires-clause-few c =
     let at : GroupAt e asked i row rows = record { all = c.requires.asked; here = here; listed = c.outputs-rows.ensures.rows } in
     let below : i < length c.args.asked.now = subst (λ (n : ℕ). i < n) (length-map c.args.asked.now (λ v. v.items)) (asked_below e asked i row rows at) in
     let same : length c.deref.result.now ≡ length rows = ap length c.deref.ensures.value ∙ asked_each e asked i row rows at c.index-asked-number.result.items (kept_at c.args.asked.now i c.index-asked-number.result below c.index-asked-number.is) in
-    subst (λ (n : ℕ). n ≤ 128) (sym same) (all_at (λ (os : List OutputRow). (1 ≤ length os) × (length os ≤ 128)) e.outputs i rows c.outputs-rows.ensures.sound.some_outputs c.outputs-rows.ensures.rows).1
+    subst (λ (n : ℕ). n ≤ 128) (sym same) (all_at (λ (os : List OutputRow). (1 ≤ length os) × (length os ≤ 128)) e.outputs i rows c.rows_are_sound.ensures.some_outputs c.outputs-rows.ensures.rows).1
 
 pub loop-number-preserved : goal.loop-number-preserved
 loop-number-preserved c =

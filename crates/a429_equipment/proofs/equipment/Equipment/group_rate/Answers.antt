@@ -1,13 +1,8 @@
-use Rattle.std.proofs.Common.{subst}
-use Rattle.a429_equipment.specs.Sound.{IsSound}
 use Rattle.a429_equipment.proofs.Groups.{group_within, rate_of_group}
 use Rattle.a429_equipment.proofs.equipment.Equipment.group_rate.Goals as goal
 
 pub index-requires : goal.index-requires
 index-requires c = group_within c.self.inside.rows c.args.self.now c.args.group c.self.view_is c.requires
 
-pub returns-clause-rate : goal.returns-clause-rate
-returns-clause-rate c = rate_of_group c.self.inside.rows c.args.self.now c.args.group c.self.view_is c.requires c.index.result.now c.index.ensures
-
-pub returns-clause-sound : goal.returns-clause-sound
-returns-clause-sound c = subst IsSound c.self.view_is c.self.invariant.sound
+pub returns : goal.returns
+returns c = record { rate = rate_of_group c.self.inside.rows c.args.self.now c.args.group c.self.view_is c.requires c.index.result.now c.index.ensures }

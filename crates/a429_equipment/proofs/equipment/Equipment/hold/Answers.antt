@@ -1,5 +1,3 @@
-use Rattle.std.proofs.Common.{subst}
-use Rattle.a429_equipment.specs.Sound.{IsSound}
 use Rattle.a429_equipment.proofs.Groups.{hold_of_output, output_within, outputs_within}
 use Rattle.a429_equipment.proofs.equipment.Equipment.hold.Goals as goal
 
@@ -9,9 +7,5 @@ index-requires c = outputs_within c.self.inside.rows c.args.self.now c.args.grou
 pub index-requires-2 : goal.index-requires-2
 index-requires-2 c = output_within c.self.inside.rows c.args.self.now c.args.group c.self.view_is c.requires.group c.self.invariant.sound c.index.result.now c.index.ensures c.args.output c.requires.output
 
-pub returns-clause-hold : goal.returns-clause-hold
-returns-clause-hold c =
-    hold_of_output c.self.inside.rows c.args.self.now c.args.group c.self.view_is c.requires.group c.self.invariant.sound c.index.result.now c.index.ensures c.args.output c.index-2.result.now c.requires.output c.index-2.ensures
-
-pub returns-clause-sound : goal.returns-clause-sound
-returns-clause-sound c = subst IsSound c.self.view_is c.self.invariant.sound
+pub returns : goal.returns
+returns c = record { hold = hold_of_output c.self.inside.rows c.args.self.now c.args.group c.self.view_is c.requires.group c.self.invariant.sound c.index.result.now c.index.ensures c.args.output c.index-2.result.now c.requires.output c.index-2.ensures }

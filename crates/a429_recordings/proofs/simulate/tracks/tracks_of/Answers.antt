@@ -17,7 +17,7 @@ count_slots-requires c =
     let q = c.args.proposal.now in
     let given : option_map (λ row. row.rate) (slice_get q.station.groups n) ≡ Some rate =
     subst (λ (t : TableRecord). option_map (λ row. row.rate) (slice_get t.groups n) ≡ Some rate) e c.group_rate-rate.ensures.rate in
-    let sound : IsSound q.station = subst IsSound e c.group_rate-rate.ensures.sound in
+    let sound : IsSound q.station = subst IsSound e c.rows_are_sound.ensures in
     record {
       rate = (rate_bounds q.station.groups n rate sound.group_rows given).1;
       frame = (omega (arith, c.frame.ensures.some), omega (arith, c.frame.ensures.few));
@@ -42,7 +42,7 @@ loop-group-preserved c =
     let e = c.equipment-equipment.ensures.equipment in
     let given : option_map (λ row. row.rate) (slice_get q.station.groups n) ≡ Some rate =
     subst (λ (t : TableRecord). option_map (λ row. row.rate) (slice_get t.groups n) ≡ Some rate) e c.group_rate-rate.ensures.rate in
-    let sound : IsSound q.station = subst IsSound e c.group_rate-rate.ensures.sound in
+    let sound : IsSound q.station = subst IsSound e c.rows_are_sound.ensures in
     let bounds = rate_bounds q.station.groups n rate sound.group_rows given in
     let own : rate_of q n ≡ rate = rate_is q n rate given in
     let many : length (groups_of c.plan-plan.result.now) ≡ length q.station.groups = ap (λ (p : PlanTable). length (groups_of p)) c.plan-plan.ensures.plan ∙ c.plan-plan.ensures.own.count in

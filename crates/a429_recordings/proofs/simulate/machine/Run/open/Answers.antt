@@ -10,7 +10,7 @@ use Rattle.a429_recordings.specs.declared.simulate.machine.Heard.{Heard}
 use Rattle.a429_recordings.proofs.simulate.machine.Run.open.Goals as goal
 
 pub open_machine-requires : goal.open_machine-requires
-open_machine-requires c = subst (λ (p : Proposed). IsPlanOf p.station p.plan) (sym c.in_ok-copied.ensures) c.equipment.ensures.own
+open_machine-requires c = subst (λ (p : Proposed). IsPlanOf p.station p.plan) (sym c.in_ok-copied.ensures) c.equipment-equipment.ensures.own
 
 none_heard : (n i : ℕ) → heard_at (replicate {A = Heard} n unheard) i ≡ unheard
 none_heard zero i = refl
@@ -21,12 +21,12 @@ pub returns : goal.returns
 unfolding times_of
 returns c =
     let q : Proposed = c.args.proposal.now in
-    let count : length c.sources.result.now ≡ length q.station.sources = ap length c.sources.ensures.rows ∙ ap (λ t. length t.sources) c.equipment.ensures.equipment in
+    let count : length c.sources.result.now ≡ length q.station.sources = ap length c.sources.ensures.rows ∙ ap (λ t. length t.sources) c.equipment-equipment.ensures.equipment in
     let kept : c.in_ok-heard.heard.items ≡ replicate (length q.station.sources) unheard =
     c.in_ok-heard.ensures.items_if_clones_equal (λ y h. h) ∙ ap (λ (n : ℕ). replicate n unheard) count in
     record {
-      sound = subst IsSound c.equipment.ensures.equipment c.sources.ensures.sound;
-      planned = c.equipment.ensures.own;
+      sound = subst IsSound c.equipment-equipment.ensures.equipment c.rows_are_sound.ensures;
+      planned = c.equipment-equipment.ensures.own;
       state = subst (λ (p : Proposed). StandsForHistory 41 (record { proposal = p; first = 0 }) [] c.in_ok-state.state) c.in_ok-copied.ensures c.in_ok-state.ensures;
       many = ap length kept ∙ length-replicate (length q.station.sources) unheard;
       heard = λ i. ap (λ (hs : List Heard). heard_at hs i) kept ∙ none_heard (length q.station.sources) i;
