@@ -1,25 +1,20 @@
 -- The lines that a plan's outputs are written with.
-use Rattle.std.proofs.Common.{◌≡◌, ℕ, zero, suc, ◌+◌, ◌<◌, List, [], ◌∷◌, ◌++◌, length, get_or, map, take, drop, Option, Some, refl, sym, ap, subst, ◌∙◌, append_assoc}
+use Rattle.std.proofs.Common.{◌≡◌, ℕ, ◌+◌, ◌<◌, List, [], ◌∷◌, ◌++◌, length, get_or, map, take, drop, Option, Some, refl, sym, ap, ◌∙◌, append_assoc}
 use Rattle.std.specs.Prelude.{slice_get, option_map}
-use Rattle.std.specs.List.{AllByRecursion, AllZip, flat_map, zip}
+use Rattle.std.specs.List.{flat_map}
 use Rattle.std.specs.Option.{option_map_or}
 use Rattle.std.proofs.lemmas.List.{map-append, flat_map_more}
 use Rattle.std.proofs.lemmas.List.Concat.{flat_map-cons}
 use Rattle.std.proofs.lemmas.Option.{same_Some, slice_get_within, slice_get-get_or}
 use Rattle.a429_word.proofs.Lists.{drop_at, take_next}
 use Rattle.a429_equipment.specs.declared.rows.GroupRow.{GroupRow}
-use Rattle.a429_equipment.specs.declared.rows.OutputRow.{OutputRow}
 use Rattle.a429_equipment.specs.declared.rows.SourceRow.{SourceRow}
-use Rattle.a429_equipment.specs.Sound.{IsSound}
-use Rattle.a429_equipment.specs.TableRecord.{TableRecord}
 use Rattle.a429_slots.specs.declared.group_plan.SlotPlace.{SlotPlace}
 use Rattle.a429_slots.specs.declared.group_plan.SendLimits.{SendLimits}
-use Rattle.a429_slots.specs.Tables.{Placed, SlotTable, PlanTable, placed_at, outputs_of, place_of, source_of, limits_of, groups_of}
-use Rattle.a429_slots.specs.Planned.{IsPlannedAt, IsPlanOf}
+use Rattle.a429_slots.specs.Tables.{Placed, SlotTable, placed_at, outputs_of, place_of, source_of, limits_of}
 use Rattle.a429_cert.specs.Spelling.{Listing, output_text}
 use Rattle.a429_cert.specs.Checked.{Stated, stated_text}
 use Rattle.a429_cert.specs.PlanText.{source_name, placed_listing, listing_of, stated_of, stated_groups}
-use Rattle.a429_slots.proofs.Known.{served_known}
 use Rattle.a429_slots.proofs.Cells.{output_is}
 
 -- ---- an output
@@ -54,16 +49,6 @@ outputs_more text new old f order k o there so now =
 
 -- ---- the groups
 
-pub known_in_group : (n i : ℕ) (sources : List SourceRow) (rates : List ℕ) (rowss : List (List OutputRow)) (ts : List SlotTable) (t : SlotTable) → AllZip (IsPlannedAt sources) (zip rates rowss) ts
-    → AllByRecursion (AllByRecursion (λ o. o.source < n)) rowss → slice_get ts i ≡ Some t → AllByRecursion (λ p. p.source < n) (outputs_of t)
-known_in_group n i sources rates rowss [] t planned known e = absurd cc
-known_in_group n i sources [] rowss (u ∷ ts) t planned known e = absurd planned
-known_in_group n i sources (rate ∷ rates) [] (u ∷ ts) t planned known e = absurd planned
-known_in_group n zero sources (rate ∷ rates) (rows ∷ rowss) (u ∷ ts) t planned known e =
-    let same : u ≡ t = cc in
-    subst (λ (v : SlotTable). AllByRecursion (λ p. p.source < n) (outputs_of v)) same (served_known n rate rows (outputs_of u) planned.0.served known.0)
-known_in_group n (suc i) sources (rate ∷ rates) (rows ∷ rowss) (u ∷ ts) t planned known e = known_in_group n i sources rates rowss ts t planned.1 known.1 e
-
 -- one more group is written
 pub groups_more : (version : ℕ) (sources : List SourceRow) (groups : List GroupRow) (ts : List SlotTable) (i : ℕ) (row : GroupRow) (t : SlotTable) (text new whole : List ℕ) → slice_get groups i ≡ Some row → slice_get ts i ≡ Some t
     → text ++ flat_map stated_text (stated_groups version sources (drop i groups) (drop i ts)) ≡ whole → new ≡ text ++ stated_text (stated_of version sources row t)
@@ -74,9 +59,3 @@ groups_more version sources groups ts i row t text new whole here there so now =
     ∙ append_assoc text (stated_text (stated_of version sources row t)) (flat_map stated_text (stated_groups version sources (drop (i + 1) groups) (drop (i + 1) ts)))
     ∙ ap (λ (x : List ℕ). text ++ x) (sym (flat_map-cons stated_text (stated_of version sources row t) (stated_groups version sources (drop (i + 1) groups) (drop (i + 1) ts))))
     ∙ ap (λ (ss : List Stated). text ++ flat_map stated_text ss) (sym left) ∙ so
-
--- ---- what is read
-
-pub plan_known : (e : TableRecord) (p : PlanTable) (i : ℕ) (t : SlotTable) → IsSound e → IsPlanOf e p → slice_get (groups_of p) i ≡ Some t → AllByRecursion (λ o. o.source < length e.sources) (outputs_of t)
-plan_known e p i t sound planned there =
-    known_in_group (length e.sources) i e.sources (map (λ (g : GroupRow). g.rate) e.groups) e.outputs (groups_of p) t planned.groups sound.known_sources there

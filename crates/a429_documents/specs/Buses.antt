@@ -10,7 +10,8 @@ use Rattle.a429_equipment.specs.declared.rows.ReceiverRow.{ReceiverRow}
 use Rattle.a429_equipment.specs.declared.rows.SourceRow.{SourceRow}
 use Rattle.a429_slots.specs.declared.group_plan.SlotPlace.{SlotPlace}
 use Rattle.a429_slots.specs.Tables.{SlotTable, PlanTable, buses_of, groups_of, outputs_of, placed_at}
-use Rattle.a429_documents.specs.Document.{sdi_field, slots_us}
+use Rattle.a429_slots.specs.Times.{slots_us}
+use Rattle.a429_documents.specs.Document.{sdi_field}
 
 -- ---- the columns
 

@@ -1,12 +1,10 @@
 -- The interface control document of a plan: the names of its columns, and a row for each output.
-use Rattle.std.specs.Prelude.{ℕ, ◌+◌, ◌*◌, ◌^◌, Bool, true, false, List, [], ◌∷◌, ◌++◌, Option, None, Some, codes, slice_get}
-use Rattle.std.specs.Int.{div_ceil}
+use Rattle.std.specs.Prelude.{ℕ, ◌+◌, ◌^◌, Bool, true, false, List, [], ◌∷◌, ◌++◌, Option, None, Some, codes, slice_get}
 use Rattle.std.specs.Option.{option_map_or}
 use Rattle.a429_text.specs.Fields.{Field, Text, Number, Absent}
 use Rattle.a429_text.specs.Texts.{formula}
 use Rattle.a429_word.specs.Texts.{octal}
 use Rattle.a429_equipment.specs.TableRecord.{TableRecord}
-use Rattle.a429_grid.specs.Grid.{slot_time}
 use Rattle.a429_equipment.specs.declared.rows.GroupRow.{GroupRow}
 use Rattle.a429_equipment.specs.declared.rows.OutputRow.{OutputRow}
 use Rattle.a429_equipment.specs.declared.rows.ReceiverRow.{ReceiverRow}
@@ -14,6 +12,7 @@ use Rattle.a429_equipment.specs.declared.rows.SourceRow.{SourceRow}
 use Rattle.a429_slots.specs.declared.group_plan.SendLimits.{SendLimits}
 use Rattle.a429_slots.specs.declared.group_plan.SlotPlace.{SlotPlace}
 use Rattle.a429_slots.specs.Tables.{Placed, SlotTable, PlanTable, groups_of, outputs_of}
+use Rattle.a429_slots.specs.Times.{latency_us, slots_us}
 
 -- ---- the columns
 
@@ -62,16 +61,6 @@ limit_field (Some limit) = Number limit
 abbrev pub sent_fields : Bool → List ReceiverRow → GroupRow → SourceRow → List Field
 sent_fields keeps_zeros receivers group source =
     Text group.name ∷ Number group.rate ∷ Text source.name ∷ Text (receiver_name receivers source.receiver) ∷ label_field keeps_zeros source.label ∷ sdi_field source.sdi ∷ []
-
--- how long a number of slots is at a bit rate in bit/s: in microseconds, rounded up. A slot is 36 bit times
--- (ARINC 429 Part 1: a word has 32 bits, and the inter-word gap is at least 4 bit times).
-abbrev pub slots_us : ℕ → ℕ → ℕ
-slots_us rate slots = div_ceil (slot_time * slots) rate
-
--- The longest time in microseconds, within one plan, from the acceptance of a word until it, or a later word of its source, was sent completely.
--- The output has a period of this number of slots: one of its cells begins within one period, and lasts one slot.
-abbrev pub latency_us : ℕ → ℕ → ℕ
-latency_us rate period = slots_us rate (period + 1)
 
 -- its place, at the bit rate of its group in bit/s
 abbrev pub place_fields : ℕ → SlotPlace → List Field

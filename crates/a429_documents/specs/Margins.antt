@@ -11,7 +11,7 @@ use Rattle.a429_pack.specs.Widening.{IsLeastSaving, NoneSaves}
 use Rattle.a429_pack.specs.Windows.{raw_bound}
 use Rattle.a429_slots.specs.Tables.{SlotTable, PlanTable, placed_at, outputs_of, demands_of, frame_of, buses_of, groups_of}
 use Rattle.a429_cert.specs.PlanText.{source_name}
-use Rattle.a429_documents.specs.Document.{slots_us}
+use Rattle.a429_slots.specs.Times.{slots_us}
 
 -- the number of whole slots in the output's maximum interval at this bit rate (profile: raw bound)
 abbrev pub window_of : ℕ → OutputRow → ℕ

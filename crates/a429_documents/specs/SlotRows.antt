@@ -9,7 +9,8 @@ use Rattle.a429_equipment.specs.declared.rows.GroupRow.{GroupRow}
 use Rattle.a429_equipment.specs.declared.rows.SourceRow.{SourceRow}
 use Rattle.a429_slots.specs.declared.group_plan.SlotPlace.{SlotPlace}
 use Rattle.a429_slots.specs.Tables.{SlotTable, PlanTable, buses_of, cell_at, frame_of, groups_of, placed_at}
-use Rattle.a429_documents.specs.Document.{sdi_field, slots_us}
+use Rattle.a429_slots.specs.Times.{slots_us}
+use Rattle.a429_documents.specs.Document.{sdi_field}
 use Rattle.a429_documents.specs.Drawing.{IsDrawn, first_drawn, groups_drawn}
 use Rattle.a429_documents.specs.Margins.{nothing}
 

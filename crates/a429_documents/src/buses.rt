@@ -4,9 +4,9 @@ ghost use Rattle.a429_slots.specs.Tables.{groups_of, outputs_of, source_of};
 ghost use Rattle.a429_cert.specs.PlanText.{HasSources};
 ghost use Rattle.a429_documents.specs.Buses.{buses_columns, buses_rows, group_rows, heard_rows, in_row, in_rows, out_row, out_rows, rows_of_group, rows_on, sent_rows};
 
-use crate::document::{number, sdi_cell, slots_us};
+use crate::document::{number, sdi_cell};
 use a429_equipment::{Equipment, GroupRow, ReceiverRow, SourceRow};
-use a429_slots::{GroupPlan, OUTPUTS, OutputId, Proposal, SlotPlace};
+use a429_slots::{GroupPlan, OUTPUTS, OutputId, Proposal, SlotPlace, slots_us};
 use a429_text::{Cell, Rows, Sheet};
 use std::alloc::Global;
 

@@ -1,14 +1,15 @@
 //! The interface control document of a plan.
-ghost use Rattle.std.specs.Prelude.{◌≡◌, ◌∷◌, ◌++◌, [], ◌<◌, ◌≤◌, ◌^◌, length, map};
+ghost use Rattle.std.specs.Prelude.{◌≡◌, ◌∷◌, ◌++◌, [], ◌<◌, ◌≤◌, length, map};
 ghost use Rattle.a429_text.specs.Fields.{Number};
 ghost use Rattle.a429_text.specs.Sheets.{field_of};
 ghost use Rattle.a429_slots.specs.Tables.{outputs_of, placed_at};
 ghost use Rattle.a429_slots.specs.Planned.{HaveSources};
-ghost use Rattle.a429_documents.specs.Document.{icd_columns, icd_row, icd_rows, label_field, latency_us, limit_field, output_row, output_rows, receiver_name, sdi_field, slots_us};
+ghost use Rattle.a429_documents.specs.Document.{icd_columns, icd_row, icd_rows, label_field, limit_field, output_row, output_rows, receiver_name, sdi_field};
 
 use a429_equipment::{Equipment, GroupRow, OutputRow, ReceiverRow, SourceRow};
-use a429_grid::{Period, SLOT_TIME};
-use a429_slots::{GroupPlan, OUTPUTS, OutputId, Proposal, SendLimits, SlotPlace};
+use a429_slots::{
+    GroupPlan, OUTPUTS, OutputId, Proposal, SendLimits, SlotPlace, latency_us, slots_us,
+};
 use a429_text::{Cell, Rows, Sheet};
 use a429_word::{Label, Sdi};
 use std::alloc::Global;
@@ -68,23 +69,6 @@ pub fn limit_cell(limit: Option<u32>) -> Cell<'static>
         None => Cell::Absent,
         Some(limit) => number(limit),
     }
-}
-
-/// How long a number of slots is at a bit rate in bit/s: in microseconds, rounded up.
-pub fn slots_us(rate: u32, slots: u32) -> u64
-    requires { 1 ≤ rate }
-    ensures { result ≡ slots_us rate slots }
-{
-    (SLOT_TIME * u64::from(slots)).div_ceil(u64::from(rate))
-}
-
-/// The latency in microseconds, rounded up: the longest time, within one plan, from the acceptance of a word until it, or a
-/// later word of its source, was sent completely. It is one period of the output and one slot, at the group's bit rate.
-pub fn latency_us(rate: u32, period: Period) -> u64
-    requires { 1 ≤ rate }
-    ensures { result ≡ latency_us rate (2 ^ period) }
-{
-    slots_us(rate, period.slots() + 1)
 }
 
 /// The name of a receiver; empty if there is no such receiver.

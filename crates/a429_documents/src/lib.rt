@@ -32,7 +32,7 @@ mod slots;
 
 pub use buses::buses_sheet;
 pub use diff::diff_sheet;
-pub use document::{icd_sheet, latency_us};
+pub use document::icd_sheet;
 pub use drawing::{Drawing, DrawingFault, DrawingForm, Mark, draw_text};
 pub use lint::lint_sheet;
 pub use load::{Load, load_sheet};

@@ -11,12 +11,12 @@ ghost use Rattle.a429_slots.specs.Tables.{buses_of, demands_of, frame_of, output
 ghost use Rattle.a429_documents.specs.Margins.{AddsSuch, AreChoiceRows, IsChoice, IsGroupMargin, IsMargin, group_row_of, is_chosen, margin_columns, output_margin, outputs_margin, periods_of, wider_row, window_of, yes_or_no};
 ghost use Rattle.a429_cert.specs.PlanText.{HasSources};
 
-use crate::document::{number, slots_us};
+use crate::document::number;
 use a429_equipment::{GroupRow, OutputRow, SourceRow};
 use a429_grid::{Period, SLOT_TIME};
 use a429_pack::laws::fewest_by_demand;
 use a429_pack::{raw_bound, widening_saves};
-use a429_slots::{GroupPlan, OUTPUTS, OutputId, Proposal};
+use a429_slots::{GroupPlan, OUTPUTS, OutputId, Proposal, slots_us};
 use a429_text::{Cell, Gathered, Rows, Sheet};
 use std::alloc::{AllocError, Global};
 

@@ -3,16 +3,16 @@ ghost use Rattle.std.specs.Prelude.{◌≡◌, ◌≤◌, ◌<◌, ◌++◌, ◌
 ghost use Rattle.a429_text.specs.Fields.{Number};
 ghost use Rattle.a429_text.specs.Sheets.{field_of};
 ghost use Rattle.a429_slots.specs.Tables.{groups_of, outputs_of, source_of};
+ghost use Rattle.a429_slots.specs.Times.{slots_us};
 ghost use Rattle.a429_cert.specs.PlanText.{HasSources};
-ghost use Rattle.a429_documents.specs.Document.{slots_us};
 ghost use Rattle.a429_documents.specs.SlotRows.{cell_fields, cell_rows, empty_row, filled_row, output_fields, rows_at, rows_in_frame, rows_in_slot, slot_columns, slot_rows};
 
 mod header;
 
-use crate::document::{number, sdi_cell, slots_us};
+use crate::document::{number, sdi_cell};
 pub use crate::slots::header::slot_header;
 use a429_equipment::{GroupRow, SourceRow};
-use a429_slots::{GroupPlan, OUTPUTS, OutputId, Proposal, SlotPlace};
+use a429_slots::{GroupPlan, OUTPUTS, OutputId, Proposal, SlotPlace, slots_us};
 use a429_text::{Cell, Rows, Sheet};
 use std::alloc::Global;
 

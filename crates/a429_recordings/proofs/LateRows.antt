@@ -15,7 +15,7 @@ use Rattle.a429_table.specs.Stated.{stated}
 use Rattle.a429_table.specs.declared.fault.FaultKind.{FaultKind}
 use Rattle.a429_table.specs.declared.fault.TablePlace.{TablePlace}
 use Rattle.a429_table.proofs.Soundness.{is_sound}
-use Rattle.a429_documents.specs.Document.{latency_us}
+use Rattle.a429_slots.specs.Times.{latency_us}
 use Rattle.a429_slots.specs.Planned.{IsPlanOf}
 use Rattle.a429_slots.specs.Proposed.{Proposed}
 use Rattle.a429_slots.specs.Spacing.{PlansInForceAreSpaced}

@@ -17,7 +17,7 @@ use Rattle.a429_equipment.specs.Limits.{count_bits}
 use Rattle.a429_equipment.specs.Sound.{IsGroupRow, IsSound}
 use Rattle.a429_equipment.specs.declared.rows.GroupRow.{GroupRow}
 use Rattle.a429_grid.specs.Grid.{slot_time}
-use Rattle.a429_documents.specs.Document.{latency_us, slots_us}
+use Rattle.a429_slots.specs.Times.{latency_us, slots_us}
 use Rattle.a429_slots.specs.Answers.{answer, cell_answer}
 use Rattle.a429_slots.specs.Events.{Event, Arrive, Cell, Publish}
 use Rattle.a429_slots.specs.History.{Current, Opening, OpensWith, accepted_by, answered_cell, answered_cells, cell_due, current, is_held, is_too_close, proposal_for, word_sent}

@@ -7,7 +7,7 @@ use Rattle.std.proofs.lemmas.List.Sums.{fold-append}
 use Rattle.std.proofs.lemmas.Option.{same_Some}
 use Rattle.a429_equipment.specs.Agreement.{last_of}
 use Rattle.a429_equipment.proofs.Cutting.{last_push}
-use Rattle.a429_documents.specs.Document.{slots_us}
+use Rattle.a429_slots.specs.Times.{slots_us}
 use Rattle.a429_word.proofs.Lists.{all_push}
 use Rattle.a429_recordings.specs.Simulating.{listed}
 use Rattle.a429_recordings.specs.Summary.{greatest_in, is_first_of, lateness, latenesses, latenesses_from, least_in, times_after, times_between}

@@ -9,7 +9,7 @@ use Rattle.std.proofs.lemmas.Grind.{div_ceil_times}
 use Rattle.std.proofs.lemmas.Nat.{mul-le}
 use Rattle.a429_equipment.specs.declared.rows.GroupRow.{GroupRow}
 use Rattle.a429_equipment.specs.Sound.{IsGroupRow, IsRate}
-use Rattle.a429_documents.specs.Document.{slots_us}
+use Rattle.a429_slots.specs.Times.{slots_us}
 use Rattle.a429_slots.specs.Tables.{SlotTable, frame_of}
 use Rattle.a429_grid.specs.Grid.{slot_time}
 use Rattle.a429_slots.specs.Proposed.{Proposed}

@@ -18,7 +18,7 @@ use Rattle.a429_slots.specs.Proposed.{Proposed}
 use Rattle.a429_slots.specs.Tables.{Placed, SlotTable, buses_of, frame_of, groups_of, no_table, outputs_of, placed_at, unplaced}
 use Rattle.a429_slots.specs.declared.answers.Answer.{Answer}
 use Rattle.a429_slots.specs.declared.answers.Answer.TheVariants.{Accepted, Sent, Changed, Published, Refused}
-use Rattle.a429_cert.proofs.PlanLines.{plan_known}
+use Rattle.a429_slots.proofs.Known.{sources_known}
 use Rattle.a429_recordings.specs.Simulating.{Step, Asks, Comes, Turns, answer_after, happening_after, happening_by, happenings_after, happenings_of, last_word, listed, source_in, steps_in, steps_of, times_of, turn_after}
 use Rattle.a429_recordings.specs.Summary.{bound_fields, group_rows, name_fields, send_fields, send_in, sends_of, summary_row, summary_rows}
 use Rattle.a429_recordings.specs.SummaryRuns.{HasFigures, figure_fields, figures_of, kept_at, kept_group, kept_row, kept_rows, nothing_sent}
@@ -185,7 +185,7 @@ module _ (q : Proposed) (sound : IsSound q.station) (planned : IsPlanOf q.statio
   source_few g o below within =
       let (t, there) = get_within (groups_of q.plan) g below in
       let same : table_of q g ≡ t = table_at q g t there in
-      let known = subst (λ (u : SlotTable). AllByRecursion (λ (p : Placed). p.source < length q.station.sources) (outputs_of u)) (sym same) (plan_known q.station q.plan g t sound planned there) in
+      let known = subst (λ (u : SlotTable). AllByRecursion (λ (p : Placed). p.source < length q.station.sources) (outputs_of u)) (sym same) (sources_known q.station q.plan g t sound planned there) in
       let (p, listed) = get_within (outputs_of (table_of q g)) o within in
       let is : placed_at (table_of q g) o ≡ p = get_or_from_slice_get (outputs_of (table_of q g)) o p unplaced listed in
       omega (arith, ap (λ (x : Placed). x.source) is, all_at (λ (x : Placed). x.source < length q.station.sources) (outputs_of (table_of q g)) o p known listed, sound.few_sources)

@@ -3,7 +3,7 @@ use Rattle.std.specs.Prelude.{◌≡◌, ◌+◌, ◌<◌, ◌≤◌, ◌++◌, 
 use Rattle.std.specs.Fmt.{decimal}
 use Rattle.a429_word.specs.Hexadecimal.{hex}
 use Rattle.a429_word.specs.Written.{Gains}
-use Rattle.a429_documents.specs.Document.{slots_us}
+use Rattle.a429_slots.specs.Times.{slots_us}
 use Rattle.a429_slots.specs.Proposed.{Proposed}
 use Rattle.a429_console.specs.Names.{name_at, naming_of}
 use Rattle.a429_recordings.specs.Simulating.{line_of, sent_end, separator}

@@ -5,7 +5,7 @@ use Rattle.std.specs.List.{flat_map}
 use Rattle.a429_word.specs.Hexadecimal.{hex}
 use Rattle.a429_equipment.specs.Agreement.{last_of}
 use Rattle.a429_equipment.specs.Limits.{count_bits}
-use Rattle.a429_documents.specs.Document.{slots_us}
+use Rattle.a429_slots.specs.Times.{slots_us}
 use Rattle.a429_slots.specs.Events.{Event, Arrive, Cell, Frame}
 use Rattle.a429_slots.specs.History.{Opening}
 use Rattle.a429_slots.specs.Proposed.{Proposed}

@@ -5,7 +5,7 @@ use Rattle.a429_equipment.specs.TableRecord.{TableRecord}
 use Rattle.a429_text.specs.Fields.{Absent, Field, Number, Text}
 use Rattle.a429_text.specs.Sheets.{sheet_text}
 use Rattle.a429_text.specs.declared.sheets.SheetForm.{SheetForm}
-use Rattle.a429_documents.specs.Document.{latency_us, slots_us}
+use Rattle.a429_slots.specs.Times.{latency_us, slots_us}
 use Rattle.a429_slots.specs.Proposed.{Proposed}
 use Rattle.a429_slots.specs.Tables.{Placed, groups_of, outputs_of, placed_at}
 use Rattle.a429_console.specs.Names.{group_name, output_name}

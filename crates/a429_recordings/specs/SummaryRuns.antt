@@ -4,7 +4,7 @@ use Rattle.std.specs.List.{flat_map, range_with_len}
 use Rattle.std.specs.Option.{option_map_or}
 use Rattle.a429_text.specs.Fields.{Field, Number}
 use Rattle.a429_equipment.specs.Agreement.{last_of}
-use Rattle.a429_documents.specs.Document.{slots_us}
+use Rattle.a429_slots.specs.Times.{slots_us}
 use Rattle.a429_slots.specs.Proposed.{Proposed}
 use Rattle.a429_slots.specs.Tables.{groups_of, outputs_of, placed_at}
 use Rattle.a429_recordings.specs.Summary.{bound_fields, greatest_in, latenesses, lateness, least_in, name_fields, number_field, sends_of, times_between}

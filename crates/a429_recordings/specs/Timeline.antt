@@ -6,7 +6,7 @@ use Rattle.std.specs.Option.{option_map_or}
 use Rattle.a429_equipment.specs.Agreement.{last_of}
 use Rattle.a429_equipment.specs.declared.rows.GroupRow.{GroupRow}
 use Rattle.a429_grid.specs.Grid.{slot_time}
-use Rattle.a429_documents.specs.Document.{slots_us}
+use Rattle.a429_slots.specs.Times.{slots_us}
 use Rattle.a429_slots.specs.Proposed.{Proposed}
 use Rattle.a429_slots.specs.Tables.{SlotTable, frame_of, groups_of, no_table}
 use Rattle.a429_recordings.specs.declared.simulate.log.LogWord.{LogWord}

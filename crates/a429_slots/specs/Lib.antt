@@ -1,4 +1,5 @@
 pub mod Tables
+pub mod Times
 pub mod Kept
 pub mod Columns
 pub mod Planned

@@ -35,6 +35,7 @@ mod plans;
 mod proposals;
 mod senders;
 mod sends;
+mod times;
 
 pub use a429_equipment::{GROUPS, OUTPUTS};
 pub use a429_pack::BUSES;
@@ -50,3 +51,4 @@ pub use proposals::{NoProposal, Proposal};
 pub use senders::cached::CachedSender;
 pub use senders::{Due, Sender};
 pub use sends::LastSend;
+pub use times::{latency_us, slots_us};

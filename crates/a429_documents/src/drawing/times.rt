@@ -1,7 +1,7 @@
 //! Times in an image, in milliseconds.
 ghost use Rattle.std.specs.Prelude.{◌≤◌};
 
-use crate::document::slots_us;
+use a429_slots::slots_us;
 use a429_text::Text;
 
 /// Writes how long a number of slots is at a bit rate in bit/s: rounded up to microseconds, in milliseconds with three

@@ -11,8 +11,7 @@ ghost use Rattle.a429_recordings.specs.Timeline.{rate_of, table_of};
 use crate::simulate::figures::{OutputFigures, Summary};
 use crate::simulate::tracks::rate_of;
 use a429_console::refusals::names::{group_name, source_name};
-use a429_documents::latency_us;
-use a429_slots::{OUTPUTS, OutputId, Proposal};
+use a429_slots::{OUTPUTS, OutputId, Proposal, latency_us};
 use a429_text::{Cell, Rows, Sheet};
 use std::alloc::Global;
 

@@ -3,7 +3,7 @@ ghost use Rattle.std.specs.Prelude.{◌≡◌, ◌<◌, ◌≤◌, ◌*◌, ◌^
 ghost use Rattle.a429_equipment.specs.Sound.{OfEach};
 ghost use Rattle.a429_slots.specs.Tables.{groups_of};
 ghost use Rattle.a429_slots.specs.Planned.{IsPlanOf};
-ghost use Rattle.a429_documents.specs.Document.{slots_us};
+ghost use Rattle.a429_slots.specs.Times.{slots_us};
 ghost use Rattle.a429_recordings.specs.Tracks.{GoesBefore, SlotsAreCounted, IsNextTrack, IsTrack, IsTracking, advanced, next_at, silent_until};
 ghost use Rattle.a429_recordings.specs.Timeline.{end_of, first_time, last_time, longest_frame, rate_of, slots_before};
 ghost use Rattle.a429_recordings.specs.SimulationRuns.{HasPlannedGroup};

@@ -9,7 +9,8 @@ use Rattle.a429_equipment.specs.declared.rows.SourceRow.{SourceRow}
 use Rattle.a429_slots.specs.Tables.{PlanTable, groups_of, outputs_of}
 use Rattle.a429_cert.specs.Checked.{stated_text}
 use Rattle.a429_cert.specs.PlanText.{stated_of, stated_groups}
-use Rattle.a429_cert.proofs.PlanLines.{plan_known, groups_more}
+use Rattle.a429_slots.proofs.Known.{sources_known}
+use Rattle.a429_cert.proofs.PlanLines.{groups_more}
 use Rattle.a429_cert.proofs.text.write_groups.Goals as goal
 
 pub write_group-requires : goal.write_group-requires
@@ -17,7 +18,7 @@ write_group-requires c =
     let sound : IsSound c.args.proposal.now.station = subst IsSound c.equipment-equipment.ensures.equipment c.rows_are_sound.ensures in
     let there : slice_get (groups_of c.args.proposal.now.plan) c.loop-number.number ≡ Some c.group.result.now = ap (λ (p : PlanTable). slice_get (groups_of p) c.loop-number.number) (sym c.plan.ensures.plan) ∙ c.group.ensures in
     let rows : c.sources-sources.result.now ≡ c.args.proposal.now.station.sources = c.sources-sources.ensures.rows ∙ ap (λ (e : TableRecord). e.sources) c.equipment-equipment.ensures.equipment in
-    let known = plan_known c.args.proposal.now.station c.args.proposal.now.plan c.loop-number.number c.group.result.now sound c.plan.ensures.own there in
+    let known = sources_known c.args.proposal.now.station c.args.proposal.now.plan c.loop-number.number c.group.result.now sound c.plan.ensures.own there in
     record { known = subst (λ (ss : List SourceRow). AllByRecursion (λ o. o.source < length ss) (outputs_of c.group.result.now)) (sym rows) known }
 
 pub loop-number-preserved : goal.loop-number-preserved

@@ -6,7 +6,7 @@ use Rattle.a429_equipment.specs.declared.rows.GroupRow.{GroupRow}
 use Rattle.a429_equipment.specs.declared.rows.SourceRow.{SourceRow}
 use Rattle.a429_slots.specs.Tables.{SlotTable, PlanTable, groups_of}
 use Rattle.a429_cert.specs.PlanText.{HasSources}
-use Rattle.a429_cert.proofs.PlanLines.{plan_known}
+use Rattle.a429_slots.proofs.Known.{sources_known}
 use Rattle.a429_documents.specs.SlotHeader.{group_part}
 use Rattle.a429_documents.proofs.SlotCells.{group_row_is, made_of_group}
 use Rattle.a429_documents.proofs.slots.header.put_group.Goals as goal
@@ -19,7 +19,7 @@ put_part-requires c =
     let sound : IsSound e = subst IsSound c.equipment-equipment.ensures.equipment c.rows_are_sound.ensures in
     let sources : c.sources-sources.result.now ≡ e.sources = c.sources-sources.ensures.rows ∙ ap (λ (e : TableRecord). e.sources) c.equipment-equipment.ensures.equipment in
     let there : slice_get (groups_of p) c.args.number ≡ Some t = ap (λ (p : PlanTable). slice_get (groups_of p) c.args.number) (sym c.plan.ensures.plan) ∙ c.group-table.ensures in
-    subst (λ (ss : List SourceRow). HasSources ss t) (sym sources) (plan_known e p c.args.number t sound c.plan.ensures.own there)
+    subst (λ (ss : List SourceRow). HasSources ss t) (sym sources) (sources_known e p c.args.number t sound c.plan.ensures.own there)
 
 pub returns : goal.returns
 returns c =

@@ -2,7 +2,7 @@ use Rattle.std.proofs.Common.{◌≡◌, ◌∙◌, ◌<◌, ℕ, length, take, 
 use Rattle.std.specs.Prelude.{max}
 use Rattle.std.proofs.lemmas.List.{length-take}
 use Rattle.a429_word.proofs.Lists.{get_within, take_next}
-use Rattle.a429_documents.specs.Document.{slots_us}
+use Rattle.a429_slots.specs.Times.{slots_us}
 use Rattle.a429_slots.specs.Tables.{frame_of, groups_of}
 use Rattle.a429_recordings.specs.Timeline.{longest_frame}
 use Rattle.a429_recordings.proofs.SimulationEnds.{longest_more, row_rate}

@@ -1,7 +1,7 @@
 use Rattle.std.proofs.Common.{◌≡◌, ◌∙◌, ◌++◌, ◌-◌, ◌+◌, ℕ, List, ap, ap₂, append-nil, append_assoc, arith, drop, length-drop, take}
 use Rattle.std.specs.Prelude.{Result, Ok, Err, OnOk, if◌then◌else◌, is_ok}
 use Rattle.std.proofs.lemmas.List.{take_all}
-use Rattle.a429_documents.specs.Document.{slots_us}
+use Rattle.a429_slots.specs.Times.{slots_us}
 use Rattle.a429_slots.specs.Proposed.{Proposed}
 use Rattle.a429_recordings.specs.CellLines.{begin_of, rest_of}
 use Rattle.a429_recordings.specs.Simulating.{sent_line}

@@ -1,6 +1,6 @@
 use Rattle.std.proofs.Common.{◌≡◌, ◌∙◌, ◌++◌, ◌+◌, ℕ, List, ap, ap₂, append-nil, append_assoc, arith, drop, refl, sym}
 use Rattle.std.specs.Fmt.{decimal}
-use Rattle.a429_documents.specs.Document.{slots_us}
+use Rattle.a429_slots.specs.Times.{slots_us}
 use Rattle.a429_console.specs.Names.{name_at, naming_of}
 use Rattle.a429_recordings.specs.CellLines.{begin_of, bus_separator}
 use Rattle.a429_recordings.specs.Simulating.{separator}
