@@ -8,8 +8,7 @@ use Rattle.std.proofs.lemmas.Option.{same_Some}
 use Rattle.clap.specs.ValueTests.{is_unsigned_in}
 use Rattle.clap.specs.Words.{Row, Rule, Text, first_of, one_of}
 use Rattle.clap.specs.Walk.{Held, finished, nothing_held, walk_from}
-use Rattle.a429_equipment.specs.Limits.{most_frames}
-use Rattle.a429_arguments.specs.CommandLine.{CommandRow, options_of, row_of}
+use Rattle.a429_arguments.specs.CommandLine.{CommandRow, most_frames, options_of, row_of}
 use Rattle.a429_arguments.specs.Requests.{AskedBytes, HasWords, IsName, words_if, words_of, words_of_options, words_with}
 use Rattle.a429_arguments.specs.RequestRows.{AsksFor, IsAskedBy, number_of}
 use Rattle.a429_arguments.specs.declared.forms.Verb.{Verb}

@@ -4,7 +4,6 @@ use Rattle.clap.specs.Words.{App, Rule, Shape, Text, new_app, new_rule, rule_of,
 use Rattle.clap.specs.declared.builder.arg.Arg.{Arg}
 use Rattle.clap.specs.declared.builder.action.ArgAction.TheVariants.{Append, SetTrue}
 use Rattle.clap.specs.declared.builder.value_parser.ValueParser.TheVariants as reads
-use Rattle.a429_equipment.specs.Limits.{most_frames}
 use Rattle.a429_arguments.specs.declared.command_line.Given.{Given}
 use Rattle.a429_arguments.specs.declared.command_line.Given.TheVariants as thing
 use Rattle.a429_arguments.specs.declared.forms.CommandForm.{CommandForm}
@@ -46,6 +45,10 @@ abbrev pub number_value_rule : Text → ℕ → ℕ → Rule
 number_value_rule name least most = record (value_rule name) { parser = Some (reads.Unsigned least most) }
 
 -- ---- the options of all commands
+
+-- how many frames a group can send in one run of `live` (profile)
+abbrev pub most_frames : ℕ
+most_frames = 1000000
 
 -- how many slots of a bus can be drawn
 abbrev pub most_slots : ℕ

@@ -5,8 +5,7 @@ use Rattle.std.specs.Str.{bytes_eq}
 use Rattle.std.specs.Str.Parse.{digits_value, without_leading_plus}
 use Rattle.clap.specs.ValueTests.{is_unsigned_in}
 use Rattle.clap.specs.Words.{Row, Text, first_of, one_of, all_of, subcommand_of, takes}
-use Rattle.a429_equipment.specs.Limits.{most_frames}
-use Rattle.a429_arguments.specs.CommandLine.{command_line, last_time, least_rate, most_bits, most_pair, most_percent, most_rate, most_slack, most_slots, most_tolerance, row_of}
+use Rattle.a429_arguments.specs.CommandLine.{command_line, last_time, least_rate, most_bits, most_frames, most_pair, most_percent, most_rate, most_slack, most_slots, most_tolerance, row_of}
 use Rattle.a429_arguments.specs.Requests.{AskedBytes, FieldBytes, HasWords, IsName, OptionBytes, is_one_alone, last_origin, words_of, words_with}
 use Rattle.a429_arguments.specs.declared.choices.Choices.{Choices}
 use Rattle.a429_arguments.specs.declared.forms.Verb.TheVariants as verb

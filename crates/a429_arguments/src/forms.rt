@@ -10,7 +10,6 @@ use crate::options::{
     LIMIT, MAP, NAMES, RATE, ROWS, SDI, SENT, SLACK, SLOTS, SSM, SUMMARY, SUMMARY_JSON, TEXT, TIME,
     TOLERANCE, UNTIL, WIDTH,
 };
-use a429_equipment::FRAMES;
 
 /// A command of the program.
 #[derive(Clone, Copy, PartialEq, Eq)]
@@ -104,9 +103,12 @@ macro_rules! name {
     };
 }
 
+/// The most frames that a group sends in one run of `live` (profile).
+const MOST_FRAMES: u32 = 1_000_000;
+
 const FRAME_COUNT: NumberForm = NumberForm {
     id: "FRAMES",
-    most: FRAMES,
+    most: MOST_FRAMES,
     help: NameHelp::Frames,
 };
 

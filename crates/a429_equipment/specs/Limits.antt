@@ -9,10 +9,6 @@ count_bits = 41
 abbrev pub most_words : ℕ
 most_words = 1000000
 
--- how many frames a group sends at most in one run on threads
-abbrev pub most_frames : ℕ
-most_frames = 1000000
-
 -- how often a hold lets one accepted word be sent at most
 abbrev pub most_sends : ℕ
 most_sends = 1000000
