@@ -1,3 +1,4 @@
+pub mod BoxSends
 pub mod ByBits
 pub mod Firsts
 pub mod Logs

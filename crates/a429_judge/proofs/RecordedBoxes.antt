@@ -14,7 +14,7 @@ use Rattle.a429_judge.specs.Judging.{time_at}
 use Rattle.a429_judge.specs.Laws.{AreNear, ArePlanned, AreSlots, IsRightBox}
 use Rattle.a429_judge.specs.Machine.{IsRecordOf, SlotSend, box_sends, is_used_up, known_by, moment_at, no_send, send_at, slot_sends}
 use Rattle.a429_judge.proofs.Firsts.{first_earlier, first_within}
-use Rattle.a429_judge.proofs.RightBoxes.{slots_rise}
+use Rattle.a429_judge.proofs.BoxSends.{slots_rise}
 use Rattle.a429_judge.proofs.SlotSends.{Rises, are_sends, last_have_it, one_counted, other_before, slot_after, slot_is_used, slots_of_places}
 
 -- ---- how many words are known at a moment

@@ -180,8 +180,9 @@ word_findings f span accepted sends i = finding_if (is_missed f span accepted se
 abbrev pub all_missed : Facts → Span → List Mark → List Mark → List Finding
 all_missed f span accepted sends = flat_map (word_findings f span accepted sends) (range_with_len 0 (length accepted))
 
+abbrev pub all_sent : Facts → Span → List Mark → List Mark → List Finding
+all_sent f span accepted sends = flat_map (send_findings f span accepted sends) (range_with_len 0 (length sends))
+
 -- all findings: those of the sends, that of the time after the last one, and those of the accepted words
 unfoldable pub findings : Facts → Span → List Mark → List Mark → List Finding
-findings f span accepted sends =
-    flat_map (send_findings f span accepted sends) (range_with_len 0 (length sends))
-    ++ (end_findings f span accepted sends ++ all_missed f span accepted sends)
+findings f span accepted sends = all_sent f span accepted sends ++ (end_findings f span accepted sends ++ all_missed f span accepted sends)

@@ -1,9 +1,9 @@
 //! What is found at the sends of an output and at the words of its source.
 ghost use Rattle.std.specs.Prelude.{◌≡◌, ◌<◌, ◌≤◌, ◌+◌, ◌*◌, ◌^◌, ◌++◌, drop, length, IfOk};
-ghost use Rattle.std.specs.List.{flat_map, position_or_len, range_with_len};
+ghost use Rattle.std.specs.List.{position_or_len};
 ghost use Rattle.std.specs.List.Sorted.{IsNonDecreasingBy};
 ghost use Rattle.a429_judge.specs.Known.{AreWords};
-ghost use Rattle.a429_judge.specs.Judging.{all_missed, due_since, end_findings, finding_if, findings, is_again, is_answered, is_ended, is_far, is_in_reach, is_late, is_right, is_seen, is_silent, is_soon, mark_at, send_findings, value_findings, word_findings};
+ghost use Rattle.a429_judge.specs.Judging.{all_missed, all_sent, due_since, end_findings, finding_if, findings, is_again, is_answered, is_ended, is_far, is_in_reach, is_late, is_right, is_seen, is_silent, is_soon, mark_at, send_findings, value_findings, word_findings};
 
 use crate::facts::{Facts, Mark, Span};
 use crate::holds::is_excused;
@@ -309,7 +309,7 @@ fn add_sends(
 )
     requires times { IsNonDecreasingBy (λ (a : Mark). a.time) accepted.now }
     requires words { AreWords accepted.now words.now }
-    ensures { found.new ≡ found.old ++ flat_map (send_findings facts.now span.now accepted.now sends.now) (range_with_len 0 (length sends.now)) }
+    ensures { found.new ≡ found.old ++ all_sent facts.now span.now accepted.now sends.now }
 {
     for place in 0..sends.len() {
         add_send(found, facts, span, accepted, words, sends, place);

@@ -187,11 +187,15 @@ files_of i = record {
 abbrev pub IsBoxReading : (List ℕ → Option (List ℕ)) → BoxFiles (List ℕ) → Result JudgeInput CommandRefusal → Type 0
 IsBoxReading file names result = MatchResult result (λ i. AreBoxFiles file names (files_of i)) (OrMemory (IsUnreadBoxFile file names))
 
+-- the tolerances that are given
+abbrev pub given_by : Judging → List (List ℕ)
+given_by j = texts_of j.tolerances.now
+
 -- the sheet of some words, and whether something is found
 abbrev pub IsJudgeSheet : Bool → Judging → SheetForm → Judged → Type 0
 IsJudgeSheet events j form result =
-    (result.text.items ≡ judge_text events form j.proposal.now (texts_of j.tolerances.now) j.judge.now)
-    × (result.found ≡ judge_finds events j.proposal.now (texts_of j.tolerances.now) j.judge.now)
+    (result.text.items ≡ judge_text events form j.proposal.now (given_by j) j.judge.now)
+    × (result.found ≡ judge_finds events j.proposal.now (given_by j) j.judge.now)
 
 -- what judging logs gives
 abbrev pub IsPrinting : Proposed → BoxFiles (List ℕ) → JudgeForm → Result Judged CommandRefusal → Type 0

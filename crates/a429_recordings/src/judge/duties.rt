@@ -32,7 +32,9 @@ fn rate_of(proposal: &Proposal<OUTPUTS>, group: usize) -> u32
     ensures rate { result ≡ rate_of proposal.now group }
     ensures some { 1 ≤ result }
 {
-    proposal.equipment().group_rate(group)
+    let equipment = proposal.equipment();
+    equipment.rows_are_sound();
+    equipment.group_rate(group)
 }
 
 /// The row of an output. If there is none, one without an interval.
@@ -45,6 +47,7 @@ fn row_of(equipment: &Equipment, group: usize, output: usize) -> OutputRow
         max_us: 0,
         hold: None,
     };
+    equipment.rows_are_sound();
     if group >= equipment.groups().len() {
         return none;
     }

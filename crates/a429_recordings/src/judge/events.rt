@@ -3,7 +3,7 @@ ghost use Rattle.std.specs.Prelude.{◌≡◌, ◌<◌, ◌++◌, ◌∷◌, [],
 ghost use Rattle.a429_word.specs.Hexadecimal.{hex};
 ghost use Rattle.a429_text.specs.Fields.{Text};
 ghost use Rattle.a429_text.specs.Sheets.{field_of};
-ghost use Rattle.a429_arguments.specs.Texts.{texts_of};
+ghost use Rattle.a429_recordings.specs.JudgeReplies.{given_by};
 ghost use Rattle.a429_slots.specs.Tables.{outputs_of};
 ghost use Rattle.a429_recordings.specs.JudgedPlans.{bus_field, duties_of, event_row, finding_row, foreign_event, foreign_in, foreign_rows, group_events, judge_events, kind_text, output_events, outputs_at};
 ghost use Rattle.a429_console.specs.Names.{group_name, output_name};
@@ -141,9 +141,9 @@ fn add_output(
 ) -> Result<(), AllocError>
     requires known { HasPlannedGroup judging.now.proposal.now group }
     requires output { output < length (outputs_of (table_of judging.now.proposal.now group)) }
-    requires duties { duties.now ≡ duties_of judging.now.proposal.now (texts_of judging.now.tolerances.now) group }
+    requires duties { duties.now ≡ duties_of judging.now.proposal.now (given_by judging.now) group }
     ensures { OnOk result (rows.new ≡ rows.old
-        ++ output_events judging.now.proposal.now (texts_of judging.now.tolerances.now) judging.now.judge.now group output) }
+        ++ output_events judging.now.proposal.now (given_by judging.now) judging.now.judge.now group output) }
 {
     let duty = duty_of(judging.proposal, judging.tolerances, group, output);
     let found = judging.judge.found(alloc, duties, &duty)?;
@@ -161,9 +161,9 @@ fn add_outputs(
     duties: &[Duty],
 ) -> Result<(), AllocError>
     requires known { HasPlannedGroup judging.now.proposal.now group }
-    requires duties { duties.now ≡ duties_of judging.now.proposal.now (texts_of judging.now.tolerances.now) group }
+    requires duties { duties.now ≡ duties_of judging.now.proposal.now (given_by judging.now) group }
     ensures { OnOk result (rows.new ≡ rows.old
-        ++ flat_map (output_events judging.now.proposal.now (texts_of judging.now.tolerances.now) judging.now.judge.now group)
+        ++ flat_map (output_events judging.now.proposal.now (given_by judging.now) judging.now.judge.now group)
         (outputs_at judging.now.proposal.now group)) }
 {
     for output in 0..judging.proposal.plan().group(group).outputs() {
@@ -215,9 +215,9 @@ fn add_foreign_of(
     group: usize,
     duties: &[Duty],
 ) -> Result<(), AllocError>
-    requires { duties.now ≡ duties_of judging.now.proposal.now (texts_of judging.now.tolerances.now) group }
+    requires { duties.now ≡ duties_of judging.now.proposal.now (given_by judging.now) group }
     ensures { OnOk result (rows.new ≡ rows.old ++ foreign_rows (group_name judging.now.proposal.now.station group)
-        (foreign_in judging.now.proposal.now (texts_of judging.now.tolerances.now) judging.now.judge.now group)) }
+        (foreign_in judging.now.proposal.now (given_by judging.now) judging.now.judge.now group)) }
 {
     let foreign = judging.judge.foreign(alloc, duties, group);
     let words = foreign.as_slice()?;
@@ -234,7 +234,7 @@ fn add_group(
 ) -> Result<(), AllocError>
     requires { HasPlannedGroup judging.now.proposal.now group }
     ensures { OnOk result (rows.new ≡ rows.old
-        ++ group_events judging.now.proposal.now (texts_of judging.now.tolerances.now) judging.now.judge.now group) }
+        ++ group_events judging.now.proposal.now (given_by judging.now) judging.now.judge.now group) }
 {
     let duties = duties_of(alloc, judging.proposal, judging.tolerances, group)?;
     add_outputs(rows, alloc, judging, group, &duties)?;
@@ -245,7 +245,7 @@ fn add_group(
 /// Adds the rows of all groups. Error: an allocation failed.
 pub fn add_events(rows: &mut Rows, alloc: Global, judging: &Judging<'_>) -> Result<(), AllocError>
     ensures { OnOk result (rows.new ≡ rows.old
-        ++ judge_events judging.now.proposal.now (texts_of judging.now.tolerances.now) judging.now.judge.now) }
+        ++ judge_events judging.now.proposal.now (given_by judging.now) judging.now.judge.now) }
 {
     for group in 0..judging.proposal.plan().groups() {
         add_group(rows, alloc, judging, group)?;

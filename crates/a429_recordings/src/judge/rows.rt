@@ -1,7 +1,7 @@
 //! A row for each output, and for the foreign words of each group.
 ghost use Rattle.std.specs.Prelude.{◌≡◌, ◌<◌, ◌++◌, ◌∷◌, [], length, map, IfOk, OnOk};
 ghost use Rattle.std.specs.List.{flat_map, list_any, range_with_len};
-ghost use Rattle.a429_arguments.specs.Texts.{texts_of};
+ghost use Rattle.a429_recordings.specs.JudgeReplies.{given_by};
 ghost use Rattle.a429_slots.specs.Tables.{groups_of, outputs_of};
 ghost use Rattle.a429_recordings.specs.JudgedPlans.{duties_of, is_any_bad, is_bad_at, is_found, is_found_in, judged_group, judged_outputs, judged_row, judged_rows};
 ghost use Rattle.a429_recordings.specs.SimulationRuns.{HasPlannedGroup};
@@ -24,10 +24,10 @@ fn add_output(
 ) -> Result<bool, AllocError>
     requires known { HasPlannedGroup judging.now.proposal.now group }
     requires output { output < length (outputs_of (table_of judging.now.proposal.now group)) }
-    requires duties { duties.now ≡ duties_of judging.now.proposal.now (texts_of judging.now.tolerances.now) group }
+    requires duties { duties.now ≡ duties_of judging.now.proposal.now (given_by judging.now) group }
     ensures row { OnOk result (rows.new ≡ rows.old
-        ++ judged_row judging.now.proposal.now (texts_of judging.now.tolerances.now) judging.now.judge.now group output ∷ []) }
-    ensures bad { IfOk result (λ bad. bad ≡ is_bad_at judging.now.proposal.now (texts_of judging.now.tolerances.now) judging.now.judge.now group output) }
+        ++ judged_row judging.now.proposal.now (given_by judging.now) judging.now.judge.now group output ∷ []) }
+    ensures bad { IfOk result (λ bad. bad ≡ is_bad_at judging.now.proposal.now (given_by judging.now) judging.now.judge.now group output) }
 {
     let duty = duty_of(judging.proposal, judging.tolerances, group, output);
     let judgement = judging.judge.judgement(alloc, duties, &duty)?;
@@ -47,10 +47,10 @@ fn add_outputs(
     duties: &[Duty],
 ) -> Result<bool, AllocError>
     requires known { HasPlannedGroup judging.now.proposal.now group }
-    requires duties { duties.now ≡ duties_of judging.now.proposal.now (texts_of judging.now.tolerances.now) group }
+    requires duties { duties.now ≡ duties_of judging.now.proposal.now (given_by judging.now) group }
     ensures rows { OnOk result (rows.new ≡ rows.old
-        ++ judged_outputs judging.now.proposal.now (texts_of judging.now.tolerances.now) judging.now.judge.now group) }
-    ensures bad { IfOk result (λ bad. bad ≡ is_any_bad judging.now.proposal.now (texts_of judging.now.tolerances.now) judging.now.judge.now group) }
+        ++ judged_outputs judging.now.proposal.now (given_by judging.now) judging.now.judge.now group) }
+    ensures bad { IfOk result (λ bad. bad ≡ is_any_bad judging.now.proposal.now (given_by judging.now) judging.now.judge.now group) }
 {
     let mut found = false;
     for output in 0..judging.proposal.plan().group(group).outputs() {
@@ -69,8 +69,8 @@ fn add_group(
 ) -> Result<bool, AllocError>
     requires { HasPlannedGroup judging.now.proposal.now group }
     ensures rows { OnOk result (rows.new ≡ rows.old
-        ++ judged_group judging.now.proposal.now (texts_of judging.now.tolerances.now) judging.now.judge.now group) }
-    ensures found { IfOk result (λ found. found ≡ is_found_in judging.now.proposal.now (texts_of judging.now.tolerances.now) judging.now.judge.now group) }
+        ++ judged_group judging.now.proposal.now (given_by judging.now) judging.now.judge.now group) }
+    ensures found { IfOk result (λ found. found ≡ is_found_in judging.now.proposal.now (given_by judging.now) judging.now.judge.now group) }
 {
     let duties = duties_of(alloc, judging.proposal, judging.tolerances, group)?;
     let found = add_outputs(rows, alloc, judging, group, &duties)?;
@@ -84,8 +84,8 @@ fn add_group(
 /// Adds the rows of all groups, and answers whether something is found. Error: an allocation failed.
 pub fn add_groups(rows: &mut Rows, alloc: Global, judging: &Judging<'_>) -> Result<bool, AllocError>
     ensures rows { OnOk result (rows.new ≡ rows.old
-        ++ judged_rows judging.now.proposal.now (texts_of judging.now.tolerances.now) judging.now.judge.now) }
-    ensures found { IfOk result (λ found. found ≡ is_found judging.now.proposal.now (texts_of judging.now.tolerances.now) judging.now.judge.now) }
+        ++ judged_rows judging.now.proposal.now (given_by judging.now) judging.now.judge.now) }
+    ensures found { IfOk result (λ found. found ≡ is_found judging.now.proposal.now (given_by judging.now) judging.now.judge.now) }
 {
     let mut found = false;
     for group in 0..judging.proposal.plan().groups() {
