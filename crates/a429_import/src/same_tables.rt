@@ -50,6 +50,8 @@ fn same_outputs(a: &Equipment, b: &Equipment) -> bool
             return false;
         }
     }
+    a.rows_are_sound();
+    b.rows_are_sound();
     true
 }
 

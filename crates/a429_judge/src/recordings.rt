@@ -1,6 +1,6 @@
 //! The logs of a box.
-ghost use Rattle.std.specs.Prelude.{◌≡◌, ◌<◌, ◌++◌, ◌↔◌, if◌then◌else◌, ◌∷◌, [], OnOk, OnErr, IsErrOf};
-ghost use Rattle.std.specs.List.{list_any};
+ghost use Rattle.std.specs.Prelude.{◌≡◌, ◌==◌, ◌<◌, ◌++◌, ◌↔◌, if◌then◌else◌, ◌∷◌, [], option_map, OnOk, OnErr, IsErrOf};
+ghost use Rattle.std.specs.List.{find, list_any};
 ghost use Rattle.std.specs.List.Sorted.{IsNonDecreasingBy};
 ghost use Rattle.a429_judge.specs.Recordings.{accepted_of, first_sent, fits, foreign_of, heard_by, is_foreign, no_words, sends_of, span_of, with_heard, with_sent};
 
@@ -126,18 +126,28 @@ fn foreign_of(alloc: Global, duties: &[Duty], group: usize, sent: &[Sent]) -> Ga
     found
 }
 
+/// The time of the first word of a group. `None` if there is none.
+fn first_of_group(group: usize, sent: &[Sent]) -> Option<u64>
+    ensures { result ≡ option_map (λ w. w.mark.time) (find (λ w. w.group == group) sent.now) }
+{
+    for word in sent {
+        if word.group == group {
+            return Some(word.mark.time);
+        }
+    }
+    None
+}
+
 /// The time of the first word of a group; if there is none, of the first word, or 0.
 fn first_sent(group: usize, sent: &[Sent]) -> u64
     ensures { result ≡ first_sent group sent.now }
 {
-    for word in sent {
-        if word.group == group {
-            return word.mark.time;
-        }
-    }
-    match sent.first() {
-        Some(word) => word.mark.time,
-        None => 0,
+    match first_of_group(group, sent) {
+        Some(time) => time,
+        None => match sent.first() {
+            Some(word) => word.mark.time,
+            None => 0,
+        },
     }
 }
 

@@ -8,8 +8,8 @@ use Rattle.a429_recordings.proofs.judge.judge_words.Goals as goal
 
 pub returns-in_err-judge : goal.returns-in_err-judge
 returns-in_err-judge c =
-    let p = err_from_is_err_and c.from_residual-in_err-judge.result c.from_residual-in_err-judge.ensures.1 in
-    failed c.from_residual-in_err-judge.result _ (OrMemory (IsNoRecording c.args.proposal.now (files_of c.args.input.now) c.args.form.reading)) c.in_err-judge.field-0.0 (p.1 ∙ ap Err p.2) c.in_err-judge.ensures
+    let p = err_from_is_err_and c.from_residual.result c.from_residual.ensures.1 in
+    failed c.from_residual.result _ (OrMemory (IsNoRecording c.args.proposal.now (files_of c.args.input.now) c.args.form.reading)) c.in_err-judge.field-0.0 (p.1 ∙ ap Err p.2) c.in_err-judge.ensures
 
 pub returns : goal.returns
 returns c = record {
