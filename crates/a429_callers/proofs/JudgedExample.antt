@@ -336,7 +336,7 @@ recorded = record {
   where
     heard : (source : ℕ) → map (λ a. a.raw) (words_of source) ≡ accepted_by 41 opening source events
     heard zero = refl
-    heard (suc n) = let other : (0 == suc n) ≡ false = ne_eqb 0 (suc n) (λ h. omega (arith, h)) in rw other refl
+    heard (suc n) = refl
 
 pub meets : MeetsPremisesOfJudging
 unfolding cell_at ones_from number_from reversed_from

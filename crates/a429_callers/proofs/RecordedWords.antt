@@ -276,10 +276,10 @@ module _ (j : JudgedGroup) (c : Timing) where
     pub none_foreign : (sent : List Sent) (cells : List AnsweredCell) → AllZip (IsRecordedAs j c) (filter (is_logged c) cells) (filter (λ w. w.group == j.history.group) sent) → AllByRecursion (IsOfOutput sources j.history.table) cells
         → foreign_of (duties_in j) j.history.group sent ≡ []
     none_foreign sent cells pairs all =
-        ap (map (λ (w : Sent). w.mark)) (filter_kept (λ (w : Sent). w.group == j.history.group) (λ w. not (list_any (λ d. fits d w) (duties_in j))) sent
+        filter_kept (λ (w : Sent). w.group == j.history.group) (λ w. not (list_any (λ d. fits d w) (duties_in j))) sent
         ∙ none_passes (IsRecordedAs j c) (IsOfOutput sources j.history.table) (λ w. (w.group == j.history.group) ≡ true) (λ w. not (list_any (λ d. fits d w) (duties_in j))) fits_some (filter (is_logged c) cells)
         (filter (λ w. w.group == j.history.group) sent) pairs (all_filter (IsOfOutput sources j.history.table) (is_logged c) cells all)
-        (all_passes (λ w. (w.group == j.history.group) ≡ true) (λ w. w.group == j.history.group) (λ w h. h) sent))
+        (all_passes (λ w. (w.group == j.history.group) ≡ true) (λ w. w.group == j.history.group) (λ w h. h) sent)
 
 module _ (j : JudgedGroup) (c : Timing) (planned : IsPlannedFor j.rate (station_of j).sources j.rows j.history.table) (number : ℕ) (row : OutputRow) (x : Placed) (listed : slice_get j.rows number ≡ Some row)
     (there : slice_get (outputs_of j.history.table) number ≡ Some x) (apart : overlapping (duty_in j (row, x)) (duties_in j) ≤ 1) where
