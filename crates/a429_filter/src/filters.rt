@@ -12,7 +12,7 @@ use thiserror::Error;
 pub const FILTERS: usize = 32;
 
 /// A label, and a mask whose ones are the bits of the label that count (profile).
-#[derive(Clone, Copy, Debug, PartialEq, Eq)]
+#[derive(Clone, Copy, PartialEq, Eq)]
 pub struct Filter {
     pub label: Label,
     pub mask: u8,
@@ -58,7 +58,7 @@ pub struct Full;
 
 /// The filters of a receiver: a list of at most 32, of which one has to pass a label, or no list,
 /// which passes every label (profile).
-#[derive(Debug, Drop)]
+#[derive(Drop)]
 pub struct FilterSet {
     listed: bool,
     len: usize,

@@ -9,7 +9,7 @@ use std::alloc::{AllocError, Global};
 use std::marker::Model;
 
 /// A line whose raw words are in memory. It never fails, and it takes no memory for a word.
-#[derive(Debug, Drop)]
+#[derive(Drop)]
 pub struct MemoryLine {
     words: Vec<u32>,
     next: usize,

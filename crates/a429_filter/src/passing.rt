@@ -9,7 +9,7 @@ use a429_word::Label;
 const LABELS: usize = 256;
 
 /// Of each label whether it passes, so that asking costs the same with 1 filter and with 32.
-#[derive(Clone, Copy, Debug)]
+#[derive(Clone, Copy)]
 pub struct Passing {
     labels: [bool; LABELS],
 }

@@ -10,7 +10,7 @@ pub const SLOT_TIME: u64 = 36_000_000;
 
 /// A period on the slot grid: a power of two of slots, 1 to 8192 (profile). Contracts see its
 /// exponent `k`; it has `2^k` slots.
-#[derive(Clone, Copy, Debug, PartialEq, Eq)]
+#[derive(Clone, Copy, PartialEq, Eq)]
 pub struct Period {
     exponent: u32,
 }

@@ -1,18 +1,16 @@
 -- A box that sends by its slots is a right box.
-use Rattle.std.proofs.Common.{◌≡◌, ℕ, ◌+◌, ◌-◌, ◌*◌, ◌<◌, ◌≤◌, List, length, get_or, take, Bool, true, false, true≢false, refl, sym, ap, ◌∙◌, inl, inr, ◌⊎◌, arith, Some, None}
-use Rattle.std.specs.Prelude.{Option, count_by, nat_le, nat_lt, ◌==◌, ◌||◌}
-use Rattle.std.specs.List.{position_or_len}
+use Rattle.std.proofs.Common.{◌≡◌, ℕ, ◌+◌, ◌-◌, ◌*◌, ◌<◌, ◌≤◌, List, length, take, Bool, true, false, true≢false, refl, sym, ap, ◌∙◌, inl, inr, ◌⊎◌, arith, Some, None}
+use Rattle.std.specs.Prelude.{Option, count_by, nat_lt, ◌==◌}
 use Rattle.std.specs.List.Sorted.{IsNonDecreasingBy}
 use Rattle.std.proofs.lemmas.Bool.{cases_lt}
 use Rattle.std.proofs.lemmas.Bool.Decides.{nat_tests}
-use Rattle.std.proofs.lemmas.List.{get_or-take, length-take}
+use Rattle.std.proofs.lemmas.List.{length-take}
 use Rattle.std.proofs.lemmas.List.Sums.{count_by-le-length, fails_before_first, passes_at_first}
 use Rattle.a429_judge.specs.declared.facts.Facts.{Facts}
 use Rattle.a429_judge.specs.declared.facts.Mark.{Mark}
 use Rattle.a429_judge.specs.declared.facts.Span.{Span}
-use Rattle.a429_judge.specs.Judging.{time_at}
-use Rattle.a429_judge.specs.Laws.{AreNear, ArePlanned, AreSlots, IsRightBox}
-use Rattle.a429_judge.specs.Machine.{IsRecordOf, SlotSend, box_sends, is_used_up, known_by, moment_at, no_send, send_at, slot_sends}
+use Rattle.a429_judge.specs.Laws.{ArePlanned, IsRightBox}
+use Rattle.a429_judge.specs.Machine.{IsRecordOf, SlotSend, box_sends, is_used_up, known_by, moment_at, send_at, slot_sends}
 use Rattle.a429_judge.proofs.Firsts.{first_earlier, first_within}
 use Rattle.a429_judge.proofs.BoxSends.{slots_rise}
 use Rattle.a429_judge.proofs.SlotSends.{Rises, are_sends, last_have_it, one_counted, other_before, slot_after, slot_is_used, slots_of_places}

@@ -1,13 +1,12 @@
 -- Nothing is found at a right box.
-use Rattle.std.proofs.Common.{◌≡◌, ℕ, zero, suc, ◌+◌, ◌-◌, ◌*◌, ◌<◌, ◌≤◌, List, [], ◌∷◌, ◌++◌, length, drop, get_or, Bool, true, false, true≢false, refl, sym, ap, subst, ◌∙◌, inl, inr, ◌⊎◌, arith, Some, None, length-drop}
-use Rattle.std.specs.Prelude.{Option, flat_map, if◌then◌else◌, is_some, max, nat_le, nat_lt, not, slice_get, ◌&&◌, ◌||◌, ◌==◌}
+use Rattle.std.proofs.Common.{◌≡◌, ℕ, zero, suc, ◌+◌, ◌-◌, ◌*◌, ◌<◌, ◌≤◌, List, [], length, drop, Bool, true, false, true≢false, refl, sym, ap, subst, ◌∙◌, inl, inr, ◌⊎◌, arith, Some, None}
+use Rattle.std.specs.Prelude.{Option, flat_map, if◌then◌else◌, is_some, nat_le, nat_lt, not, ◌&&◌}
 use Rattle.std.specs.List.{list_any, position_or_len, range_with_len}
 use Rattle.std.specs.Option.{option_map_or}
-use Rattle.std.specs.List.Sorted.{IsNonDecreasingBy}
-use Rattle.std.proofs.Math.Nat.{mul-le-mul, mul-le-mul_left, mul-le-mul_right, mul-lt-mul_of_pos_right, le_of_mul-le-mul_right, one-le-mul}
+use Rattle.std.proofs.Math.Nat.{mul-le-mul_left, mul-le-mul_right, mul-lt-mul_of_pos_right, le_of_mul-le-mul_right, one-le-mul}
 use Rattle.std.proofs.lemmas.Bool.{cases_lt}
 use Rattle.std.proofs.lemmas.Bool.Decides.{nat_tests}
-use Rattle.std.proofs.lemmas.List.{get_or-drop, get_or_default}
+use Rattle.std.proofs.lemmas.List.{get_or_default}
 use Rattle.std.proofs.lemmas.List.Sums.{fails_before_first, prefix_len-le-length}
 use Rattle.a429_judge.specs.declared.duties.Duty.{Duty}
 use Rattle.a429_judge.specs.declared.facts.Facts.{Facts}
@@ -15,13 +14,13 @@ use Rattle.a429_judge.specs.declared.facts.Mark.{Mark}
 use Rattle.a429_judge.specs.declared.facts.Span.{Span}
 use Rattle.a429_judge.specs.declared.findings.Finding.{Finding}
 use Rattle.a429_judge.specs.declared.findings.Kind.{Kind}
-use Rattle.a429_judge.specs.declared.findings.Kind.TheVariants.{Again, Late, Missed, Silent, Soon}
+use Rattle.a429_judge.specs.declared.findings.Kind.TheVariants.{Missed, Silent}
 use Rattle.a429_judge.specs.Judging.{all_missed, due_since, end_findings, findings, finding_if, has_room, is_again, is_answered, is_before_next, is_by, is_ended, is_equal, is_excused, is_far, is_in_reach, is_known, is_late, is_left, is_missed, is_of_one, is_past, is_right, is_seen, is_silent, is_soon, is_twice, mark_at, may_be_used_up, no_mark, send_findings, since, time_at, value_findings, word_findings}
 use Rattle.a429_judge.specs.Judgements.{accepted_by, found_at, is_alike, sent_by}
 use Rattle.a429_judge.specs.Recordings.{Recording, span_of}
-use Rattle.a429_judge.specs.Laws.{AreNear, ArePlanned, AreSlots, IsPieceOf, IsRightBox, length_of}
-use Rattle.a429_judge.proofs.Scanning.{any_at, false_unless, right_here, none_at, right_from, right_value, step_at, twice_from, unknown_value}
-use Rattle.a429_judge.proofs.BoxSends.{by_end, first_after, first_known, first_slot, is_before_rest, IsFirstSlot, IsLogged, known_is_logged, known_parts, later_not_past, logged_right, not_past, not_soon, right_at, right_if_known, same_at, slots_apart, slots_far, slots_grow, slots_rise, some_units, twice_at, within_reach, word_by}
+use Rattle.a429_judge.specs.Laws.{AreNear, ArePlanned, IsRightBox, length_of}
+use Rattle.a429_judge.proofs.Scanning.{any_at, false_unless, none_at}
+use Rattle.a429_judge.proofs.BoxSends.{by_end, first_slot, is_before_rest, IsFirstSlot, IsLogged, known_is_logged, later_not_past, logged_right, not_soon, right_if_known, same_at, slots_far, slots_grow, slots_rise, some_units, twice_at, within_reach, word_by}
 
 -- ---- holds
 

@@ -19,7 +19,7 @@ use Rattle.a429_judge.specs.declared.findings.Kind.TheVariants.{Wrong, Stale, So
 use Rattle.a429_judge.specs.Recordings.{Recording, span_of}
 use Rattle.a429_judge.specs.Judging.{all_missed, end_findings, findings, finding_if, has_room, is_again, is_wrong, is_stale, is_accepted, is_before_next, is_by, is_ended, is_equal, is_excused, is_far, is_known, is_late, is_left, is_past, is_right, is_silent, is_soon, mark_at, may_be_used_up, no_mark, send_findings, time_at, value_findings}
 use Rattle.a429_judge.specs.Judgements.{accepted_by, sent_by, found_at, is_alike, judgement_of, judgement_by, known_sends, quiet_verdict, verdict_of}
-use Rattle.a429_judge.specs.Laws.{EndsInTime, IsHeld, IsInTime, IsLatestAt, IsRight, IsWithinLog, WasLatest}
+use Rattle.a429_judge.specs.Laws.{EndsInTime, IsHeld, IsInTime, IsLatestAt, IsWithinLog, WasLatest}
 use Rattle.a429_judge.proofs.Scanning.{any_at, false_unless, or_cases}
 
 -- ---- a right word was the latest

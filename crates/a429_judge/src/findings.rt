@@ -13,7 +13,7 @@ use a429_text::Gathered;
 use std::alloc::{AllocError, Global};
 
 /// What is wrong.
-#[derive(Clone, Copy, Debug, PartialEq, Eq, Drop)]
+#[derive(Clone, Copy, PartialEq, Eq, Drop)]
 pub enum Kind {
     /// The word of a send was not accepted by then.
     Wrong,

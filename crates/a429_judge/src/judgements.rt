@@ -15,7 +15,7 @@ use a429_text::Gathered;
 use std::alloc::{AllocError, Global};
 
 /// What is said of an output in a word.
-#[derive(Clone, Copy, Debug, PartialEq, Eq)]
+#[derive(Clone, Copy, PartialEq, Eq)]
 pub enum Verdict {
     /// Nothing is wrong with its sends.
     Ok,

@@ -12,8 +12,9 @@ pub fn ok_is_right()
 
 /// A right box is never condemned: nothing is found at its outputs. Its slots may begin at any time. Each may come a period
 /// after the one before, or sooner or later by `drift`. A send is recorded up to a slot after its slot begins, and each
-/// time of the logs may be wrong by `wrong`. Twice `wrong` and `drift` are at most the tolerance. The logs may be any piece
-/// of what came in and of what was sent.
+/// time of the logs may be wrong by `wrong`. Twice `wrong` and `drift` are at most the tolerance. The log of what came in may
+/// be any piece. The log of what was sent may begin at any send of the group, and has each of its later sends to the end of
+/// both logs.
 pub fn right_box_has_no_finding()
     ensures { RightBoxHasNoFinding }
 {}

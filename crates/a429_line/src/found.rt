@@ -3,7 +3,7 @@
 use a429_word::Word;
 
 /// The level of a line for one bit time (ARINC 429 Part 1).
-#[derive(Clone, Copy, Debug, PartialEq, Eq)]
+#[derive(Clone, Copy, PartialEq, Eq)]
 pub enum Symbol {
     /// A one.
     Hi,
@@ -15,7 +15,7 @@ pub enum Symbol {
 
 /// The report of a run, a maximal stretch of ones and zeros (profile). A run has at most one report: the first that
 /// fits, in the order Gap, Long, Short, then Word or Parity.
-#[derive(Clone, Copy, Debug, PartialEq, Eq)]
+#[derive(Clone, Copy, PartialEq, Eq)]
 pub enum Found {
     /// 32 bits of odd parity; reported at the Null after them.
     Word(Word),

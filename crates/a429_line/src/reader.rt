@@ -14,7 +14,7 @@ use std::alloc::AllocError;
 use std::marker::Model;
 
 /// A reader of one line. It keeps nothing of the symbols before the run that it is in, and allocates no memory.
-#[derive(Clone, Debug, Drop)]
+#[derive(Clone, Drop)]
 pub struct LineReader {
     stage: Stage,
 }

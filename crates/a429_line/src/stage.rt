@@ -13,7 +13,7 @@ const GAP: u32 = 4;
 const BITS: u32 = 32;
 
 /// What a reader keeps of the symbols so far.
-#[derive(Clone, Copy, Debug, PartialEq, Eq)]
+#[derive(Clone, Copy, PartialEq, Eq)]
 pub enum Stage {
     /// Between runs, after this number of Nulls, of which at most four are counted.
     Between(u32),

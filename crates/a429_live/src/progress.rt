@@ -32,7 +32,7 @@ pub trait Progress {
 }
 
 /// Shows nothing.
-#[derive(Clone, Copy, Debug, PartialEq, Eq)]
+#[derive(Clone, Copy, PartialEq, Eq)]
 pub struct NoProgress;
 
 impl Progress for NoProgress {

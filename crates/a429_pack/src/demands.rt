@@ -11,7 +11,7 @@ pub const BUSES: usize = 16;
 
 /// What an output asks of the layout of its group: its grid period, and the label and SDI of its source. The period is
 /// `None` if the output's interval allows no grid period; the SDI is `None` if the source takes any SDI.
-#[derive(Clone, Copy, Debug, PartialEq, Eq)]
+#[derive(Clone, Copy, PartialEq, Eq)]
 pub struct Demand {
     pub period: Option<Period>,
     pub label: Label,

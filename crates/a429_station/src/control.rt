@@ -20,7 +20,7 @@ pub trait Control<R: Wait> {
 }
 
 /// Publishes nothing.
-#[derive(Clone, Copy, Debug, PartialEq, Eq)]
+#[derive(Clone, Copy, PartialEq, Eq)]
 pub struct NoControl;
 
 impl<R: Wait> Control<R> for NoControl {

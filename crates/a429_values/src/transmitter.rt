@@ -102,8 +102,9 @@ impl Transmitter {
         word_in(label, load_step(&wired.shared_words, seat, source))
     }
 
-    /// The last accepted word of the source, by one load; `None` if no word was accepted. The call allocates no memory
-    /// and waits for nobody.
+    /// The word that one load of the source finds, as `load_numbered` finds it; `None` if it finds no accepted word. It
+    /// was accepted no earlier than that of any earlier load of the source. The call allocates no memory and waits for
+    /// nobody.
     pub fn load(&mut self, source: usize) -> Option<Word>
         requires { source < length self.old.at.station.sources }
         ensures load { (count : ℕ) × (self.new ≡ with_loads self.old (record { source = source; count = count; word = result } ∷ [])) }

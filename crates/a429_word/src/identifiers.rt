@@ -7,7 +7,7 @@ use std::fmt;
 use std::marker::Model;
 
 /// The source and destination identifier, bits 9 and 10 of a word (ARINC 429 Part 1): 0 to 3.
-#[derive(Clone, Copy, Debug, PartialEq, Eq)]
+#[derive(Clone, Copy, PartialEq, Eq)]
 pub struct Sdi {
     value: u8,
 }
@@ -43,7 +43,7 @@ impl Sdi {
 }
 
 /// The sign and status matrix, bits 30 and 31 of a word (ARINC 429 Part 1): 0 to 3, bit 31 the upper one.
-#[derive(Clone, Copy, Debug, PartialEq, Eq)]
+#[derive(Clone, Copy, PartialEq, Eq)]
 pub struct Ssm {
     bits: u8,
 }

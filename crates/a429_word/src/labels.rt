@@ -8,7 +8,7 @@ use thiserror::Error;
 
 /// A label: the name of what a word carries, bits 1 to 8 of the word with bit 1 the highest
 /// (ARINC 429 Part 1, word format).
-#[derive(Clone, Copy, Debug, PartialEq, Eq)]
+#[derive(Clone, Copy, PartialEq, Eq)]
 pub struct Label {
     value: u8,
 }

@@ -6,7 +6,7 @@ use crate::identifiers::Ssm;
 use std::fmt;
 
 /// What the SSM says of BNR data (profile).
-#[derive(Clone, Copy, Debug, PartialEq, Eq)]
+#[derive(Clone, Copy, PartialEq, Eq)]
 pub enum BnrMeaning {
     /// SSM 00.
     FailureWarning,
@@ -19,7 +19,7 @@ pub enum BnrMeaning {
 }
 
 /// What the SSM says of BCD data (profile).
-#[derive(Clone, Copy, Debug, PartialEq, Eq)]
+#[derive(Clone, Copy, PartialEq, Eq)]
 pub enum BcdMeaning {
     /// SSM 00.
     Plus,

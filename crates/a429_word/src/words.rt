@@ -9,7 +9,7 @@ use std::marker::Model;
 use thiserror::Error;
 
 /// A word. Bit n of it is bit n - 1 of the number, and an odd number of its 32 bits are ones.
-#[derive(Clone, Copy, Debug, PartialEq, Eq)]
+#[derive(Clone, Copy, PartialEq, Eq)]
 pub struct Word {
     raw: u32,
 }
