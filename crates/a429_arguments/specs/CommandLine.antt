@@ -187,33 +187,33 @@ abbrev pub with_table : Verb → Text → CommandRow
 with_table v name = with_one v name (codes "TABLE")
 
 abbrev pub row_of : Verb → CommandRow
-row_of verb.Word = with_one verb.Word (codes "word") (codes "HEX")
-row_of verb.Encode = with_one verb.Encode (codes "encode") (codes "LABEL")
-row_of verb.Lines = record (with_one verb.Lines (codes "lines") (codes "FILE")) { more = Some (codes "FILTER") }
 row_of verb.Import = with_one verb.Import (codes "import") (codes "FILE")
 row_of verb.Plan = with_table verb.Plan (codes "plan")
 row_of verb.Check = record (with_table verb.Check (codes "check")) { second = Some (codes "PLAN") }
 row_of verb.Icd = with_table verb.Icd (codes "icd")
-row_of verb.Margin = with_table verb.Margin (codes "margin")
-row_of verb.Load = with_table verb.Load (codes "load")
+row_of verb.Draw = with_table verb.Draw (codes "draw")
 row_of verb.Slots = with_table verb.Slots (codes "slots")
 row_of verb.Buses = with_table verb.Buses (codes "buses")
+row_of verb.Load = with_table verb.Load (codes "load")
+row_of verb.Margin = with_table verb.Margin (codes "margin")
 row_of verb.Lint = with_table verb.Lint (codes "lint")
 row_of verb.Diff = record (with_table verb.Diff (codes "diff")) { second = Some (codes "OTHER") }
-row_of verb.Draw = with_table verb.Draw (codes "draw")
 row_of verb.Replay = record (with_table verb.Replay (codes "replay")) { second = Some (codes "SCRIPT"); more = Some (codes "FURTHER") }
 row_of verb.Simulate = record (with_table verb.Simulate (codes "simulate")) { second = Some (codes "LOG"); more = Some (codes "LOGS") }
+row_of verb.Live =
+    record (with_table verb.Live (codes "live")) { second = Some (codes "WORDS"); number = Some (codes "FRAMES", most_frames); more = Some (codes "FURTHER") }
 row_of verb.Survey = record (with_one verb.Survey (codes "survey") (codes "LOG")) { more = Some (codes "LOGS") }
 row_of verb.Judge =
     record (with_table verb.Judge (codes "judge")) { second = Some (codes "IN"); third = Some (codes "OUT"); more = Some (codes "OUTS") }
-row_of verb.Live =
-    record (with_table verb.Live (codes "live")) { second = Some (codes "WORDS"); number = Some (codes "FRAMES", most_frames); more = Some (codes "FURTHER") }
+row_of verb.Word = with_one verb.Word (codes "word") (codes "HEX")
+row_of verb.Encode = with_one verb.Encode (codes "encode") (codes "LABEL")
+row_of verb.Lines = record (with_one verb.Lines (codes "lines") (codes "FILE")) { more = Some (codes "FILTER") }
 
 -- all of them, in the order in which help lists them
 abbrev pub verbs : List Verb
 verbs =
-    verb.Word ∷ verb.Encode ∷ verb.Lines ∷ verb.Import ∷ verb.Plan ∷ verb.Check ∷ verb.Icd ∷ verb.Margin ∷ verb.Load ∷ verb.Slots ∷ verb.Buses ∷ verb.Lint ∷ verb.Diff
-    ∷ verb.Draw ∷ verb.Replay ∷ verb.Simulate ∷ verb.Survey ∷ verb.Judge ∷ verb.Live ∷ []
+    verb.Import ∷ verb.Plan ∷ verb.Check ∷ verb.Icd ∷ verb.Draw ∷ verb.Slots ∷ verb.Buses ∷ verb.Load ∷ verb.Margin ∷ verb.Lint ∷ verb.Diff ∷ verb.Replay
+    ∷ verb.Simulate ∷ verb.Live ∷ verb.Survey ∷ verb.Judge ∷ verb.Word ∷ verb.Encode ∷ verb.Lines ∷ []
 
 -- ---- the command line
 
@@ -234,7 +234,7 @@ abbrev pub row_app : CommandRow → App
 row_app row = fold with_rule (with_names (new_app row.name) row) row.options
 
 abbrev pub top_shape : Shape
-top_shape = record ((new_app (codes "a429")).top) { has_version = true; no_binary_name = true; subcommand_required = true }
+top_shape = record ((new_app (codes "a429")).top) { has_version = true; no_binary_name = true; arg_required_else_help = true; subcommand_required = true }
 
 -- the command line without its commands
 abbrev pub bare_line : App

@@ -4,7 +4,7 @@ ghost use Rattle.clap.specs.Words.{App, HasKind, app_of, kind_of, new_app, new_r
 ghost use Rattle.a429_arguments.specs.CommandLine.{HasRule, bare_line, command_line, form_row, form_rule, given_rule, many_rule, name_id, number_id, number_rule, required_rule, row_app, with_any, with_commands, with_names};
 
 use crate::forms::{CommandForm, NameForm, NumberForm, OptionForm, OptionKind, commands};
-use crate::help::{CommandHelp, PROGRAM, PROGRAM_END, VERSION, help_of};
+use crate::help::{CommandHelp, PROGRAM, VERSION, help_of};
 use clap::builder::ValueParser;
 use clap::error::ErrorKind;
 use clap::{Arg, ArgAction, Command, Error};
@@ -178,9 +178,10 @@ fn command_of<'a>(alloc: Global, form: &CommandForm) -> Result<Command<'a>, Allo
 fn top_command<'a>(alloc: Global) -> Result<Command<'a>, AllocError>
     ensures { IfOk result (λ c. app_of c ≡ bare_line) }
 {
-    let named = named_command(alloc, "a429", PROGRAM, PROGRAM_END);
+    let named = Command::new(alloc, "a429").override_help(PROGRAM);
     let shown = named.version(VERSION).no_binary_name(true);
-    shown.subcommand_required(true).bin_name("a429")
+    let asked = shown.arg_required_else_help(true);
+    asked.subcommand_required(true).bin_name("a429")
 }
 
 /// A command line with one more command, of this form.

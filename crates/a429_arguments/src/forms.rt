@@ -14,25 +14,25 @@ use crate::options::{
 /// A command of the program.
 #[derive(Clone, Copy, PartialEq, Eq)]
 pub enum Verb {
-    Word,
-    Encode,
-    Lines,
     Import,
     Plan,
     Check,
     Icd,
-    Margin,
-    Load,
+    Draw,
     Slots,
     Buses,
+    Load,
+    Margin,
     Lint,
     Diff,
-    Draw,
     Replay,
     Simulate,
+    Live,
     Survey,
     Judge,
-    Live,
+    Word,
+    Encode,
+    Lines,
 }
 
 /// A name that a command is given: what help calls it, and its help.
@@ -126,26 +126,6 @@ const OF_TABLE: CommandForm = CommandForm {
 
 static COMMANDS: [CommandForm; 19] = [
     CommandForm {
-        verb: Verb::Word,
-        name: "word",
-        first: name!("HEX", NameHelp::Hex),
-        ..OF_TABLE
-    },
-    CommandForm {
-        verb: Verb::Encode,
-        name: "encode",
-        first: name!("LABEL", NameHelp::Label),
-        options: &[SDI, SSM, DATA, BNR, BITS, BCD],
-        ..OF_TABLE
-    },
-    CommandForm {
-        verb: Verb::Lines,
-        name: "lines",
-        first: name!("FILE", NameHelp::File),
-        more: Some(name!("FILTER", NameHelp::Filter)),
-        ..OF_TABLE
-    },
-    CommandForm {
         verb: Verb::Import,
         name: "import",
         first: name!("FILE", NameHelp::Rows),
@@ -170,15 +150,9 @@ static COMMANDS: [CommandForm; 19] = [
         ..OF_TABLE
     },
     CommandForm {
-        verb: Verb::Margin,
-        name: "margin",
-        options: &[CSV, JSON],
-        ..OF_TABLE
-    },
-    CommandForm {
-        verb: Verb::Load,
-        name: "load",
-        options: &[LIMIT, CSV, JSON],
+        verb: Verb::Draw,
+        name: "draw",
+        options: &[GROUP, SLOTS, WIDTH, HTML],
         ..OF_TABLE
     },
     CommandForm {
@@ -190,6 +164,18 @@ static COMMANDS: [CommandForm; 19] = [
     CommandForm {
         verb: Verb::Buses,
         name: "buses",
+        options: &[CSV, JSON],
+        ..OF_TABLE
+    },
+    CommandForm {
+        verb: Verb::Load,
+        name: "load",
+        options: &[LIMIT, CSV, JSON],
+        ..OF_TABLE
+    },
+    CommandForm {
+        verb: Verb::Margin,
+        name: "margin",
         options: &[CSV, JSON],
         ..OF_TABLE
     },
@@ -207,12 +193,6 @@ static COMMANDS: [CommandForm; 19] = [
         ..OF_TABLE
     },
     CommandForm {
-        verb: Verb::Draw,
-        name: "draw",
-        options: &[GROUP, SLOTS, WIDTH, HTML],
-        ..OF_TABLE
-    },
-    CommandForm {
         verb: Verb::Replay,
         name: "replay",
         second: Some(name!("SCRIPT", NameHelp::Script)),
@@ -225,6 +205,14 @@ static COMMANDS: [CommandForm; 19] = [
         second: Some(name!("LOG", NameHelp::Log)),
         more: Some(name!("LOGS", NameHelp::Logs)),
         options: &[TIME, FROM, CHANNEL, UNTIL, SENT, SUMMARY, CSV, SUMMARY_JSON],
+        ..OF_TABLE
+    },
+    CommandForm {
+        verb: Verb::Live,
+        name: "live",
+        second: Some(name!("WORDS", NameHelp::Words)),
+        number: Some(FRAME_COUNT),
+        more: Some(name!("FURTHER", NameHelp::Resubmitted)),
         ..OF_TABLE
     },
     CommandForm {
@@ -245,11 +233,23 @@ static COMMANDS: [CommandForm; 19] = [
         ..OF_TABLE
     },
     CommandForm {
-        verb: Verb::Live,
-        name: "live",
-        second: Some(name!("WORDS", NameHelp::Words)),
-        number: Some(FRAME_COUNT),
-        more: Some(name!("FURTHER", NameHelp::Resubmitted)),
+        verb: Verb::Word,
+        name: "word",
+        first: name!("HEX", NameHelp::Hex),
+        ..OF_TABLE
+    },
+    CommandForm {
+        verb: Verb::Encode,
+        name: "encode",
+        first: name!("LABEL", NameHelp::Label),
+        options: &[SDI, SSM, DATA, BNR, BITS, BCD],
+        ..OF_TABLE
+    },
+    CommandForm {
+        verb: Verb::Lines,
+        name: "lines",
+        first: name!("FILE", NameHelp::File),
+        more: Some(name!("FILTER", NameHelp::Filter)),
         ..OF_TABLE
     },
 ];

@@ -12,33 +12,62 @@ pub struct CommandHelp {
 /// The help of a command.
 pub fn help_of(verb: Verb) -> CommandHelp {
     let (about, end) = match verb {
-        Verb::Word => (WORD, WORD_END),
-        Verb::Encode => (ENCODE, ENCODE_END),
-        Verb::Lines => (LINES, LINES_END),
         Verb::Import => (IMPORT, IMPORT_END),
         Verb::Plan => (PLAN, PLAN_END),
         Verb::Check => (CHECK, CHECK_END),
         Verb::Icd => (ICD, ICD_END),
-        Verb::Margin => (MARGIN, MARGIN_END),
-        Verb::Load => (LOAD, LOAD_END),
+        Verb::Draw => (DRAW, DRAW_END),
         Verb::Slots => (SLOTS, SLOTS_END),
         Verb::Buses => (BUSES, BUSES_END),
+        Verb::Load => (LOAD, LOAD_END),
+        Verb::Margin => (MARGIN, MARGIN_END),
         Verb::Lint => (LINT, LINT_END),
         Verb::Diff => (DIFF, DIFF_END),
-        Verb::Draw => (DRAW, DRAW_END),
         Verb::Replay => (REPLAY, REPLAY_END),
         Verb::Simulate => (SIMULATE, SIMULATE_END),
+        Verb::Live => (LIVE, LIVE_END),
         Verb::Survey => (SURVEY, SURVEY_END),
         Verb::Judge => (JUDGE, JUDGE_END),
-        Verb::Live => (LIVE, LIVE_END),
+        Verb::Word => (WORD, WORD_END),
+        Verb::Encode => (ENCODE, ENCODE_END),
+        Verb::Lines => (LINES, LINES_END),
     };
     CommandHelp { about, end }
 }
 
-pub const PROGRAM: &str =
-    "ARINC 429 data concentrator: receives words, and sends them in planned slots";
+pub const PROGRAM: &str = "\
+ARINC 429 data concentrator: receives words, and sends them in planned slots
 
-pub const PROGRAM_END: &str = "\
+Usage: a429 <COMMAND>
+
+Plan
+  import    Print an equipment table, made from a spreadsheet's rows
+  plan      Plan a station on the fewest buses for its periods, with their bound
+  check     Check whether a plan's text shows the fewest buses for a station
+Review
+  icd       Print the data of each output for an interface control document
+  draw      Draw the slot tables of a plan as an image (SVG)
+  slots     Print the slot tables of a plan: each cell with its output
+  buses     Print which words each input bus and each output bus carries
+  load      Print the load of each bus, and how many more outputs it can take
+  margin    Show what would save a bus in each group
+  lint      Report likely mistakes in a table, such as sources that are not sent
+  diff      Print what changes when one table replaces another
+Try
+  replay    Play the events of a script on a station, and print the answers
+  simulate  Simulate a station on a log of received words with times
+  live      Run a station on threads, and print how many words and cells passed
+Look
+  survey    Print which words are on recorded lines, and how often each comes
+  judge     Judge whether what a box sent is right, by logs of its words
+  word      Print the fields of a 32-bit word, and its data as BNR and as BCD
+  encode    Print the 32-bit word that has these fields
+  lines     Decode a recorded line: print its words, its faults, and the rest
+
+Options
+  -h, --help     Print help, also after a command
+  -V, --version  Print version
+
 A table is TOML. It begins with `version = 2`, and then has any number of:
   [[receiver]]      name, filters (may be left out)
   [[source]]        name, receiver, label, sdi

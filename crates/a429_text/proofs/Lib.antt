@@ -3,3 +3,4 @@ pub mod RowFields
 pub mod CutLines
 pub mod HexDigits
 pub mod HexText
+pub mod PlainFields

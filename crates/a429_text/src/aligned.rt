@@ -1,19 +1,40 @@
 //! A sheet in columns, for people.
 ghost use Rattle.std.specs.Prelude.{◌≡◌, ◌<◌, ◌++◌, length, slice_index, IfOk};
-ghost use Rattle.std.specs.List.{flat_map};
-ghost use Rattle.a429_text.specs.Aligned.{width_of, columns_of, widths_of, padded, column_text, aligned_row, aligned_text};
+ghost use Rattle.std.specs.List.{flat_map, list_any};
+ghost use Rattle.a429_text.specs.Aligned.{aligned_row, aligned_text, begins_character, characters, column_text, columns_of, is_control, padded, shown, shown_byte, width_of, widths_of};
 
 use crate::fields::TextRow;
 use crate::gathered::Gathered;
 use crate::text::Text;
 use std::alloc::{AllocError, Global};
 
-/// How many bytes the widest text of a column has.
+/// Whether a byte is a control character of ASCII, which a terminal may obey.
+fn is_control(byte: u8) -> bool
+    ensures { result ≡ is_control byte }
+{
+    byte < 32 || byte == 127
+}
+
+/// Whether a byte begins a character of UTF-8.
+fn begins_character(byte: u8) -> bool
+    ensures { result ≡ begins_character byte }
+{
+    byte < 128 || 191 < byte
+}
+
+/// How many characters a text has.
+fn characters(text: &[u8]) -> usize
+    ensures { result ≡ characters text.now }
+{
+    text.iter().filter(|byte| begins_character(**byte)).count()
+}
+
+/// How many characters the widest text of a column has.
 fn width(rows: &[TextRow], column: usize) -> usize
     ensures { result ≡ width_of column rows.now }
 {
     rows.iter()
-        .fold(0, |width, row| width.max(row.field(column).len()))
+        .fold(0, |width, row| width.max(characters(row.field(column))))
 }
 
 /// How many texts the longest row has.
@@ -34,12 +55,52 @@ fn widths(alloc: Global, rows: &[TextRow]) -> Gathered<usize>
     widths
 }
 
+/// Writes a byte, or the picture of a control character.
+fn put_byte(text: &mut Text, byte: u8)
+    ensures { text.new ≡ text.old ++ shown_byte byte }
+{
+    if byte == 127 {
+        text.put_bytes(&[226, 144, 161]);
+    } else if byte < 32 {
+        text.put_bytes(&[226, 144, 128 + byte]);
+    } else {
+        text.put_bytes(&[byte]);
+    }
+}
+
+/// Writes a text with pictures in the place of its control characters.
+fn put_pictures(text: &mut Text, field: &[u8])
+    ensures { text.new ≡ text.old ++ shown field.now }
+{
+    for byte in field {
+        put_byte(text, *byte);
+    }
+}
+
+/// Whether a text has a control character.
+fn has_control(field: &[u8]) -> bool
+    ensures { result ≡ list_any is_control field.now }
+{
+    field.iter().any(|byte| is_control(*byte))
+}
+
+/// Writes a text as people read it. Most have no control character, and are written in one call.
+fn put_shown(text: &mut Text, field: &[u8])
+    ensures { text.new ≡ text.old ++ shown field.now }
+{
+    if has_control(field) {
+        put_pictures(text, field);
+    } else {
+        text.put_bytes(field);
+    }
+}
+
 /// Writes a text, and spaces after it up to the width of its column.
 fn put_padded(text: &mut Text, width: usize, field: &[u8])
     ensures { text.new ≡ text.old ++ padded width field.now }
 {
-    text.put_bytes(field);
-    text.put_spaces(width.saturating_sub(field.len()));
+    put_shown(text, field);
+    text.put_spaces(width.saturating_sub(characters(field)));
 }
 
 /// The width of a column; after the last column, none.
@@ -60,7 +121,7 @@ fn put_column(text: &mut Text, widths: &[usize], row: &TextRow, column: usize)
         put_padded(text, width_at(widths, column), field);
         text.put_spaces(2);
     } else {
-        text.put_bytes(field);
+        put_shown(text, field);
     }
 }
 
@@ -83,8 +144,8 @@ fn put_rows(text: &mut Text, widths: &[usize], rows: &[TextRow])
     }
 }
 
-/// A line for each row. Each column is as wide as its widest text, and two spaces are between two columns. Error: an
-/// allocation failed.
+/// A line for each row. Each column is as wide as its widest text, in characters, and two spaces are between two columns. A
+/// control character of ASCII is shown by its picture in Unicode. Error: an allocation failed.
 #[tactic(auto, unfolding(crate::specs::Aligned::aligned_text))]
 pub fn aligned_text(alloc: Global, rows: &[TextRow]) -> Result<Vec<u8>, AllocError>
     ensures { IfOk result (λ text. text.items ≡ aligned_text rows.now) }
