@@ -237,7 +237,10 @@ impl Refused {
         if bytes <= KEPT_TABLE {
             self
         } else {
-            let Self { refusal, evidence: _ } = self;
+            let Self {
+                refusal,
+                evidence: _,
+            } = self;
             Refused::plain(refusal)
         }
     }

@@ -106,7 +106,11 @@ fn tell_nearest_option(name: &str, hint: &HintText) {
     }
     let nearest = nearest.or(hint.alloc, "help").or(hint.alloc, "version");
     if let Some(other) = nearest.other_name() {
-        hint.line_two("\"--{}\" is not an option; the nearest is --{}", name, other);
+        hint.line_two(
+            "\"--{}\" is not an option; the nearest is --{}",
+            name,
+            other,
+        );
     }
 }
 
