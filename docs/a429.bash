@@ -2,26 +2,32 @@
 # Prints each command with its line, as help has it; tools/docs writes the lines.
 _a429_lines() {
     cat <<'END_OF_LINES'
-word      Print the fields of a 32-bit word, and its data as BNR and as BCD
-encode    Print the 32-bit word that has these fields
-lines     Decode a recorded line: print its words, its faults, and the rest
 import    Print an equipment table, made from a spreadsheet's rows
 plan      Plan a station on the fewest buses for its periods, with their bound
 check     Check whether a plan's text shows the fewest buses for a station
 icd       Print the data of each output for an interface control document
-margin    Show what would save a bus in each group
-load      Print the load of each bus, and how many more outputs it can take
+draw      Draw the slot tables of a plan as an image (SVG)
 slots     Print the slot tables of a plan: each cell with its output
 buses     Print which words each input bus and each output bus carries
+load      Print the load of each bus, and how many more outputs it can take
+margin    Show what would save a bus in each group
 lint      Report likely mistakes in a table, such as sources that are not sent
 diff      Print what changes when one table replaces another
-draw      Draw the slot tables of a plan as an image (SVG)
 replay    Play the events of a script on a station, and print the answers
 simulate  Simulate a station on a log of received words with times
+live      Run a station on threads, and print how many words and cells passed
 survey    Print which words are on recorded lines, and how often each comes
 judge     Judge whether what a box sent is right, by logs of its words
-live      Run a station on threads, and print how many words and cells passed
+word      Print the fields of a 32-bit word, and its data as BNR and as BCD
+encode    Print the 32-bit word that has these fields
+lines     Decode a recorded line: print its words, its faults, and the rest
 END_OF_LINES
+}
+
+# Prints the names of the groups of a table.
+_a429_groups() {
+    awk '/^ *\[/ { in_group = /^ *\[\[ *group *\]\]/ }
+        in_group && /^ *name *=/ { split($0, parts, /["\047]/); print parts[2] }' "$1" 2>/dev/null
 }
 
 _a429() {
@@ -41,19 +47,19 @@ _a429() {
         help) COMPREPLY=($(compgen -W "$commands" -- "$word")); return ;;
         word) COMPREPLY=($(compgen -W "$options" -- "$word")); return ;;
         # options
-        encode) options="--sdi --ssm --data --bnr --bits --bcd $options" ;;
         import) options="--map --names $options" ;;
         icd) options="--csv --text --json $options" ;;
-        margin) options="--csv --json $options" ;;
-        load) options="--limit --csv --json $options" ;;
+        draw) options="--group --slots --width --html $options" ;;
         slots) options="--group --all --c --csv --json $options" ;;
         buses) options="--csv --json $options" ;;
+        load) options="--limit --csv --json $options" ;;
+        margin) options="--csv --json $options" ;;
         lint) options="--csv --json $options" ;;
         diff) options="--all --csv --json $options" ;;
-        draw) options="--group --slots --width --html $options" ;;
         simulate) options="--time --from --channel --until --sent --summary --csv --json $options" ;;
         survey) options="--time --from --channel --rate --rows --slack --csv --json $options" ;;
         judge) options="--in --tolerance --events --time --from --channel --csv --json $options" ;;
+        encode) options="--sdi --ssm --data --bnr --bits --bcd $options" ;;
         # end of options
     esac
     case ${COMP_WORDS[COMP_CWORD - 1]} in
@@ -61,8 +67,9 @@ _a429() {
         --time) COMPREPLY=($(compgen -W "us ms s" -- "$word")); return ;;
         --from) COMPREPLY=($(compgen -W "first" -- "$word")); return ;;
         --sdi | --ssm) COMPREPLY=($(compgen -W "0 1 2 3" -- "$word")); return ;;
+        --group) COMPREPLY=($(compgen -W "$(_a429_groups "${COMP_WORDS[2]}")" -- "$word")); return ;;
         # values
-        --sdi | --ssm | --data | --bnr | --bits | --bcd | --map | --limit | --group | --slots | --width | --time | --from | --channel | --until | --rate | --slack | --tolerance) COMPREPLY=(); return ;;
+        --map | --group | --slots | --width | --limit | --time | --from | --channel | --until | --rate | --slack | --tolerance | --sdi | --ssm | --data | --bnr | --bits | --bcd) COMPREPLY=(); return ;;
         # end of values
     esac
     case $word in

@@ -119,8 +119,9 @@ class Commit(NamedTuple):
 
 
 def git(*words):
-    ran = subprocess.run(["git", "-C", ROOT, *words], check=True, capture_output=True, text=True, errors="replace")
-    return ran.stdout
+    """What git says of this checkout, even if it belongs to another user."""
+    named = ["git", "-c", "safe.directory=" + ROOT, "-C", ROOT]
+    return subprocess.run([*named, *words], check=True, capture_output=True, text=True, errors="replace").stdout
 
 
 def commit():

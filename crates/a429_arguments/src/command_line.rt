@@ -4,7 +4,8 @@ ghost use Rattle.clap.specs.Words.{App, HasKind, app_of, kind_of, new_app, new_r
 ghost use Rattle.a429_arguments.specs.CommandLine.{HasRule, bare_line, command_line, form_row, form_rule, given_rule, many_rule, name_id, number_id, number_rule, required_rule, row_app, with_any, with_commands, with_names};
 
 use crate::forms::{CommandForm, NameForm, NumberForm, OptionForm, OptionKind, commands};
-use crate::help::{CommandHelp, PROGRAM, VERSION, help_of};
+use crate::help::{CommandHelp, VERSION, help_of};
+use crate::program_help::PROGRAM;
 use clap::builder::ValueParser;
 use clap::error::ErrorKind;
 use clap::{Arg, ArgAction, Command, Error};

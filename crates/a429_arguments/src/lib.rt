@@ -20,6 +20,7 @@ mod help;
 pub mod laws;
 pub mod memory;
 mod options;
+mod program_help;
 pub mod requests;
 pub mod times;
 pub mod tolerances;

@@ -162,6 +162,9 @@ impl<T: Drop> From<AllocFailed<T>> for CommandRefusal {
     }
 }
 
+/// The most bytes of a further table that is kept as it was read, for a hint. The largest station takes fewer.
+const KEPT_TABLE: usize = 131_072;
+
 /// A refusal, and what a hint needs beyond it. Clauses see the refusal.
 pub struct Refused {
     refusal: CommandRefusal,
@@ -224,6 +227,22 @@ impl Refused {
     {
         let Self { refusal, evidence } = self;
         Refused::with(refusal, evidence.after_logs(before))
+    }
+
+    /// The refusal of a further table of this number of bytes. What was read of a large one is given back, so that those of
+    /// several tables do not add up.
+    pub fn of_further(self, bytes: usize) -> Refused
+        ensures { result ≡ self }
+    {
+        if bytes <= KEPT_TABLE {
+            self
+        } else {
+            let Self {
+                refusal,
+                evidence: _,
+            } = self;
+            Refused::plain(refusal)
+        }
     }
 
     /// The same, with the plan of the table as evidence if it has none.

@@ -6,75 +6,111 @@ use crate::rows::short_text;
 use a429_arguments::forms::{CommandForm, OptionForm, commands};
 use std::alloc::Global;
 
-/// Says which command or which option is nearest to an unknown one.
+/// Says which command or which option is nearest to an unknown one, or which commands have an option.
 pub fn tell_nearest_word(words: &[&str], hint: &HintText) {
-    if let Some(first) = words.first() {
-        tell_nearest_command(first, hint);
-    }
+    let named = command_word(words);
+    tell_command(named, hint);
+    let form = commands().iter().find(|form| form.name == named);
     for word in words {
         if *word == "--" {
             return;
         }
-        tell_if_option(word, hint);
+        tell_if_option(form, word, hint);
     }
 }
 
-/// Says which option is nearest to an argument, if that is an unknown option.
-fn tell_if_option(word: &str, hint: &HintText) {
-    if word.starts_with("--") {
-        let (name, _) = word.split_once('=').unwrap_or((word, ""));
-        let shown = short_text(name);
-        tell_nearest_option(shown.as_str(), hint);
+/// The argument that names a command: the first one, or the one after `help`.
+fn command_word<'a>(words: &[&'a str]) -> &'a str {
+    let first = words.first().copied().unwrap_or("help");
+    match words.get(1) {
+        Some(second) if first == "help" => second,
+        _ => first,
     }
 }
 
-/// Says how to write what other programs take: the name of a file for the answer, a number with `%`, or a negative number
-/// after an option.
-pub fn tell_habits(words: &[&str], hint: &HintText) {
-    let mut before = "";
-    for word in words {
-        if word.ends_with(".svg") || word.ends_with(".html") {
-            hint.line_one("to write a file, add > before its name: >{..}", *word);
-        } else if before == "--bnr" && word.starts_with('-') {
-            hint.line_one("write --bnr={..}", *word);
-        } else if let Some(number) = word.strip_suffix('%') {
-            hint.line_one("write {..} without %", number);
-        }
-        before = word;
+/// Says what to write in the place of an argument that names no command.
+fn tell_command(word: &str, hint: &HintText) {
+    if word == "version" || word == "-v" {
+        hint.say_line("for the version write -V or --version");
+    } else {
+        tell_nearest_command(word, hint);
     }
 }
 
-/// Says which command is nearest to an argument that is none. If two are equally near, it is the first. So `word`, `encode`
-/// and `lines`, the first three commands, come last: they are meant least often.
+/// Says which command is nearest to an argument that is none, in any case of its letters. If two are equally near, it is the
+/// one that is listed first. An option is no such argument.
 fn tell_nearest_command(word: &str, hint: &HintText) {
     let shown = short_text(word);
-    let word = shown.as_str();
-    let (rare, others) = commands().split_at(3);
-    let nearest = or_commands(hint.alloc, Nearest::to(word), others);
-    let nearest = or_commands(hint.alloc, nearest, rare).or(hint.alloc, "help");
-    if let Some(name) = nearest.other_name() {
-        hint.line_two("{?} is not a command; the nearest is {}", word, name);
+    let Ok(small) = shown.as_str().to_ascii_lowercase(hint.alloc) else {
+        return;
+    };
+    let mut nearest = Nearest::to(small.as_str());
+    for form in commands() {
+        nearest = nearest.or(hint.alloc, form.name);
+    }
+    match nearest.or(hint.alloc, "help").name() {
+        Some(name) if name == word => {}
+        Some(name) => hint.line_two("{?} is not a command; the nearest is {}", word, name),
+        None if word.starts_with('-') => {}
+        None => hint.line_one("{?} is not a command; a429 --help lists them", word),
     }
 }
 
-/// Compares the names of commands too.
-fn or_commands<'a>(alloc: Global, nearest: Nearest<'a>, forms: &'a [CommandForm]) -> Nearest<'a> {
-    let mut nearest = nearest;
-    for form in forms {
-        nearest = nearest.or(alloc, form.name);
+/// Says what is wrong with an argument that is an option, if the command of this form does not have it.
+fn tell_if_option(form: Option<&CommandForm>, word: &str, hint: &HintText) {
+    if let Some(name) = word.strip_prefix("--") {
+        let (name, _) = name.split_once('=').unwrap_or((name, ""));
+        let shown = short_text(name);
+        tell_option(form, shown.as_str(), hint);
+    } else if let Some(name) = word.strip_prefix('-') {
+        if commands().iter().any(|form| has_option(form, name)) && name.len() > 1 {
+            hint.line_one("write --{..}", name);
+        }
     }
-    nearest
+}
+
+/// Whether a command has the option of this name.
+fn has_option(form: &CommandForm, name: &str) -> bool {
+    form.options.iter().any(|option| option.id == name)
+}
+
+/// Says which commands have an option that the command of this form lacks, or which option is nearest to one that no command
+/// has.
+fn tell_option(form: Option<&CommandForm>, name: &str, hint: &HintText) {
+    if !commands().iter().any(|form| has_option(form, name)) {
+        return tell_nearest_option(name, hint);
+    }
+    match form {
+        Some(form) if !has_option(form, name) => tell_owners(form, name, hint),
+        _ => {}
+    }
+}
+
+/// Says which commands have an option that this command lacks.
+fn tell_owners(form: &CommandForm, name: &str, hint: &HintText) {
+    hint.begin(": ");
+    hint.say_two("{} has no --{}; it is an option of", form.name, name);
+    for owner in commands() {
+        if has_option(owner, name) {
+            hint.say_one(" {}", owner.name);
+        }
+    }
+    hint.end("");
 }
 
 /// Says which option is nearest to one that is none. Its two hyphens are left out of the comparison.
-fn tell_nearest_option(word: &str, hint: &HintText) {
-    let mut nearest = Nearest::after(2, word.strip_prefix("--").unwrap_or(""));
+fn tell_nearest_option(name: &str, hint: &HintText) {
+    let mut nearest = Nearest::after(2, name);
     for form in commands() {
         nearest = or_options(hint.alloc, nearest, form.options);
     }
     let nearest = nearest.or(hint.alloc, "help").or(hint.alloc, "version");
-    if let Some(name) = nearest.other_name() {
-        hint.line_two("{?} is not an option; the nearest is --{}", word, name);
+    if let Some(other) = nearest.other_name() {
+        hint.line_two(
+            "\"--{}\" is not an option; the nearest is --{}",
+            name,
+            other,
+        );
     }
 }
 
@@ -85,4 +121,73 @@ fn or_options<'a>(alloc: Global, nearest: Nearest<'a>, options: &'a [OptionForm]
         nearest = nearest.or(alloc, option.id);
     }
     nearest
+}
+
+/// Says how to write what other programs take: the name of a file for the answer, a number with `%`, or a value after an
+/// option in another form.
+pub fn tell_habits(words: &[&str], hint: &HintText) {
+    let mut before = "";
+    for word in words {
+        if word.ends_with(".svg") || word.ends_with(".html") {
+            hint.line_one("to write a file, add > before its name: >{..}", *word);
+        } else if let Some(number) = word.strip_suffix('%') {
+            hint.line_one("write {..} without %", number);
+        } else {
+            tell_value(before, word, hint);
+        }
+        before = word;
+    }
+}
+
+/// Says how to write a value after an option.
+fn tell_value(option: &str, word: &str, hint: &HintText) {
+    if option == "--bnr" && word.starts_with('-') {
+        hint.line_one("write --bnr={..}", word);
+    } else if option == "--until" {
+        tell_microseconds(word, hint);
+    } else if option == "--ssm" || option == "--sdi" {
+        tell_bits(option, word, hint);
+    } else if let Some(digits) = negative_bcd(option, word) {
+        let form = "the sign of BCD data is its SSM: write --bcd {..} --ssm 3";
+        hint.line_one(form, digits);
+    }
+}
+
+/// The digits of a negative number after `--bcd`.
+fn negative_bcd<'a>(option: &str, word: &'a str) -> Option<&'a str> {
+    if option == "--bcd" {
+        word.strip_prefix('-')
+    } else {
+        None
+    }
+}
+
+/// Says the microseconds of a time with a unit.
+fn tell_microseconds(word: &str, hint: &HintText) {
+    let (number, unit) = if let Some(number) = word.strip_suffix("us") {
+        (number, 1)
+    } else if let Some(number) = word.strip_suffix("ms") {
+        (number, 1000)
+    } else if let Some(number) = word.strip_suffix('s') {
+        (number, 1_000_000)
+    } else {
+        return;
+    };
+    let time: Result<u64, _> = number.parse();
+    if let Ok(time) = time {
+        if let Some(time) = time.checked_mul(unit) {
+            hint.line_one("--until is in microseconds: write --until {}", time);
+        }
+    }
+}
+
+/// Says the number of two bits.
+fn tell_bits(option: &str, word: &str, hint: &HintText) {
+    let number: u32 = match word {
+        "10" => 2,
+        "11" => 3,
+        _ => return,
+    };
+    let form = "{} takes a number from 0 to 3: for the bits {} write {}";
+    hint.line_three(form, option, word, number);
 }

@@ -152,7 +152,7 @@ right_accepted f s (x ∷ xs) h = elim (or_cases (is_equal f s x && not (list_an
   | inr later ↦ let rest : is_accepted f xs s ≡ true = right_accepted f s xs later in grind (arith, rest)
 ]
 
--- of a word that the log does not know nothing is found
+-- nothing is found of a word that the log does not know
 pub unknown_value : (f : Facts) (span : Span) (s : Mark) (xs : List Mark) → is_known f span xs s.time ≡ false → value_findings f span xs s ≡ []
 unknown_value f span s xs u = rw u refl
 

@@ -152,8 +152,8 @@ pub record IsRightBox (f : Facts) (span : Span) (accepted sends : List Mark) : T
       ⊎ ((hold : ℕ) × (f.hold ≡ Some hold) × ((j : ℕ) → word k < j → j < length words → begin (slot k + 1) < moment j)
       × (((hold ≤ k + 1) × (word (k + 1 - hold) ≡ word k))
       ⊎ ((m : ℕ) × (k + 1 < hold) × (m < from) × (m + hold ≤ slot k + 1) × (moment (word k) ≤ begin m)))))
-  -- a slot after an accepted word is used if its record is surely before the end of the logs, unless a slot before it is after the word, too, and
-  -- a hold may leave it empty
+  -- a slot after an accepted word is used if its record is surely before the end of the logs; a hold may leave it empty only if a slot before
+  -- it is after the word, too
   pub whole : (n i : ℕ) → from ≤ n → i < length words → moment i ≤ begin n → begin n + delay + wrong < span.last * (f.rate * finer)
       → ((k : ℕ) × (k < length sends) × (slot k ≡ n)) ⊎ ((hold m : ℕ) × (f.hold ≡ Some hold) × (m < n) × (moment i ≤ begin m))
 

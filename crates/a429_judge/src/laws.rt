@@ -3,8 +3,8 @@ ghost use Rattle.a429_judge.specs.Laws.{GridPeriodsArePlanned, OkIsRight, RightB
 ghost use Rattle.a429_judge.specs.Machine.{RecordedBoxHasNoFinding};
 ghost use Rattle.a429_judge.specs.RecordExample.{RecordExample};
 
-/// If the verdict on an output is ok, the word of each send whose window is within the log of what came in was the latest
-/// accepted one at some moment of that window. Two consecutive sends are within the output's interval, up to the
+/// Let the verdict on an output be ok. If the window of a send is within the log of what came in, its word was the latest
+/// accepted one at some moment of the window. Two consecutive sends are within the output's interval, up to the
 /// tolerance, unless its hold forbade one between them. The logs end as soon after its last send.
 pub fn ok_is_right()
     ensures { OkIsRight }

@@ -145,7 +145,7 @@ fn answer_to<R: Wait>(
             let table = TableEvidence::of_equipment(equipment);
             Ok(TableAnswer { answer, table })
         }
-        Err(refusal) => answer_refused(refusal),
+        Err(refusal) => answer_refused(refusal.of_further(table.len())),
     }
 }
 

@@ -21,6 +21,16 @@ use a429_slots::{OUTPUTS, Proposal};
 use std::alloc::{AllocError, Global};
 use std::marker::Model;
 
+/// Reads a further table, and plans it.
+fn propose_further(alloc: Global, bytes: &[u8]) -> Result<Proposal<OUTPUTS>, Refused>
+    ensures { IsProposing bytes.now result }
+{
+    match propose(alloc, bytes) {
+        Ok(proposal) => Ok(proposal),
+        Err(refused) => Err(refused.of_further(bytes.len())),
+    }
+}
+
 /// What was planned of a table before. If nothing was, the table is read and planned now.
 fn planned_or_propose(
     alloc: Global,
@@ -32,7 +42,7 @@ fn planned_or_propose(
 {
     match before {
         Some(planned) => planned,
-        None => propose(alloc, bytes),
+        None => propose_further(alloc, bytes),
     }
 }
 

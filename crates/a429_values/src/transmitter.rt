@@ -102,7 +102,7 @@ impl Transmitter {
         word_in(label, load_step(&wired.shared_words, seat, source))
     }
 
-    /// The word that one load of the source finds, as `load_numbered` finds it; `None` if it finds no accepted word. It
+    /// The word that one load of the source finds, like `load_numbered`; `None` if it finds no accepted word. It
     /// was accepted no earlier than that of any earlier load of the source. The call allocates no memory and waits for
     /// nobody.
     pub fn load(&mut self, source: usize) -> Option<Word>

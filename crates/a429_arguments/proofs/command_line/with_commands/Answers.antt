@@ -14,7 +14,7 @@ no_text = record { ref_ptr = (0, 0); now = [] }
 
 abbrev none : CommandForm
 none = record {
-  verb = verb.Word;
+  verb = verb.Import;
   name = no_text;
   first = record { id = no_text; help = Frames };
   second = None;
