@@ -20,6 +20,7 @@ mod FullRows
 pub mod ImportForms
 pub mod ImportWidths
 pub mod ImportQuotes
+pub mod ImportAbove
 pub mod WrittenQuotes
 mod PartsOfText
 mod ImportMaps
