@@ -40,9 +40,10 @@ module _ (cfg : Config) where
       let none : length p.2 ≡ 0 = ap (λ (r : Read). length r.2) (sym (nothing_left (ends_at_end s) (fields ++ field ∷ []) p found)) in
       omega (arith, none)
   shorter (c ∷ rest) s fields field p found =
-      less_left (is_end (step cfg s c).1) rest (fields_after (step cfg s c).1 fields field, (step cfg s c).0, rest) p
+      let less = less_left (is_end (step cfg s c).1) rest (fields_after (step cfg s c).1 fields field, (step cfg s c).0, rest) p
       (next_record cfg (step cfg s c).0 (fields_after (step cfg s c).1 fields field) (field_after (step cfg s c).1 c field) rest)
-      (λ q later. shorter rest (step cfg s c).0 (fields_after (step cfg s c).1 fields field) (field_after (step cfg s c).1 c field) q later) refl found
+      (λ q later. shorter rest (step cfg s c).0 (fields_after (step cfg s c).1 fields field) (field_after (step cfg s c).1 c field) q later) refl found in
+      omega (arith, less)
 
   -- no record comes after the one at the end of a text
   none_more : (s : State) (p q : Read) → next_record cfg s [] [] [] ≡ Some p → next_record cfg p.1 [] [] p.2 ≡ Some q → ⊥
@@ -64,7 +65,9 @@ module _ (cfg : Config) where
   unfolding records_from Reached
   all_records zero [] s s2 xs ys enough reached end = refl
   all_records zero (r ∷ rows) s s2 xs ys enough reached end = absurd (omega (arith, enough))
-  all_records (suc n) [] s s2 xs ys enough reached end = ap (records_next (records_from cfg n)) (rw (reached.0, reached.1) end)
+  all_records (suc n) [] s s2 xs ys enough reached end =
+      let none : next_record cfg s [] [] xs ≡ None = rw (reached.0, reached.1) end in
+      ap (records_next (records_from cfg n)) none
   all_records (suc n) (r ∷ rows) s s2 xs ys enough reached end =
       ap (records_next (records_from cfg n)) reached.1
       ∙ ap₂ (λ (x : List (List ℕ)) (more : List (List (List ℕ))). x ∷ more) (sym reached.2) (all_records n rows reached.0.1 s2 reached.0.2 ys (omega (arith, enough)) reached.3 end)
