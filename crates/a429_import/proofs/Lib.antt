@@ -21,6 +21,7 @@ pub mod ImportForms
 pub mod ImportWidths
 pub mod ImportQuotes
 pub mod ImportAbove
+pub mod HeadingFirst
 pub mod WrittenQuotes
 mod PartsOfText
 mod ImportMaps
