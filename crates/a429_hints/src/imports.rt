@@ -76,9 +76,21 @@ fn tell_lines(
             kind: CsvKind::Column,
             ..
         } => tell_heading(file, maps, hint),
+        CommandRefusal::Csv { line, .. } if *line < titles.number => {
+            tell_above(*line, titles, hint);
+        }
         CommandRefusal::Csv { line, kind } => tell_faulty_rows(file, *line, *kind, evidence, hint),
         _ => {}
     }
+}
+
+/// Says that a line above the heading is a row of data.
+fn tell_above(line: u64, titles: &CsvLine, hint: &HintText) {
+    hint.turn_to_line(line as usize);
+    hint.line_one(
+        "this is a row: it has a label, and as many fields as the heading, but that is below it, on line {}; move the heading above all rows, or delete this line",
+        titles.number,
+    );
 }
 
 /// Says that a row has too many fields, or that the quotes of a field are wrong. No row is read for it. The answer is whether

@@ -1,7 +1,7 @@
 -- What is imported from lines.
 use Rattle.std.proofs.Common.{◌≡◌, ◌∙◌, ℕ, Bool, true, false, List, [], ◌∷◌, Option, None, Some, Vec, Global, Result, Ok, Err, ap, ap₂, refl, subst, sym}
+use Rattle.std.specs.Prelude.{◌||◌}
 use Rattle.std.specs.Str.{IsUtf8}
-use Rattle.csv.specs.Reading.{strip_bom}
 use Rattle.toml.specs.Data.{Data, table}
 use Rattle.toml.specs.Parse.{parse_document}
 use Rattle.a429_equipment.specs.TableRecord.{TableRecord}
@@ -19,12 +19,13 @@ use Rattle.a429_import.specs.declared.fault.ImportFault.{ImportFault}
 use Rattle.a429_import.specs.declared.fault.ImportFault.TheVariants.{NoMemory, Csv, Wide, Table}
 use Rattle.a429_import.specs.declared.lines.CsvLine.{CsvLine}
 use Rattle.a429_import.specs.declared.rows.ImportRow.{ImportRow}
+use Rattle.a429_import.specs.ImportAbove.{has_data_above}
 use Rattle.a429_import.specs.ImportFaults.{of_table}
 use Rattle.a429_import.specs.ImportForms.{from_heading, separator_in}
 use Rattle.a429_import.specs.ImportQuotes.{has_wrong_quotes}
 use Rattle.a429_import.specs.ImportRows.{rows_stated}
 use Rattle.a429_import.specs.ImportTables.{record_stated, root_members}
-use Rattle.a429_import.specs.Imports.{AreNamedLines, IsImport, IsImportBy, IsImportIf, IsImportOf, IsImportUnless, has_wide_row, is_misquoted_text, is_wide_text, separated}
+use Rattle.a429_import.specs.Imports.{AreNamedLines, IsImport, IsImportBy, IsImportIf, IsImportOf, IsImportUnless, IsTextFault, has_row_above, has_wide_rows, is_misquoted_text, is_wide_text, separated}
 use Rattle.a429_import.specs.MadeLines.{first_twin}
 use Rattle.a429_import.proofs.ImportRanges.{stated_in_range}
 use Rattle.a429_import.proofs.ImportRecords.{tree_states}
@@ -68,9 +69,16 @@ module _ (lines : List CsvLine) (rows : List ImportRow) (are : rows_stated lines
 
 -- ---- of a text
 
-pub narrow_by : (maps : List (List ℕ)) (text : List ℕ) (separator : ℕ) (rest : List ℕ) → separator ≡ separator_in maps text → rest ≡ from_heading maps text → has_wide_row separator (strip_bom rest) ≡ false
-    → is_wide_text maps text ≡ false
-narrow_by maps text separator rest by from none = ap₂ (λ (s : ℕ) (xs : List ℕ). has_wide_row s (strip_bom xs)) (sym by) (sym from) ∙ none
+module _ (maps : List (List ℕ)) (text : List ℕ) (separator : ℕ) (rest : List ℕ) (by : separator ≡ separator_in maps text) (from : rest ≡ from_heading maps text) where
+  -- what is so by the form of a text is so of the text
+  by_form : (test : ℕ → List ℕ → Bool) (is : Bool) → is ≡ test separator rest → test (separator_in maps text) (from_heading maps text) ≡ is
+  by_form test is same = ap₂ test (sym by) (sym from) ∙ sym same
+
+  pub wide_by : (wide : Bool) → wide ≡ has_wide_rows separator rest text → is_wide_text maps text ≡ wide
+  wide_by wide same = by_form (λ s xs. has_wide_rows s xs text) wide same
+
+  pub unfit_by : (unfit : Bool) → unfit ≡ (has_wrong_quotes (separated separator) rest text || has_data_above (separated separator) maps rest text) → (is_misquoted_text maps text || has_row_above maps text) ≡ unfit
+  unfit_by unfit same = by_form (λ s xs. has_wrong_quotes (separated s) xs text || has_data_above (separated s) maps xs text) unfit same
 
 unless_wide : (twin : Option (ℕ × ImportColumn)) (lines : List CsvLine) (line : ℕ) → IsImportUnless twin lines (Err (Wide line)) → ⊥
 unless_wide None lines line h = h
@@ -80,28 +88,28 @@ by_wide : (makes_names : Bool) (lines : List CsvLine) (line : ℕ) → IsImportB
 by_wide false lines line h = h
 by_wide true lines line h = unless_wide (first_twin lines) h.0 line h.2
 
--- the rest of what is imported, if the quotes are right
+-- the rest of what is imported, if no fault comes before those of the rows
 module _ (maps : List (List ℕ)) (makes_names : Bool) (text : List ℕ) where
-  quoted : (lines : List CsvLine) (result : Result (Vec ℕ Global) ImportFault) → is_misquoted_text maps text ≡ false → AreNamedLines maps text lines → IsImportBy makes_names lines result
-      → IsImportIf (is_misquoted_text maps text) maps makes_names text result
-  quoted lines result right are h = subst (λ (b : Bool). IsImportIf b maps makes_names text result) (sym right) (lines, are, h)
+  abbrev is_unfit : Bool
+  is_unfit = is_misquoted_text maps text || has_row_above maps text
 
-  pub import_of : (lines : List CsvLine) (result : Result (Vec ℕ Global) ImportFault) → is_wide_text maps text ≡ false → is_misquoted_text maps text ≡ false → AreNamedLines maps text lines
-      → IsImportBy makes_names lines result → IsImport maps makes_names text result
-  import_of lines (Ok bytes) narrow right are h = (narrow, quoted lines (Ok bytes) right are h)
-  import_of lines (Err NoMemory) narrow right are h = tt
-  import_of lines (Err (Csv line kind column)) narrow right are h = (narrow, quoted lines (Err (Csv line kind column)) right are h)
-  import_of lines (Err (Wide line)) narrow right are h = absurd (by_wide makes_names lines line h)
-  import_of lines (Err (Table f)) narrow right are h = (narrow, quoted lines (Err (Table f)) right are h)
+  of_rows : (lines : List CsvLine) (result : Result (Vec ℕ Global) ImportFault) → is_unfit ≡ false → AreNamedLines maps text lines → IsImportBy makes_names lines result → IsImportIf is_unfit maps makes_names text result
+  of_rows lines result fit are h = subst (λ (b : Bool). IsImportIf b maps makes_names text result) (sym fit) (lines, are, h)
 
-  -- a text whose quotes are wrong
-  pub misquoted_import : (line : ℕ) (result : Result (Vec ℕ Global) ImportFault) → is_wide_text maps text ≡ false → is_misquoted_text maps text ≡ true → result ≡ Err (Csv line Form None) → IsImport maps makes_names text result
-  misquoted_import line result narrow wrong is =
+  pub import_of : (lines : List CsvLine) (result : Result (Vec ℕ Global) ImportFault) → IsTextFault maps text None → AreNamedLines maps text lines → IsImportBy makes_names lines result → IsImport maps makes_names text result
+  import_of lines (Ok bytes) (narrow, fit) are h = (narrow, of_rows lines (Ok bytes) fit are h)
+  import_of lines (Err NoMemory) (narrow, fit) are h = tt
+  import_of lines (Err (Csv line kind column)) (narrow, fit) are h = (narrow, of_rows lines (Err (Csv line kind column)) fit are h)
+  import_of lines (Err (Wide line)) (narrow, fit) are h = absurd (by_wide makes_names lines line h)
+  import_of lines (Err (Table f)) (narrow, fit) are h = (narrow, of_rows lines (Err (Table f)) fit are h)
+
+  -- a text whose quotes are wrong, or with a row of data above its heading
+  unfit_import : (line : ℕ) → is_wide_text maps text ≡ false → is_unfit ≡ true → IsImport maps makes_names text (Err (Csv line Form None))
+  unfit_import line narrow unfit =
       let fault : Result (Vec ℕ Global) ImportFault = Err (Csv line Form None) in
-      let there : IsImportIf (is_misquoted_text maps text) maps makes_names text fault = subst (λ (b : Bool). IsImportIf b maps makes_names text fault) (sym wrong) (line, refl) in
-      subst (λ (r : Result (Vec ℕ Global) ImportFault). IsImport maps makes_names text r) (sym is) (narrow, there)
+      (narrow, subst (λ (b : Bool). IsImportIf b maps makes_names text fault) (sym unfit) (line, refl))
 
--- quotes that are wrong by the form of the text
-pub misquoted_by : (maps : List (List ℕ)) (text : List ℕ) (separator : ℕ) (rows : List ℕ) (wrong : Bool) → separator ≡ separator_in maps text → rows ≡ from_heading maps text
-    → wrong ≡ has_wrong_quotes (separated separator) rows text → is_misquoted_text maps text ≡ wrong
-misquoted_by maps text separator rows wrong by from is = ap₂ (λ (s : ℕ) (xs : List ℕ). has_wrong_quotes (separated s) xs text) (sym by) (sym from) ∙ sym is
+-- the fault of such a text
+pub unfit_fault : (maps : List (List ℕ)) (text : List ℕ) (line : ℕ) (fault : ImportFault) → is_wide_text maps text ≡ false → (is_misquoted_text maps text || has_row_above maps text) ≡ true → fault ≡ Csv line Form None
+    → IsTextFault maps text (Some fault)
+unfit_fault maps text line fault narrow unfit is = λ makes_names. subst (λ (f : ImportFault). IsImport maps makes_names text (Err f)) (sym is) (unfit_import maps makes_names text line narrow unfit)

@@ -20,6 +20,8 @@ mod FullRows
 pub mod ImportForms
 pub mod ImportWidths
 pub mod ImportQuotes
+pub mod ImportAbove
+pub mod HeadingFirst
 pub mod WrittenQuotes
 mod PartsOfText
 mod ImportMaps

@@ -5,7 +5,7 @@ use Rattle.a429_import.specs.declared.rows.RowNumbers.{RowNumbers}
 use Rattle.a429_import.specs.ImportFields.{label_in, millis_in, rate_in, sdi_in}
 use Rattle.a429_import.specs.ImportForms.{heading_of}
 use Rattle.a429_import.specs.ImportMaps.{mapped, names_by}
-use Rattle.a429_import.specs.Imports.{is_misquoted_text}
+use Rattle.a429_import.specs.Imports.{has_row_above, is_misquoted_text}
 use Rattle.a429_import.specs.ImportRows.{is_in_millis, is_named, numbers_of}
 use Rattle.a429_import.specs.MadeLines.{made_fields}
 use Rattle.a429_import.specs.MadeNames.{made_field, made_name}
@@ -102,3 +102,18 @@ pub record ReadsQuotes : Type 0 where
   pub title : is_misquoted_text [] (codes "\"A\" to B\ngroup,rate\n1,2\n") ≡ false
   pub within : is_misquoted_text [] (codes "group,rate\n5\",=\"203\"") ≡ false
   pub mark : is_misquoted_text [] (239 ∷ 187 ∷ 191 ∷ codes "\"group\",rate\n") ≡ false
+
+-- rows above the heading: a row, after a title and between quotes, by texts HEADING=COLUMN; titles, units, empty rows and rows with more or fewer
+-- fields are no rows of data
+pub record ReadsAbove : Type 0 where
+  pub row : has_row_above [] (codes "alt,203\nsource,label\n") ≡ true
+  pub title : has_row_above [] (codes "Outputs,\n\"a\nb\";\"203\"\n\r\nSource;Label") ≡ true
+  pub lost_zeros : has_row_above [] (239 ∷ 187 ∷ 191 ∷ codes "alt\t3\r\nsource\tlabel\r\n") ≡ true
+  pub mapped : has_row_above (codes "Word=label" ∷ []) (codes "alt,203\nsource,word\n") ≡ true
+  pub unmapped : has_row_above [] (codes "alt,203,1\nsource,word,sdi\n") ≡ false
+  pub names : has_row_above [] (codes "Outputs,203rd\nsource,label\n") ≡ false
+  pub units : has_row_above [] (codes ",octal\n,\nsource,label\n") ≡ false
+  pub fewer : has_row_above [] (codes "203\nsource,label\n") ≡ false
+  pub more : has_row_above [] (codes "alt,203,\nsource,label\n") ≡ false
+  pub below : has_row_above [] (codes "source,label\nalt,203\n") ≡ false
+  pub no_heading : has_row_above [] (codes "alt,203\nsource\n") ≡ false

@@ -1,5 +1,5 @@
 -- What is imported from a text of comma-separated values: a table, or why there is none (profile: import).
-use Rattle.std.specs.Prelude.{◌≡◌, ◌==◌, ℕ, Bool, true, false, not, List, filter, length, map, nat_lt, Option, None, Some, Result, Ok, Err, Vec}
+use Rattle.std.specs.Prelude.{◌≡◌, ◌==◌, ◌||◌, ℕ, Bool, true, false, not, List, filter, length, map, nat_lt, Option, None, Some, Result, Ok, Err, Vec}
 use Rattle.std.specs.List.{AllByRecursion, list_any}
 use Rattle.std.specs.declared.alloc.Global.{Global}
 use Rattle.csv.specs.Reading.{AreRecords, default_config, records, strip_bom}
@@ -16,9 +16,10 @@ use Rattle.a429_import.specs.declared.fault.ImportFault.{ImportFault}
 use Rattle.a429_import.specs.declared.fault.ImportFault.TheVariants.{NoMemory, Csv, Wide, Table}
 use Rattle.a429_import.specs.declared.lines.CsvLine.{CsvLine}
 use Rattle.a429_import.specs.declared.rows.ImportRow.{ImportRow}
+use Rattle.a429_import.specs.ImportAbove.{has_data_above}
 use Rattle.a429_import.specs.ImportForms.{from_heading, separator_in}
 use Rattle.a429_import.specs.ImportMaps.{AreNamedBy}
-use Rattle.a429_import.specs.ImportQuotes.{has_wrong_quotes}
+use Rattle.a429_import.specs.ImportQuotes.{has_wrong_quotes, text_before}
 use Rattle.a429_import.specs.ImportRows.{CsvFault, rows_stated}
 use Rattle.a429_import.specs.ImportTables.{root_members, record_stated}
 use Rattle.a429_import.specs.MadeLines.{AreMade, first_twin}
@@ -63,13 +64,21 @@ is_wide fields = nat_lt 100000 (length fields)
 unfoldable pub has_wide_row : ℕ → List ℕ → Bool
 has_wide_row separator text = list_any is_wide (records (separated separator) text)
 
--- the same, in a text from its heading on
+-- the same for what is above the rest of a text, or for the rest
+abbrev pub has_wide_rows : ℕ → List ℕ → List ℕ → Bool
+has_wide_rows separator rest text = has_wide_row separator (strip_bom (text_before rest text)) || has_wide_row separator (strip_bom rest)
+
+-- the same, in a text above its heading, or from its heading on
 abbrev pub is_wide_text : List (List ℕ) → List ℕ → Bool
-is_wide_text maps text = has_wide_row (separator_in maps text) (strip_bom (from_heading maps text))
+is_wide_text maps text = has_wide_rows (separator_in maps text) (from_heading maps text) text
 
 -- a field in quotes does not end with a quote and a separator or a line end: the text ends within one, or text follows the quote
 abbrev pub is_misquoted_text : List (List ℕ) → List ℕ → Bool
 is_misquoted_text maps text = has_wrong_quotes (separated (separator_in maps text)) (from_heading maps text) text
+
+-- a row of data is above the heading: as many fields as the heading has, and a label in its column
+abbrev pub has_row_above : List (List ℕ) → List ℕ → Bool
+has_row_above maps text = has_data_above (separated (separator_in maps text)) maps (from_heading maps text) text
 
 -- the import of lines: the text is read as the record of the rows; a table is refused for its first fault
 abbrev pub IsImportOf : List CsvLine → Result (Vec ℕ Global) ImportFault → Type 0
@@ -91,7 +100,8 @@ abbrev pub IsImportBy : Bool → List CsvLine → Result (Vec ℕ Global) Import
 IsImportBy false lines result = IsImportOf lines result
 IsImportBy true lines result = (made : List CsvLine) × AreMade lines made × IsImportUnless (first_twin lines) made result
 
--- the import of a text, unless its quotes are wrong: then no line is looked at. The line of that fault is not stated
+-- the import of a text, unless its quotes are wrong or a row of data is above its heading: then no other line is looked at. The line of that fault
+-- is not stated
 abbrev pub IsImportIf : Bool → List (List ℕ) → Bool → List ℕ → Result (Vec ℕ Global) ImportFault → Type 0
 IsImportIf true maps makes_names text result = (line : ℕ) × (result ≡ Err (Csv line Form None))
 IsImportIf false maps makes_names text result = (lines : List CsvLine) × AreNamedLines maps text lines × IsImportBy makes_names lines result
@@ -100,4 +110,10 @@ IsImportIf false maps makes_names text result = (lines : List CsvLine) × AreNam
 abbrev pub IsImport : List (List ℕ) → Bool → List ℕ → Result (Vec ℕ Global) ImportFault → Type 0
 IsImport maps makes_names text (Err NoMemory) = Unit {0}
 IsImport maps makes_names text (Err (Wide line)) = is_wide_text maps text ≡ true
-IsImport maps makes_names text result = (is_wide_text maps text ≡ false) × IsImportIf (is_misquoted_text maps text) maps makes_names text result
+IsImport maps makes_names text result =
+    (is_wide_text maps text ≡ false) × IsImportIf (is_misquoted_text maps text || has_row_above maps text) maps makes_names text result
+
+-- the fault of a text that comes before those of its rows, if it has one
+abbrev pub IsTextFault : List (List ℕ) → List ℕ → Option ImportFault → Type 0
+IsTextFault maps text None = (is_wide_text maps text ≡ false) × ((is_misquoted_text maps text || has_row_above maps text) ≡ false)
+IsTextFault maps text (Some fault) = (makes_names : Bool) → IsImport maps makes_names text (Err fault)

@@ -4,6 +4,7 @@ pub mod ImportRows
 pub mod ImportMaps
 pub mod ImportForms
 pub mod ImportQuotes
+pub mod ImportAbove
 pub mod ImportColumns
 pub mod ImportExamples
 pub mod ImportTables

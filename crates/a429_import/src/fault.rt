@@ -71,7 +71,7 @@ impl ImportColumn {
 #[derive(Clone, Copy, Debug, PartialEq, Eq)]
 pub enum CsvFaultKind {
     /// The row has more or fewer fields than the heading, or a field does not have the form of its column. Or a field in
-    /// quotes does not end with a quote and then a separator or a line end.
+    /// quotes does not end with a quote and then a separator or a line end. Or the row is one of data above the heading.
     Form,
     /// The heading lacks a column, or has it twice.
     Column,
@@ -109,16 +109,17 @@ pub enum ImportFault {
     #[error("out of memory")]
     NoMemory,
     /// The rows have a fault of this kind, and no earlier row has a fault. Fields in quotes are looked at before any other
-    /// fault, and then two texts that become one name. Lines are counted from 1. `column` is `None` if the row has more or
-    /// fewer fields than the heading. It is also `None` if the quotes of a field that begins on the line are wrong.
+    /// fault, then rows of data above the heading, and then two texts that become one name. Lines are counted from 1. `column`
+    /// is `None` if the row has more or fewer fields than the heading. It is also `None` if the quotes of a field that begins
+    /// on the line are wrong, or if the row is above the heading.
     #[error("csv line {line} {kind}")]
     Csv {
         line: u64,
         kind: CsvFaultKind,
         column: Option<ImportColumn>,
     },
-    /// The row that begins on this line, counted from 1, has more than 100,000 fields, and no earlier row has. This comes
-    /// before any other fault of the rows.
+    /// The row that begins on this line, counted from 1, has more than 100,000 fields, and no earlier row has. It may be above
+    /// the heading. This comes before any other fault of the rows.
     #[error("csv line {line} wide")]
     Wide {
         line: u64,

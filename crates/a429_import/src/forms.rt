@@ -3,6 +3,7 @@ ghost use Rattle.std.specs.Prelude.{◌≡◌, ◌==◌, if◌then◌else◌, dr
 ghost use Rattle.std.specs.List.{find};
 ghost use Rattle.a429_import.specs.ImportForms.{count_before, ends_line, first_line, from_heading, from_line, heading_among, heading_of, is_heading, later_lines, names_column, separator_in, separators, without_byte_order_mark};
 ghost use Rattle.a429_import.specs.ImportMaps.{given_texts};
+ghost use Rattle.a429_import.specs.ImportQuotes.{text_before};
 
 use crate::maps::names_column_by;
 use crate::plain::unquoted;
@@ -173,6 +174,17 @@ pub fn without_mark(text: &[u8]) -> &[u8]
     match text {
         [0xEF, 0xBB, 0xBF, rest @ ..] => rest,
         _ => text,
+    }
+}
+
+/// What comes before the end of a text.
+pub fn text_before<'a>(end: &[u8], text: &'a [u8]) -> &'a [u8]
+    ensures { result.now ≡ text_before end.now text.now }
+{
+    if end.len() <= text.len() {
+        &text[..text.len() - end.len()]
+    } else {
+        &[]
     }
 }
 

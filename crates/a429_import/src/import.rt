@@ -1,15 +1,18 @@
 //! An equipment table from rows of comma-separated values.
-ghost use Rattle.std.specs.Prelude.{◌≡◌, [], false, List, None, Ok, true};
+ghost use Rattle.std.specs.Prelude.{◌≡◌, ◌||◌, [], false, IfOk, is_some, List, None, Ok, true};
 ghost use Rattle.a429_import.specs.declared.lines.CsvLine.{CsvLine};
 ghost use Rattle.a429_import.specs.declared.rows.ImportRow.{ImportRow};
+ghost use Rattle.a429_import.specs.ImportAbove.{has_data_above};
 ghost use Rattle.a429_import.specs.ImportForms.{from_heading, separator_in};
 ghost use Rattle.a429_import.specs.ImportMaps.{given_texts};
+ghost use Rattle.a429_import.specs.ImportQuotes.{has_wrong_quotes};
 ghost use Rattle.a429_import.specs.ImportReading.{HasRows, HaveRows, StandsFor};
 ghost use Rattle.a429_import.specs.ImportRows.{rows_stated};
-ghost use Rattle.a429_import.specs.Imports.{IsImport, IsImportBy, IsImportOf, is_misquoted_text, is_wide_text};
+ghost use Rattle.a429_import.specs.Imports.{IsImport, IsImportBy, IsImportOf, IsTextFault, separated};
 ghost use Rattle.a429_import.specs.MadeLines.{AreMade};
 ghost use Rattle.a429_import.specs.MadeReading.{HasMade, IsReadBy};
 
+use crate::above::line_above;
 use crate::comments::with_texts;
 use crate::fault::{CsvFaultKind, ImportColumn, ImportFault};
 use crate::forms::{Form, form_of};
@@ -21,7 +24,7 @@ use crate::tables::table_text;
 use crate::text_reading::read_lines;
 use crate::widths::wide_line;
 use a429_table::{TableFault, read_equipment};
-use std::alloc::Global;
+use std::alloc::{AllocError, Global};
 
 /// The table that rows describe.
 fn table_of_rows(alloc: Global, read: &RowsRead) -> Result<Vec<u8>, ImportFault>
@@ -113,14 +116,13 @@ fn read_table(
     requires separator { form.separator ≡ separator_in (given_texts maps.now) text.now }
     requires text { form.text.now ≡ from_heading (given_texts maps.now) text.now }
     requires read { IsReadBy makes_names read.old [] }
-    ensures { is_wide_text (given_texts maps.now) text.now ≡ false → is_misquoted_text (given_texts maps.now) text.now ≡ false
-        → IsImport (given_texts maps.now) makes_names text.now result }
+    ensures { IsTextFault (given_texts maps.now) text.now None → IsImport (given_texts maps.now) makes_names text.now result }
 {
     read_lines(alloc, maps, makes_names, text, form, read)?;
     table_by(alloc, makes_names, read)
 }
 
-/// The same. No row of the text has too many fields, and its quotes are right.
+/// The table that a text of this form describes, if no fault comes before those of its rows.
 fn table_of_text(
     alloc: Global,
     maps: &[&str],
@@ -130,8 +132,7 @@ fn table_of_text(
 ) -> Result<Vec<u8>, ImportFault>
     requires separator { form.separator ≡ separator_in (given_texts maps.now) text.now }
     requires text { form.text.now ≡ from_heading (given_texts maps.now) text.now }
-    ensures { is_wide_text (given_texts maps.now) text.now ≡ false → is_misquoted_text (given_texts maps.now) text.now ≡ false
-        → IsImport (given_texts maps.now) makes_names text.now result }
+    ensures { IsTextFault (given_texts maps.now) text.now None → IsImport (given_texts maps.now) makes_names text.now result }
 {
     // A row with a new name has 11 bytes. So a chain has 12 names on average at most.
     let mut read = NamesRead::new(alloc, makes_names, text.len() / 128)?;
@@ -141,8 +142,8 @@ fn table_of_text(
     table
 }
 
-/// The fault of a field that does not end as a field in quotes does.
-fn wrong_quotes(line: u64) -> ImportFault
+/// The fault of a field that does not end as a field in quotes does, or of a row of data above the heading.
+fn wrong_form(line: u64) -> ImportFault
     ensures { result ≡ ImportFault.Csv line CsvFaultKind.Form None }
 {
     ImportFault::Csv {
@@ -152,35 +153,56 @@ fn wrong_quotes(line: u64) -> ImportFault
     }
 }
 
-/// The same, unless quotes of the text are wrong.
-fn narrow_table(
+/// The line on which the first field begins whose quotes are wrong. If there is none, that of the first row of data above the
+/// heading. Error: an allocation failed.
+fn unfit_line(
     alloc: Global,
     maps: &[&str],
-    makes_names: bool,
     text: &[u8],
     form: Form<'_>,
-) -> Result<Vec<u8>, ImportFault>
-    requires separator { form.separator ≡ separator_in (given_texts maps.now) text.now }
-    requires text { form.text.now ≡ from_heading (given_texts maps.now) text.now }
-    ensures { is_wide_text (given_texts maps.now) text.now ≡ false → IsImport (given_texts maps.now) makes_names text.now result }
+) -> Result<Option<u64>, AllocError>
+    ensures { IfOk result (λ line. is_some line ≡ (has_wrong_quotes (separated form.entry.separator) form.entry.text.now text.now
+        || has_data_above (separated form.entry.separator) (given_texts maps.now) form.entry.text.now text.now)) }
 {
     match misquoted_line_of(text, form) {
-        Some(line) => Err(wrong_quotes(line)),
-        None => table_of_text(alloc, maps, makes_names, text, form),
+        Some(line) => Ok(Some(line)),
+        None => line_above(alloc, maps, text, form),
+    }
+}
+
+/// The fault of a text for which no row below the heading is looked at: it comes before all faults of rows. Error: an
+/// allocation failed.
+fn text_fault(
+    alloc: Global,
+    maps: &[&str],
+    text: &[u8],
+    form: Form<'_>,
+) -> Result<Option<ImportFault>, AllocError>
+    requires separator { form.separator ≡ separator_in (given_texts maps.now) text.now }
+    requires text { form.text.now ≡ from_heading (given_texts maps.now) text.now }
+    ensures { IfOk result (λ fault. IsTextFault (given_texts maps.now) text.now fault) }
+{
+    match wide_line(text, form) {
+        Some(line) => Ok(Some(ImportFault::Wide { line })),
+        None => match unfit_line(alloc, maps, text, form)? {
+            Some(line) => Ok(Some(wrong_form(line))),
+            None => Ok(None),
+        },
     }
 }
 
 /// The equipment table, as TOML of version 2, that rows of comma-separated values describe (profile: import): a row of
 /// column names, and a row for each output, or for a source that no group sends. Columns may come in any order; columns
-/// that `ImportColumn` does not have are skipped. With a text HEADING=COLUMN a heading is the name of a column. Receivers,
-/// sources and groups are in the order of their first rows, outputs in the order of the rows of their group.
-/// `read_equipment` reads the answer. Error: the first fault of the rows, otherwise the first of the table.
+/// that `ImportColumn` does not have are skipped. So are lines above the heading, such as titles, but a row of data there is
+/// refused. With a text HEADING=COLUMN a heading is the name of a column. Receivers, sources and groups are in the order of
+/// their first rows, outputs in the order of the rows of their group. `read_equipment` reads the answer. Error: the first
+/// fault of the rows, otherwise the first of the table.
 ///
 /// With `makes_names`, the texts of groups, sources and receivers become names: `made_name` makes them. The answer has
 /// a comment above each group, source and receiver whose text differs from its name. Two texts of a column that become
 /// one name are refused: the fault is the first line whose text differs from the text of an earlier line with the same
-/// name. This comes before any other fault except a row with too many fields, and a field that does not end as a field in
-/// quotes does.
+/// name. This comes before any other fault except three: a row with too many fields, a field that does not end as a field in
+/// quotes does, and a row of data above the heading.
 pub fn import_table(
     alloc: Global,
     maps: &[&str],
@@ -190,8 +212,8 @@ pub fn import_table(
     ensures { IsImport (given_texts maps.now) makes_names bytes.now result }
 {
     let form = form_of(maps, bytes);
-    match wide_line(bytes, form) {
-        Some(line) => Err(ImportFault::Wide { line }),
-        None => narrow_table(alloc, maps, makes_names, bytes, form),
+    match text_fault(alloc, maps, bytes, form)? {
+        Some(fault) => Err(fault),
+        None => table_of_text(alloc, maps, makes_names, bytes, form),
     }
 }

@@ -1,5 +1,5 @@
 //! What is true of the definitions that the contracts cite.
-ghost use Rattle.a429_import.specs.ImportExamples.{MakesFields, MakesNames, ReadsAlone, ReadsFields, ReadsHeadings, ReadsMaps, ReadsMillis, ReadsQuotes};
+ghost use Rattle.a429_import.specs.ImportExamples.{MakesFields, MakesNames, ReadsAbove, ReadsAlone, ReadsFields, ReadsHeadings, ReadsMaps, ReadsMillis, ReadsQuotes};
 ghost use Rattle.a429_import.specs.ImportedRows.{RowsAreInRecord};
 
 /// The record of the table has what each imported row says: a source with its name, label and SDI, whose receiver has the
@@ -9,8 +9,8 @@ pub fn imported_rows_are_in_record()
     ensures { RowsAreInRecord }
 {}
 
-/// What some fields state, some headings, rows with and without a group, made names, and wrong quotes: the definitions, by
-/// examples.
+/// What some fields state, some headings, rows with and without a group, made names, wrong quotes, and rows above the heading:
+/// the definitions, by examples.
 pub fn forms_are_read_as_written()
     ensures fields { ReadsFields }
     ensures millis { ReadsMillis }
@@ -20,4 +20,5 @@ pub fn forms_are_read_as_written()
     ensures names { MakesNames }
     ensures made { MakesFields }
     ensures quotes { ReadsQuotes }
+    ensures above { ReadsAbove }
 {}

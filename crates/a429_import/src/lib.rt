@@ -20,6 +20,7 @@
 //! ```
 #![tactic(auto)]
 
+mod above;
 mod building;
 mod clashes;
 mod columns;

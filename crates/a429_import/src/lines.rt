@@ -70,7 +70,7 @@ pub struct LineCount {
 
 impl LineCount {
     /// Before the first byte of a text.
-    fn new() -> LineCount {
+    pub fn new() -> LineCount {
         LineCount {
             at: 0,
             line: 1,

@@ -8,7 +8,7 @@ ghost use Rattle.a429_import.specs.ImportWidths.{state_of};
 ghost use Rattle.a429_import.specs.Imports.{is_misquoted_text, separated};
 ghost use Rattle.a429_import.specs.ImportMaps.{given_texts};
 
-use crate::forms::{Form, form_of, without_mark};
+use crate::forms::{Form, form_of, text_before, without_mark};
 use crate::lines::line_at;
 use crate::widths::{Ended, Part, pass};
 
@@ -42,7 +42,8 @@ fn is_in_text(part: Part) -> bool
     }
 }
 
-/// Whether text follows the quote that closes a field of a row, by where a byte is and where the next one is.
+/// Whether a byte is text after the quote that closes a field, by the part of the row before it and the part after it. The
+/// flag says whether it is a byte of the rows: in the lines above the heading such text is allowed.
 #[inline(always)]
 fn breaks_quotes(of_rows: bool, before: Part, after: Part) -> bool
     ensures { result ≡ breaks_quotes of_rows (state_of before) (state_of after) }
@@ -77,17 +78,6 @@ fn misquoted_place(of_rows: bool, separator: u8, text: &[u8]) -> Option<usize>
         Some(begin)
     } else {
         None
-    }
-}
-
-/// What comes before the end of a text.
-fn text_before<'a>(end: &[u8], text: &'a [u8]) -> &'a [u8]
-    ensures { result.now ≡ text_before end.now text.now }
-{
-    if end.len() <= text.len() {
-        &text[..text.len() - end.len()]
-    } else {
-        &[]
     }
 }
 

@@ -4,9 +4,10 @@ ghost use Rattle.std.specs.Prelude.{◌≡◌, ◌+◌, ◌^◌, ◌<◌, ◌&&�
 ghost use Rattle.csv.specs.Machine.{ends_at_end, in_field, start_field, step};
 ghost use Rattle.csv.specs.Reading.{strip_bom};
 ghost use Rattle.a429_import.specs.ImportWidths.{ended_by, fields_after, state_of, wide_row};
-ghost use Rattle.a429_import.specs.Imports.{has_wide_row, separated};
+ghost use Rattle.a429_import.specs.ImportQuotes.{text_before};
+ghost use Rattle.a429_import.specs.Imports.{has_wide_row, has_wide_rows, separated};
 
-use crate::forms::{Form, ends_line, without_mark};
+use crate::forms::{Form, ends_line, text_before, without_mark};
 use crate::lines::line_at;
 
 /// The number of fields that a row has at most. Spreadsheet programs have at most 16,384 columns.
@@ -158,14 +159,37 @@ fn wide_place(separator: u8, text: &[u8]) -> Option<usize>
     }
 }
 
-/// The line on which the first row begins that has too many fields, counted from 1. The form is that of the text.
+/// The line on which the first row begins above the heading that has too many fields.
 #[tactic(auto, using(crate::proofs::ImportWidths::same_mark))]
-pub fn wide_line(text: &[u8], form: Form<'_>) -> Option<u64>
+fn line_above(text: &[u8], form: Form<'_>) -> Option<u64>
+    ensures { is_some result ≡ has_wide_row form.entry.separator (strip_bom (text_before form.entry.text.now text.now)) }
+{
+    let lines = without_mark(text_before(form.text, text));
+    match wide_place(form.separator, lines) {
+        Some(place) => Some(line_at(text, text, lines, place)),
+        None => None,
+    }
+}
+
+/// The line on which the first such row begins from the heading on.
+#[tactic(auto, using(crate::proofs::ImportWidths::same_mark))]
+fn line_of_rows(text: &[u8], form: Form<'_>) -> Option<u64>
     ensures { is_some result ≡ has_wide_row form.entry.separator (strip_bom form.entry.text.now) }
 {
     let rows = without_mark(form.text);
     match wide_place(form.separator, rows) {
         Some(place) => Some(line_at(text, form.text, rows, place)),
         None => None,
+    }
+}
+
+/// The line on which the first row begins that has too many fields, counted from 1. Lines above the heading count too. The form
+/// is that of the text.
+pub fn wide_line(text: &[u8], form: Form<'_>) -> Option<u64>
+    ensures { is_some result ≡ has_wide_rows form.entry.separator form.entry.text.now text.now }
+{
+    match line_above(text, form) {
+        Some(line) => Some(line),
+        None => line_of_rows(text, form),
     }
 }

@@ -1,5 +1,6 @@
 -- What is imported_table from the text of an interface control document has the same plan.
 use Rattle.std.proofs.Common.{◌≡◌, ◌∙◌, ℕ, Bool, false, List, [], ◌∷◌, Option, None, Some, Vec, Global, Result, Ok, Err, ap, ap₂, map, refl, subst, sym}
+use Rattle.std.specs.Prelude.{◌||◌}
 use Rattle.std.proofs.lemmas.Option.{none-some}
 use Rattle.csv.specs.Records.{fields_of}
 use Rattle.toml.specs.Data.{table}
@@ -19,7 +20,7 @@ use Rattle.a429_import.specs.declared.fault.ImportFault.TheVariants.{Csv, NoMemo
 use Rattle.a429_import.specs.declared.lines.CsvLine.{CsvLine}
 use Rattle.a429_import.specs.declared.rows.ImportRow.{ImportRow}
 use Rattle.a429_callers.specs.ImportedIcd.{HasPlanTextOf, ImportedIcdIsSamePlan, ImportsPlan, IsWholeInIcd, icd_csv}
-use Rattle.a429_import.specs.Imports.{AreNamedLines, IsImport, IsImportIf, IsImportOf, is_misquoted_text, is_wide_text}
+use Rattle.a429_import.specs.Imports.{AreNamedLines, IsImport, IsImportIf, IsImportOf, has_row_above, is_misquoted_text, is_wide_text}
 use Rattle.a429_import.specs.ImportMaps.{AreNamedBy, names_by}
 use Rattle.a429_import.specs.ImportRows.{CsvFault, rows_after, rows_stated, unless_wrong, wrong_column}
 use Rattle.a429_import.specs.ImportTables.{record_stated, root_members}
@@ -27,7 +28,7 @@ use Rattle.a429_callers.proofs.Icd.Faults.{none_at_all}
 use Rattle.a429_callers.proofs.Icd.Groups.{new_number}
 use Rattle.a429_callers.proofs.Icd.Records.{is_renumbered, sent_part}
 use Rattle.a429_callers.proofs.Icd.Fields.{texts}
-use Rattle.a429_callers.proofs.Icd.Texts.{quotes_are_right}
+use Rattle.a429_callers.proofs.Icd.Texts.{heading_is_first, quotes_are_right}
 use Rattle.a429_callers.proofs.Icd.Rows.{no_row_is_wide, read_table, rows_stated_are}
 use Rattle.a429_import.proofs.ImportRanges.{same_ok}
 use Rattle.a429_callers.proofs.Icd.OwnWords.{IsReadTable, read_table_is}
@@ -110,12 +111,14 @@ module _ (bytes : List ℕ) (a : Proposed) (A : IsWholeInIcd bytes a) (one_plan 
   narrow : is_wide_text [] (icd_csv a) ≡ false
   narrow = no_row_is_wide a.station sound a.plan A.plan
 
-  quoted : is_misquoted_text [] (icd_csv a) ≡ false
-  quoted = quotes_are_right (map texts (icd_rows false a.station a.plan))
+  fit : (is_misquoted_text [] (icd_csv a) || has_row_above [] (icd_csv a)) ≡ false
+  fit =
+      let texts_of : List (List (List ℕ)) = map texts (icd_rows false a.station a.plan) in
+      ap₂ (λ (x y : Bool). x || y) (quotes_are_right texts_of) (heading_is_first texts_of)
 
-  of_rows : (result : Result (Vec ℕ Global) ImportFault) → IsImportIf (is_misquoted_text [] (icd_csv a)) [] false (icd_csv a) result → ImportsPlan a result
+  of_rows : (result : Result (Vec ℕ Global) ImportFault) → IsImportIf (is_misquoted_text [] (icd_csv a) || has_row_above [] (icd_csv a)) [] false (icd_csv a) result → ImportsPlan a result
   of_rows result imports =
-      let of = subst (λ (b : Bool). IsImportIf b [] false (icd_csv a) result) quoted imports in
+      let of = subst (λ (b : Bool). IsImportIf b [] false (icd_csv a) result) fit imports in
       of_lines of.0 of.1 result of.2
 
   of_text : (result : Result (Vec ℕ Global) ImportFault) → IsImport [] false (icd_csv a) result → ImportsPlan a result

@@ -1,5 +1,5 @@
 -- The text of an interface control document is read as its rows.
-use Rattle.std.proofs.Common.{◌≡◌, ◌∙◌, ◌+◌, ◌-◌, ℕ, zero, suc, Bool, true, false, List, [], ◌∷◌, ◌++◌, Option, None, Some, arith, drop, filter, get_or, length, map, take, ap, ap₂, sym, subst, refl}
+use Rattle.std.proofs.Common.{◌≡◌, ◌∙◌, ◌+◌, ℕ, zero, suc, Bool, true, false, List, [], ◌∷◌, ◌++◌, Option, None, Some, arith, drop, filter, get_or, length, map, take, ap, ap₂, sym, subst, refl}
 use Rattle.std.specs.Prelude.{◌||◌, codes, not, unwrap_or}
 use Rattle.std.specs.List.{AllByRecursion, find, flat_map, list_any}
 use Rattle.std.specs.Option.{option_map_or}
@@ -16,9 +16,10 @@ use Rattle.a429_text.specs.Sheets.{csv_text_of}
 use Rattle.a429_documents.specs.Document.{icd_columns}
 use Rattle.a429_import.specs.ImportForms.{ends_line, first_line, from_heading, from_line, heading_among, heading_of, is_heading, separator_in, separators, without_byte_order_mark}
 use Rattle.a429_import.specs.ImportRows.{is_named}
-use Rattle.a429_import.specs.Imports.{AreLines, has_text, has_wide_row, is_misquoted_text, is_wide, is_wide_text, separated}
-use Rattle.a429_import.specs.ImportQuotes.{has_wrong_quotes, is_misquoted, is_misquoted_from, text_before}
+use Rattle.a429_import.specs.Imports.{AreLines, has_row_above, has_text, has_wide_row, is_misquoted_text, is_wide, is_wide_text, separated}
+use Rattle.a429_import.specs.ImportQuotes.{has_wrong_quotes, is_misquoted, is_misquoted_from}
 use Rattle.a429_import.proofs.FirstPlaces.{position_first}
+use Rattle.a429_import.proofs.HeadingFirst.{no_row_above, no_wide_row_above, nothing_before}
 use Rattle.a429_import.proofs.ImportForms.{among_here}
 use Rattle.a429_import.proofs.WrittenQuotes.{written_right}
 
@@ -164,12 +165,16 @@ none_wide (suc n) (row ∷ rows) narrow =
 pub no_wide_row : (rows : List (List (List ℕ))) → AreNarrow (icd_columns ∷ rows) → is_wide_text [] (csv_text_of (icd_columns ∷ rows)) ≡ false
 unfolding csv_text_of has_wide_row
 no_wide_row rows narrow =
-    ap₂ (λ (s : ℕ) (xs : List ℕ). has_wide_row s xs) (commas_separate rows) (from_the_first rows) ∙ none_wide (length (text rows) + 1) (icd_columns ∷ rows) narrow
+    no_wide_row_above [] (text rows) (from_itself rows)
+    ∙ ap₂ (λ (s : ℕ) (xs : List ℕ). has_wide_row s xs) (commas_separate rows) (unmarked rows) ∙ none_wide (length (text rows) + 1) (icd_columns ∷ rows) narrow
+
+-- ---- no row is above the heading
+
+pub heading_is_first : (rows : List (List (List ℕ))) → has_row_above [] (csv_text_of (icd_columns ∷ rows)) ≡ false
+unfolding csv_text_of
+heading_is_first rows = no_row_above [] (text rows) (from_itself rows)
 
 -- ---- the quotes are right
-
-nothing_before : (xs : List ℕ) → text_before xs xs ≡ []
-nothing_before xs = let none : length xs - length xs ≡ 0 = omega arith in ap (λ (n : ℕ). take n xs) none
 
 none_open : is_misquoted false default_config [] ≡ false
 unfolding is_misquoted_from strip_bom

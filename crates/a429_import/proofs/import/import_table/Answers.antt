@@ -1,11 +1,11 @@
-use Rattle.std.proofs.Common.{◌∙◌, List, ℕ, ap, sym}
-use Rattle.std.specs.Prelude.{is_some}
+use Rattle.std.proofs.Common.{List, Option, Some, subst, ℕ}
+use Rattle.a429_import.specs.declared.fault.ImportFault.{ImportFault}
 use Rattle.a429_import.specs.ImportMaps.{given_texts}
-use Rattle.a429_import.proofs.Imports.{narrow_by}
+use Rattle.a429_import.specs.Imports.{IsTextFault}
 use Rattle.a429_import.proofs.import.import_table.Goals as goal
 
-pub returns-in-None : goal.returns-in-None
-returns-in-None c =
+pub returns-in-Some : goal.returns-in-Some
+returns-in-Some c =
     let maps : List (List ℕ) = given_texts c.args.maps.now in
-    c.narrow_table.ensures
-    (narrow_by maps c.args.bytes.now c.form_of-form.result.separator c.form_of-form.result.text.now c.form_of-form.ensures.separator c.form_of-form.ensures.text (sym c.wide_line.ensures ∙ ap is_some c.in-None.is))
+    let refused : IsTextFault maps c.args.bytes.now (Some c.in-Some.fault) = subst (λ (o : Option ImportFault). IsTextFault maps c.args.bytes.now o) c.in-Some.is c.in_ok-fault.ensures in
+    refused c.args.makes_names

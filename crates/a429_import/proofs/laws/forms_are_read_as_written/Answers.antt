@@ -1,6 +1,7 @@
 use Rattle.std.proofs.Common.{refl}
 use Rattle.std.specs.Path.{rsplit_once}
-use Rattle.csv.specs.Reading.{strip_bom}
+use Rattle.csv.specs.Machine.{next_record}
+use Rattle.csv.specs.Reading.{records_from, strip_bom}
 use Rattle.a429_word.specs.Decimal.{decimal_number, is_numeral}
 use Rattle.a429_word.specs.Texts.{label_value}
 use Rattle.a429_import.specs.ImportFields.{hold_in, label_in, millis_in, number_in, rate_in, sdi_in, text_in, utf8_in}
@@ -54,3 +55,7 @@ returns-clause-made c = record { some = refl }
 pub returns-clause-quotes : goal.returns-clause-quotes
 unfolding is_misquoted_from is_named heading_among strip_bom
 returns-clause-quotes c = record { closed = refl; not_closed = refl; doubled = refl; heading = refl; above = refl; after = refl; space = refl; title = refl; within = refl; mark = refl }
+
+pub returns-clause-above : goal.returns-clause-above
+unfolding is_named heading_among strip_bom next_record records_from column_field label_in label_value rsplit_once
+returns-clause-above c = record { row = refl; title = refl; lost_zeros = refl; mapped = refl; unmapped = refl; names = refl; units = refl; fewer = refl; more = refl; below = refl; no_heading = refl }

@@ -1,0 +1,39 @@
+-- Nothing is above the heading of a text that begins with it.
+use Rattle.std.proofs.Common.{◌≡◌, ◌∙◌, ◌-◌, [], ℕ, false, Bool, List, ap, ap₂, arith, length, refl, take}
+use Rattle.std.specs.Prelude.{◌||◌}
+use Rattle.std.specs.List.{list_any}
+use Rattle.csv.specs.Machine.{next_record}
+use Rattle.csv.specs.Reading.{records, records_from, strip_bom}
+use Rattle.csv.specs.declared.parser.Config.{Config}
+use Rattle.a429_import.specs.ImportAbove.{first_row, has_data, is_data}
+use Rattle.a429_import.specs.ImportForms.{from_heading, separator_in}
+use Rattle.a429_import.specs.ImportMaps.{names_by}
+use Rattle.a429_import.specs.ImportQuotes.{text_before}
+use Rattle.a429_import.specs.Imports.{has_row_above, has_wide_row, is_wide, is_wide_text, separated}
+
+pub nothing_before : (text : List ℕ) → text_before text text ≡ []
+nothing_before text = let none : length text - length text ≡ 0 = omega arith in ap (λ (n : ℕ). take n text) none
+
+no_records : (cfg : Config) → records cfg (strip_bom []) ≡ []
+unfolding strip_bom records_from next_record
+no_records cfg = refl
+
+no_wide_record : (separator : ℕ) → has_wide_row separator (strip_bom []) ≡ false
+unfolding has_wide_row
+no_wide_record separator = ap (list_any is_wide) (no_records (separated separator))
+
+module _ (maps : List (List ℕ)) (text : List ℕ) (first : from_heading maps text ≡ text) where
+  nothing_above : text_before (from_heading maps text) text ≡ []
+  nothing_above = ap (λ (rest : List ℕ). text_before rest text) first ∙ nothing_before text
+
+  pub no_row_above : has_row_above maps text ≡ false
+  no_row_above =
+      let cfg : Config = separated (separator_in maps text) in
+      let heading : List (List ℕ) = names_by maps (first_row cfg (from_heading maps text)) in
+      ap (has_data cfg heading) nothing_above ∙ ap (list_any (is_data heading)) (no_records cfg)
+
+  pub no_wide_row_above : is_wide_text maps text ≡ has_wide_row (separator_in maps text) (strip_bom text)
+  no_wide_row_above =
+      let separator : ℕ = separator_in maps text in
+      let above : has_wide_row separator (strip_bom (text_before (from_heading maps text) text)) ≡ false = ap (λ (xs : List ℕ). has_wide_row separator (strip_bom xs)) nothing_above ∙ no_wide_record separator in
+      ap₂ (λ (a b : Bool). a || b) above (ap (λ (xs : List ℕ). has_wide_row separator (strip_bom xs)) first)

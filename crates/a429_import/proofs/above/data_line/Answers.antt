@@ -1,0 +1,32 @@
+use Rattle.std.proofs.Common.{◌∷◌, ◌++◌, ◌∙◌, [], refl}
+use Rattle.std.specs.Prelude.{is_some}
+use Rattle.csv.specs.Records.{fields_of}
+use Rattle.a429_import.specs.declared.lines.CsvLine.{CsvLine}
+use Rattle.a429_import.proofs.ImportAbove.{data_read, one_more}
+use Rattle.a429_import.proofs.ImportForms.{read_more}
+use Rattle.a429_import.proofs.ImportReading.{ok_is}
+use Rattle.a429_import.proofs.above.data_line.Goals as goal
+
+pub loop-row-init : goal.loop-row-init
+loop-row-init c =
+    let start = c.into_iter-row-iterator.ensures.into_iter_gives ∙ refl in
+    rw start (record { turns = c.requires.left; all = []; read = c.requires.before; found = refl })
+
+pub loop-row-preserved : goal.loop-row-preserved
+loop-row-preserved c =
+    let inv = c.loop-row.invariant in
+    let line : CsvLine = c.in_ok-line.line in
+    let is = ok_is c.in-Some.row line.fields c.in_ok-line.ensures.fields in
+    let s = rw (c.in-Some.is, is) at ((c.next.ensures.steps inv.turns inv.read.plain).0 inv.read.ready) in
+    record {
+      turns = s.2;
+      all = inv.all ++ line ∷ [];
+      read = read_more c.args.form.separator c.args.form.text.now c.loop-row.row-iterator.now.rdr c.next.new.self.now.rdr inv.all line inv.read s.0 s.1 c.in_ok-line.ensures.separator;
+      found = one_more (fields_of c.args.heading.now.line.fields) inv.all line (is_some c.loop-row.found) (is_some c.found_at-found.result) inv.found c.found_at-found.ensures;
+    }
+
+pub returns : goal.returns
+returns c =
+    let inv = c.loop-row.invariant in
+    let end = rw c.in-None.is at ((c.next.ensures.steps inv.turns inv.read.plain).0 inv.read.ready) in
+    inv.found ∙ data_read c.args.form.separator (fields_of c.args.heading.now.line.fields) c.args.form.text.now c.loop-row.row-iterator.now.rdr c.next.new.self.now.rdr inv.all inv.read end

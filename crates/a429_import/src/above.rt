@@ -1,0 +1,116 @@
+//! Rows of data above the heading: a sheet that was sorted with its heading has them. They would be passed over, as titles are.
+ghost use Rattle.std.specs.Prelude.{◌≡◌, ◌||◌, ◌<◌, [], IfOk, is_some};
+ghost use Rattle.std.specs.List.{list_any};
+ghost use Rattle.csv.specs.Reading.{owned_rows_left, owned_rows_reader, strip_bom};
+ghost use Rattle.csv.specs.Records.{fields_of};
+ghost use Rattle.a429_import.specs.ImportAbove.{first_row, has_data, has_data_above, is_data};
+ghost use Rattle.a429_import.specs.ImportMaps.{given_texts, names_by};
+ghost use Rattle.a429_import.specs.ImportReading.{HasRead};
+ghost use Rattle.a429_import.specs.Imports.{separated};
+
+use crate::columns::Heading;
+use crate::fault::ImportColumn;
+use crate::fields::label_in;
+use crate::forms::{Form, text_before};
+use crate::lines::{CsvLine, LineCount, line_of, rows_of};
+use crate::maps::named_by;
+use csv::{ByteRecord, ByteRecordsIntoIter};
+use std::alloc::{AllocError, Global};
+
+/// The first row of a text of this form; a row without fields if the text has none. Error: an allocation failed.
+fn first_line(
+    alloc: Global,
+    form: Form<'_>,
+    rows: &mut ByteRecordsIntoIter<&[u8]>,
+) -> Result<CsvLine, AllocError>
+    requires before { HasRead form.separator form.text.now (owned_rows_reader rows.old) [] }
+    requires left { 0 < owned_rows_left rows.old }
+    ensures { IfOk result (λ line. fields_of line.fields ≡ first_row (separated form.entry.separator) form.entry.text.now) }
+{
+    match rows.next() {
+        Some(row) => {
+            let line = line_of(form, &mut LineCount::new(), row)?;
+            Ok(line)
+        }
+        None => Ok(CsvLine {
+            number: 1,
+            separator: form.separator,
+            fields: ByteRecord::new(alloc),
+        }),
+    }
+}
+
+/// The heading of a text of this form, with its names by texts HEADING=COLUMN. Error: an allocation failed.
+fn heading_of(alloc: Global, maps: &[&str], form: Form<'_>) -> Result<Heading, AllocError>
+    ensures { IfOk result (λ heading. fields_of heading.line.fields
+        ≡ names_by (given_texts maps.now) (first_row (separated form.entry.separator) form.entry.text.now)) }
+{
+    let mut rows = rows_of(alloc, form);
+    let first = first_line(alloc, form, &mut rows);
+    // One call, instead of a drop of each of its parts.
+    std::mem::drop(rows);
+    let named = named_by(alloc, maps, &first?)?;
+    Ok(Heading::of(named))
+}
+
+/// Whether a row is one of data: it has as many fields as the heading, and a label.
+fn is_data(heading: &Heading, row: &CsvLine) -> bool
+    ensures { result ≡ is_data (fields_of heading.now.line.fields) (fields_of row.now.fields) }
+{
+    row.len() == heading.line.len() && label_in(heading.field_of(row, ImportColumn::Label)).is_some()
+}
+
+/// The line that was found, otherwise that of a row of data.
+fn found_at(found: Option<u64>, heading: &Heading, row: &CsvLine) -> Option<u64>
+    ensures { is_some result ≡ (is_some found || is_data (fields_of heading.now.line.fields) (fields_of row.now.fields)) }
+{
+    match found {
+        Some(line) => Some(line),
+        None if is_data(heading, row) => Some(row.number),
+        None => None,
+    }
+}
+
+/// The line on which the first row of data of a text begins. Error: an allocation failed.
+fn data_line(
+    heading: &Heading,
+    form: Form<'_>,
+    rows: &mut ByteRecordsIntoIter<&[u8]>,
+) -> Result<Option<u64>, AllocError>
+    requires before { HasRead form.separator form.text.now (owned_rows_reader rows.old) [] }
+    requires left { 0 < owned_rows_left rows.old }
+    ensures { IfOk result (λ line. is_some line
+        ≡ has_data (separated form.entry.separator) (fields_of heading.now.line.fields) form.entry.text.now) }
+{
+    let mut count = LineCount::new();
+    let mut found = None;
+    for row in rows {
+        let line = line_of(form, &mut count, row)?;
+        found = found_at(found, heading, &line);
+    }
+    Ok(found)
+}
+
+/// The line on which the first row of data above the heading begins, counted from 1. The form is that of the text. Error: an
+/// allocation failed.
+pub fn line_above(
+    alloc: Global,
+    maps: &[&str],
+    text: &[u8],
+    form: Form<'_>,
+) -> Result<Option<u64>, AllocError>
+    ensures { IfOk result (λ line. is_some line
+        ≡ has_data_above (separated form.entry.separator) (given_texts maps.now) form.entry.text.now text.now) }
+{
+    let heading = heading_of(alloc, maps, form)?;
+    let above = Form {
+        separator: form.separator,
+        text: text_before(form.text, text),
+    };
+    let mut rows = rows_of(alloc, above);
+    let line = data_line(&heading, above, &mut rows);
+    // One call each, instead of a drop of each of its parts.
+    std::mem::drop(rows);
+    std::mem::drop(heading);
+    line
+}
