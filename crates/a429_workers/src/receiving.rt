@@ -11,7 +11,7 @@ use a429_values::{Accept, Receiver};
 use thiserror::Error;
 
 /// How many words of a line a receiver accepted, and how many it refused for which reason.
-#[derive(Clone, Copy, PartialEq, Eq)]
+#[derive(Clone, Copy, Debug, PartialEq, Eq)]
 pub struct ReceiveTotals {
     pub accepted: u64,
     pub parity: u64,
