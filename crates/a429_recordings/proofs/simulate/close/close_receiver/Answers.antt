@@ -1,4 +1,4 @@
-use Rattle.std.proofs.Common.{◌≡◌, ◌<◌, ◌++◌, ◌∷◌, [], ℕ, List, get_or, take, subst, sym, arith}
+use Rattle.std.proofs.Common.{◌≡◌, ◌<◌, ◌≤◌, ◌++◌, ◌∷◌, [], ℕ, List, get_or, take, subst, sym, arith}
 use Rattle.std.specs.Prelude.{Some, slice_get}
 use Rattle.std.proofs.lemmas.Option.{slice_get-get_or}
 use Rattle.a429_word.proofs.Lists.{take_next}
@@ -24,5 +24,6 @@ loop-word-preserved c =
     let n : ℕ = c.loop-word.word-index in
     let w : LogWord = get_or words n no_word in
     let here : slice_get words n ≡ Some w = slice_get-get_or words n no_word c.loop-word-test.true in
+    let few : closest_after c.loop-word.runs w ≤ 100 = omega (arith, c.note_word.ensures.count, c.if-note_word-gt-MOST_CLOSE.false) in
     subst (λ (ws : List LogWord). KeepsRuns ws c.note_word.new.runs) (sym (take_next words n w here))
-    (subst (KeepsRuns (take n words ++ w ∷ [])) (sym c.note_word.ensures.runs) (runs_more (take n words) c.loop-word.runs w c.loop-word.invariant))
+    (subst (KeepsRuns (take n words ++ w ∷ [])) (sym c.note_word.ensures.runs) (runs_more (take n words) c.loop-word.runs w c.loop-word.invariant few))
