@@ -116,7 +116,11 @@ fn tell_value(column: &Column, row: &TableRow, found: Option<&Value>, hint: &Hin
         Some(rate) if column.key == "rate" => {
             hint.end_one("; the unit is bit/s: write {}", rate);
         }
-        _ => hint.end_two("; it must be {}{}", form(column), way_to_write(column, found)),
+        _ => hint.end_two(
+            "; it must be {}{}",
+            form(column),
+            way_to_write(column, found),
+        ),
     }
 }
 
@@ -163,7 +167,8 @@ fn tell_interval(row: &TableRow, hint: &HintText) {
 }
 
 /// What is wrong with a version after the first row.
-const LATE_VERSION: &str = "`version` is after a [[{}]] and so belongs to it: move it to the top of the table";
+const LATE_VERSION: &str =
+    "`version` is after a [[{}]] and so belongs to it: move it to the top of the table";
 
 /// Says which array has the version of a table, if a row has it instead of the top.
 fn tell_late_version(row: &TableRow, hint: &HintText) {

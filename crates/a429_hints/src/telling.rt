@@ -295,7 +295,7 @@ fn tell_order(asked: &Asked, looks: TableLook, hint: &HintText) {
             "each row begins with two brackets on each side: write [[receiver]], [[source]], [[group]] and [[group.output]]",
         ),
         TableLook::CurlyQuotes => return hint.say_line(
-            "a text has typographic quotes: write two plain ones, as in name = \"adc\"",
+            "a text has typographic quotes: write plain ones, for example name = \"adc\"",
         ),
         TableLook::Other => return,
     };

@@ -114,7 +114,9 @@ pub fn tell_filter(number: usize, text: &str, hint: &HintText) {
     if Label::parse(text.trim()).is_ok() {
         hint.say(" has no mask");
     } else {
-        hint.say(" must be LLL/MMM, a label and a mask of three octal digits each, such as 203/377");
+        hint.say(
+            " must be LLL/MMM, a label and a mask of three octal digits each, such as 203/377",
+        );
     }
     say_meant_filter(text, hint);
     hint.end("");

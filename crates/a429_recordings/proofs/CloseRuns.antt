@@ -147,7 +147,7 @@ other_more r words w other =
     filter_map-append (λ (v : LogWord). if v.receiver == r then Some v.time else None) words (w ∷ [])
     ∙ (ap (λ (ts : List ℕ). times_at r words ++ ts) (other_time r w [] other) ∙ append-nil (times_at r words))
 
--- what holds of the runs holds after one more word, if it does of the run of its receiver
+-- what is true of all runs is true after one more word too, if it is true of the run of its receiver
 all_more : (Holds : List ℕ → CloseRun → Type 0) (words : List LogWord) (runs : List CloseRun) (w : LogWord) → HoldsOfRuns Holds words runs
     → ((run : CloseRun) → slice_get runs w.receiver ≡ Some run → Holds (times_at w.receiver words ++ w.time ∷ []) (run_after run w.time)) → HoldsOfRuns Holds (words ++ w ∷ []) (runs_after runs w)
 all_more Holds words runs w K own_holds = by (slice_get runs w.receiver) refl
@@ -207,8 +207,8 @@ runs_more words runs w K few = record {
   many = many_more runs w K.many;
   keeps = all_more KeepsRun words runs w K.keeps (λ run there. run_more (times_at w.receiver words) run w.time (K.keeps w.receiver run there));
   counts = all_more CountsRun words runs w K.counts (λ run there.
-    let count : closest_after runs w ≡ (run_after run w.time).words = rw there refl in
-    counts_more (times_at w.receiver words) run w.time (K.counts w.receiver run there) (omega (arith, few, count)));
+      let count : closest_after runs w ≡ (run_after run w.time).words = rw there refl in
+      counts_more (times_at w.receiver words) run w.time (K.counts w.receiver run there) (omega (arith, few, count)));
 }
 
 -- ---- too many

@@ -50,7 +50,7 @@ pub record CountsRun (times : List ℕ) (run : CloseRun) : Type 0 where
   pub ends : (i n : ℕ) → i + n ≡ length times → AreCloseFrom times i n → n ≤ run.words
   pub last : (i t : ℕ) → i + 1 ≡ length times → slice_get times i ≡ Some t → t ≡ run.last
 
--- for each receiver this holds of the times of its words and of its run
+-- for each receiver this is true of the times of its words and its run
 abbrev pub HoldsOfRuns : (List ℕ → CloseRun → Type 0) → List LogWord → List CloseRun → Type 0
 HoldsOfRuns Holds words runs = (r : ℕ) (run : CloseRun) → slice_get runs r ≡ Some run → Holds (times_at r words) run
 
