@@ -1,5 +1,5 @@
 -- The last words at each receiver that follow each other closely, as they are counted.
-use Rattle.std.proofs.Common.{◌≡◌, ◌∙◌, ◌+◌, ◌-◌, ◌^◌, ◌<◌, ℕ, Bool, true, false, inl, inr, List, [], ◌∷◌, ◌++◌, length, length-append, take, drop, append_assoc, append-nil, ap, refl, sym, subst, arith}
+use Rattle.std.proofs.Common.{◌≡◌, ◌∙◌, ◌+◌, ◌-◌, ◌^◌, ◌<◌, ◌≤◌, ℕ, zero, suc, Bool, true, false, inl, inr, List, [], ◌∷◌, ◌++◌, length, length-append, take, drop, append_assoc, append-nil, ap, refl, sym, subst, arith}
 use Rattle.std.specs.Prelude.{◌==◌, Option, Some, None, if◌then◌else◌, min, nat_lt, slice_get, slice_set}
 use Rattle.std.proofs.lemmas.Bool.{cases_eq, cases_lt, eq-eqb, lt-ltb, ltb-true, ne_eqb}
 use Rattle.std.proofs.lemmas.List.{length-set, take-append-drop}
@@ -184,24 +184,6 @@ many_more runs w many = by (slice_get runs w.receiver) refl
         let after : runs_after runs w ≡ slice_set runs w.receiver (run_after old w.time) = rw there refl in
         ap length after ∙ (length-set runs w.receiver (run_after old w.time) ∙ many)
 
-pub none_kept : (runs : List CloseRun) → length runs ≡ 16 → ((r : ℕ) (run : CloseRun) → slice_get runs r ≡ Some run → run.words ≡ 0) → KeepsRuns [] runs
-none_kept runs many zeros = record {
-  many = many;
-  keeps = λ r run here. record {
-    before = [];
-    close = [];
-    all = refl;
-    are_close = λ i a b at next. absurd (none-some a at);
-    count = omega (arith, zeros r run here);
-    last = λ i u end at. absurd (none-some u at);
-  };
-  counts = λ r run here. record {
-    most = λ i n fits close. omega (arith, fits);
-    ends = λ i n end close. omega (arith, end);
-    last = λ i t end at. absurd (none-some t at);
-  };
-}
-
 pub runs_more : (words : List LogWord) (runs : List CloseRun) (w : LogWord) → KeepsRuns words runs → closest_after runs w ≤ 100 → KeepsRuns (words ++ w ∷ []) (runs_after runs w)
 runs_more words runs w K few = record {
   many = many_more runs w K.many;
@@ -253,19 +235,24 @@ in_front (z ∷ xs) ys zero x less here = here
 in_front (z ∷ xs) ys (suc k) x less here = in_front xs ys k x (omega (arith, less)) here
 
 after_front : (xs ys : List ℕ) (j k x : ℕ) → j ≡ length xs + k → slice_get (xs ++ ys) j ≡ Some x → slice_get ys k ≡ Some x
-after_front [] ys j k x place here = subst (λ (i : ℕ). slice_get ys i ≡ Some x) place here
+after_front [] ys j k x place here =
+    let same : j ≡ k = omega (arith, place) in
+    subst (λ (i : ℕ). slice_get ys i ≡ Some x) same here
 after_front (z ∷ xs) ys zero k x place here = absurd (omega (arith, place))
 after_front (z ∷ xs) ys (suc j) k x place here = after_front xs ys j k x (omega (arith, place)) here
 
 few_close : (times before close after : List ℕ) (run : CloseRun) → CountsRun times run → times ≡ before ++ close ++ after → AreClose close → length close ≤ 100
 few_close times before close after run C all close_ones =
     let many : length times ≡ length before + (length close + length after) =
-    ap length all ∙ (length-append before (close ++ after) ∙ ap (λ (k : ℕ). length before + k) (length-append close after)) in
+    ap length parts ∙ (length-append before (close ++ after) ∙ ap (λ (k : ℕ). length before + k) (length-append close after)) in
     C.most (length before) (length close) (omega (arith, many)) close_from
   where
+    parts : times ≡ before ++ (close ++ after)
+    parts = all ∙ append_assoc before close after
+
     at : (j k x : ℕ) → j ≡ length before + k → k < length close → slice_get times j ≡ Some x → slice_get close k ≡ Some x
     at j k x place inside here =
-        in_front close after k x inside (after_front before (close ++ after) j k x place (sym (ap (λ (ts : List ℕ). slice_get ts j) all) ∙ here))
+        in_front close after k x inside (after_front before (close ++ after) j k x place (sym (ap (λ (ts : List ℕ). slice_get ts j) parts) ∙ here))
 
     close_from : AreCloseFrom times (length before) (length close)
     close_from j t u low high here next =
