@@ -3,6 +3,8 @@ use Rattle.std.specs.Prelude.{◌≡◌, ◌<◌, ◌+◌, ◌-◌, ◌^◌, ◌
 use Rattle.a429_console.specs.declared.output.OutputFault.{OutputFault}
 use Rattle.a429_console.specs.declared.output.OutputFault.TheVariants as fault
 use Rattle.std.specs.Io.KnownBytes.{Appends, append_known}
+use Rattle.std.specs.declared.io.ErrorKind.{ErrorKind}
+use Rattle.std.specs.declared.io.ErrorKind.TheVariants.{BrokenPipe}
 
 -- what is known of the calls of an output that failed: how many, as far as 64 bits count, and whether the last found that the reader has closed it
 pub record FailedCalls : Type 0 where
@@ -16,6 +18,10 @@ calls_of count is_closed = record { count = count; is_closed = is_closed }
 abbrev pub is_closing : OutputFault → Bool
 is_closing fault.Closed = true
 is_closing fault.Failed = false
+
+-- the fault of a writer whose error has this kind: its reader has closed it if the kind is a broken pipe, and only then
+abbrev pub IsFaultOfKind : ErrorKind → OutputFault → Type 0
+IsFaultOfKind kind answer = (kind ≡ BrokenPipe → answer ≡ fault.Closed) × ((kind ≡ BrokenPipe → ⊥) → answer ≡ fault.Failed)
 
 -- a call failed so, and is counted; at the last value of 64 bits the count stays
 abbrev pub FailureIsCounted : OutputFault → FailedCalls → FailedCalls → Type 0

@@ -1,7 +1,8 @@
 //! What takes the lines of a command.
-ghost use Rattle.std.specs.Prelude.{◌≡◌, ◌<◌, List, ℕ, Bool, Option, Err, OnOk, IsErr, IsTrue};
+ghost use Rattle.std.specs.Prelude.{◌≡◌, ◌<◌, List, ℕ, Bool, Option, Err, OnOk, IfErr, IsErr, IsTrue};
 ghost use Rattle.std.specs.Io.KnownBytes.{Appends, Keeps};
-ghost use Rattle.a429_console.specs.Outputs.{CountsFault, FailedCalls, FailureIsCounted, calls_of};
+ghost use Rattle.std.specs.IoError.{error_kind};
+ghost use Rattle.a429_console.specs.Outputs.{CountsFault, FailedCalls, FailureIsCounted, IsFaultOfKind, calls_of};
 
 pub mod endings;
 
@@ -18,6 +19,18 @@ pub enum OutputFault {
     /// Another cause.
     #[error("the output failed")]
     Failed,
+}
+
+impl OutputFault {
+    /// The fault of a writer that answered this error: `Closed` if and only if its kind is `BrokenPipe`.
+    pub fn of(error: &io::Error) -> OutputFault
+        ensures { IsFaultOfKind (error_kind error.now) result }
+    {
+        match error.kind() {
+            ErrorKind::BrokenPipe => OutputFault::Closed,
+            _ => OutputFault::Failed,
+        }
+    }
 }
 
 /// What takes the lines of a command. After a call failed, it takes nothing more: each later call fails too.
@@ -118,15 +131,13 @@ impl<W: Flushing> CountedWriter<W> {
     fn answer(&mut self, answer: io::Result<()>) -> Result<(), OutputFault>
         ensures writer { self.new.writer ≡ self.old.writer }
         ensures failed { IsErr answer → IsErr result }
+        ensures cause { IfErr answer (λ error. IfErr result (IsFaultOfKind (error_kind error))) }
         ensures faults { CountsFault result (calls_of self.old.failures self.old.is_closed)
             (calls_of self.new.failures self.new.is_closed) }
     {
         match answer {
             Ok(()) => Ok(()),
-            Err(error) => match error.kind() {
-                ErrorKind::BrokenPipe => self.fail(OutputFault::Closed),
-                _ => self.fail(OutputFault::Failed),
-            },
+            Err(error) => self.fail(OutputFault::of(&error)),
         }
     }
 }

@@ -1,6 +1,6 @@
 //! Hints about a line of a plan text: what was found, and what was expected.
 
-use crate::files::REFUSED_OUTPUT;
+use crate::files::{REFUSED_OUTPUT, other_file};
 use crate::hint::HintText;
 use crate::reasons::meaning;
 use a429_console::answered::Objection;
@@ -11,6 +11,9 @@ pub fn tell_objection(text: &[u8], objection: &Objection, hint: &HintText) {
     hint.turn_to_line(objection.line);
     if text.starts_with(b"refused ") {
         return hint.say_line(REFUSED_OUTPUT);
+    }
+    if let Some(advice) = other_file(text) {
+        return hint.say_line(advice);
     }
     let rest = lines_from(text, objection.line);
     let found = text_of_line(rest);
@@ -41,6 +44,9 @@ fn tell_form(rest: &[u8], found: &str, expected: &str, hint: &HintText) {
     hint.begin(": ");
     if expected.is_empty() {
         return hint.end("the text must end before this line");
+    }
+    if found.starts_with('\u{feff}') {
+        return hint.end("the file begins with a byte order mark: save it as UTF-8 without one");
     }
     if rest.is_empty() {
         hint.say("the line is missing; ");

@@ -23,41 +23,94 @@ pub fn tell_difference(table: &str, running: &Equipment, other: &Equipment, hint
     hint.end("its rows differ");
 }
 
-/// Says both numbers if they differ, and answers whether they do.
-fn tell_count(what: &str, running: usize, other: usize, hint: &HintText) -> bool {
-    if running == other {
-        return false;
-    }
-    hint.say_two("{} {}", other, what);
-    hint.end_one(" in the new table, and {} in the first table", running);
-    true
+/// A row with a name.
+trait Named {
+    fn name(&self) -> Name;
 }
 
-/// Says both names of a row if they differ, and answers whether they do.
-fn tell_name(kind: &str, place: usize, own: Name, found: Name, hint: &HintText) -> bool {
-    let (own, found) = (own.as_str(), found.as_str());
-    if own == found {
-        return false;
+impl Named for ReceiverRow {
+    fn name(&self) -> Name {
+        self.name
     }
-    hint.say_two("{} {}", kind, place);
-    hint.end_two(
-        " is {?} in the new table, and {?} in the first table",
-        found,
-        own,
-    );
-    true
+}
+
+impl Named for SourceRow {
+    fn name(&self) -> Name {
+        self.name
+    }
+}
+
+impl Named for GroupRow {
+    fn name(&self) -> Name {
+        self.name
+    }
+}
+
+/// Whether one of these rows has a name.
+fn has_row<N: Named>(rows: &[N], name: Name) -> bool {
+    for row in rows {
+        if row.name().as_str() == name.as_str() {
+            return true;
+        }
+    }
+    false
+}
+
+/// The name of the first of these rows that the others do not have. `None` if they have all.
+fn absent_row<N: Named>(rows: &[N], others: &[N]) -> Option<Name> {
+    for row in rows {
+        if !has_row(others, row.name()) {
+            return Some(row.name());
+        }
+    }
+    None
+}
+
+/// Says which row one table has and the other one does not, or which row is at another place, and answers whether there is
+/// one.
+fn tell_rows<N: Named>(kind: &str, running: &[N], other: &[N], hint: &HintText) -> bool {
+    if let Some(name) = absent_row(running, other) {
+        hint.say_two("{} {} is in the first table, ", kind, name.as_str());
+        hint.end("and not in the new table");
+        return true;
+    }
+    if let Some(name) = absent_row(other, running) {
+        hint.say_two("{} {} is in the new table, ", kind, name.as_str());
+        hint.end("and not in the first table");
+        return true;
+    }
+    tell_order(kind, running, other, hint)
+}
+
+/// Says which row is the first at another place, and answers whether there is one. Both tables have the same names.
+fn tell_order<N: Named>(kind: &str, running: &[N], other: &[N], hint: &HintText) -> bool {
+    for (place, (own, found)) in running.iter().zip(other).enumerate() {
+        let (own, found) = (own.name(), found.name());
+        if own.as_str() != found.as_str() {
+            hint.say_two("{} {}", kind, place);
+            hint.say_two(
+                " is {?} in the new table, and {?} in the first table: ",
+                found.as_str(),
+                own.as_str(),
+            );
+            hint.end("keep their order");
+            return true;
+        }
+    }
+    false
 }
 
 /// Says which receiver differs first, in its name or its filters, and answers whether one does.
 fn tell_receivers(running: &[ReceiverRow], other: &[ReceiverRow], hint: &HintText) -> bool {
-    for (place, (own, found)) in running.iter().zip(other).enumerate() {
-        if tell_name("receiver", place, own.name, found.name, hint)
-            || tell_filters(own, found, hint)
-        {
+    if tell_rows("receiver", running, other, hint) {
+        return true;
+    }
+    for (own, found) in running.iter().zip(other) {
+        if tell_filters(own, found, hint) {
             return true;
         }
     }
-    tell_count("receivers", running.len(), other.len(), hint)
+    false
 }
 
 /// Says both lists of filters of a receiver if they differ, and answers whether they do.
@@ -97,25 +150,24 @@ fn say_filters(filters: &FilterSet, hint: &HintText) {
 /// Says which source differs first, and answers whether one does.
 fn tell_sources(running: &Equipment, other: &Equipment, hint: &HintText) -> bool {
     let (own, found) = (running.sources(), other.sources());
-    for (place, (a, b)) in own.iter().zip(found).enumerate() {
-        if tell_source(running.receivers(), place, a, b, hint) {
+    if tell_rows("source", own, found, hint) {
+        return true;
+    }
+    for (a, b) in own.iter().zip(found) {
+        if tell_source(running.receivers(), a, b, hint) {
             return true;
         }
     }
-    tell_count("sources", own.len(), found.len(), hint)
+    false
 }
 
 /// Says in what a source differs, and answers whether it does.
 fn tell_source(
     receivers: &[ReceiverRow],
-    place: usize,
     own: &SourceRow,
     found: &SourceRow,
     hint: &HintText,
 ) -> bool {
-    if tell_name("source", place, own.name, found.name, hint) {
-        return true;
-    }
     if own.receiver == found.receiver && own.label == found.label && own.sdi == found.sdi {
         return false;
     }
@@ -153,12 +205,15 @@ fn receiver_name<'a>(receivers: &'a [ReceiverRow], number: usize) -> &'a str {
 
 /// Says which group differs first, in its name or its bit rate, and answers whether one does.
 fn tell_groups(running: &[GroupRow], other: &[GroupRow], hint: &HintText) -> bool {
-    for (place, (own, found)) in running.iter().zip(other).enumerate() {
-        if tell_name("group", place, own.name, found.name, hint) || tell_rate(own, found, hint) {
+    if tell_rows("group", running, other, hint) {
+        return true;
+    }
+    for (own, found) in running.iter().zip(other) {
+        if tell_rate(own, found, hint) {
             return true;
         }
     }
-    tell_count("groups", running.len(), other.len(), hint)
+    false
 }
 
 /// Says both bit rates of a group if they differ, and answers whether they do.

@@ -2,9 +2,11 @@
 
 use crate::hint::{HintText, LINES};
 use crate::keys::{form, is_faulty, kilobits};
+use crate::lists::{LISTED, say_more};
 use crate::nearest::Nearest;
 use crate::rows::{TableRow, rows_at, say_found, say_row, short_text, text_at};
 use crate::twins::twin_of;
+use crate::words::say_meant_filter;
 use a429_equipment::TableVersion;
 use a429_filter::Filter;
 use a429_table::{
@@ -54,21 +56,31 @@ fn tell_row(kind: FaultKind, row: &TableRow, hint: &HintText) {
     match kind {
         FaultKind::UnknownKey => tell_unknown_keys(row, hint),
         FaultKind::UnknownName => tell_unknown_name(row, hint),
-        FaultKind::DuplicateName => tell_twin(kind, "have the same name", row, hint),
-        FaultKind::DuplicateSource => tell_twin(kind, SAME_SOURCE, row, hint),
-        FaultKind::DuplicateOutput => tell_twin(kind, "send the same label and SDI", row, hint),
+        FaultKind::DuplicateName | FaultKind::DuplicateSource | FaultKind::DuplicateOutput => {
+            tell_twin(kind, row, hint);
+        }
         FaultKind::Interval => tell_interval(row, hint),
         _ => tell_values(kind, row, hint),
     }
 }
 
-/// Says with which earlier row a row clashes, and in what.
-fn tell_twin(kind: FaultKind, what: &str, row: &TableRow, hint: &HintText) {
-    if let Some(twin) = twin_of(row, kind) {
-        begin_row(row, hint);
-        hint.say(" and ");
-        say_row(&twin, hint);
-        hint.end_one(" {}", what);
+/// Says with which earlier row a row clashes, in what, and what to do.
+fn tell_twin(kind: FaultKind, row: &TableRow, hint: &HintText) {
+    let Some(twin) = twin_of(row, kind) else {
+        return;
+    };
+    begin_row(row, hint);
+    hint.say(" and ");
+    say_row(&twin, hint);
+    match kind {
+        FaultKind::DuplicateName => hint.end(" have the same name; rename one of them"),
+        FaultKind::DuplicateSource => hint.end_one(
+            " {}; give them different SDIs, neither of them \"any\", or remove one",
+            SAME_SOURCE,
+        ),
+        _ => hint.end(
+            " send the same label and SDI; remove one of them, send it in another group, or give its source another SDI",
+        ),
     }
 }
 
@@ -104,7 +116,20 @@ fn tell_value(column: &Column, row: &TableRow, found: Option<&Value>, hint: &Hin
         Some(rate) if column.key == "rate" => {
             hint.end_one("; the unit is bit/s: write {}", rate);
         }
-        _ => hint.end_one("; it must be {}", form(column)),
+        _ => hint.end_two(
+            "; it must be {}{}",
+            form(column),
+            way_to_write(column, found),
+        ),
+    }
+}
+
+/// How to write a value instead, if its kind shows what was meant.
+fn way_to_write(column: &Column, found: Option<&Value>) -> &'static str {
+    match (found, column.shape) {
+        (Some(Value::Float(_)), Shape::Integer) => ", without a decimal point",
+        (Some(Value::Table(_)), Shape::Tables) => ", with two brackets on each side",
+        _ => "",
     }
 }
 
@@ -141,21 +166,27 @@ fn tell_interval(row: &TableRow, hint: &HintText) {
     }
 }
 
+/// What is wrong with a version after the first row.
+const LATE_VERSION: &str =
+    "`version` is after a [[{}]] and so belongs to it: move it to the top of the table";
+
 /// Says which array has the version of a table, if a row has it instead of the top.
 fn tell_late_version(row: &TableRow, hint: &HintText) {
     for key in ["receiver", "source", "group"] {
-        if has_version_in(row.root, key) {
-            return hint.line_one(
-                "`version` is after a [[{}]] and so belongs to it: move it to the top of the table",
-                key,
-            );
+        if have_version(rows_at(row.root, key)) {
+            return hint.line_one(LATE_VERSION, key);
+        }
+    }
+    for group in rows_at(row.root, "group") {
+        if have_version(rows_at(group, "output")) {
+            return hint.line_one(LATE_VERSION, "group.output");
         }
     }
 }
 
-/// Whether a row of the array at a key has a key `version`.
-fn has_version_in(root: &Value, key: &str) -> bool {
-    for row in rows_at(root, key) {
+/// Whether one of these rows has a key `version`.
+fn have_version(rows: &[Value]) -> bool {
+    for row in rows {
         if row.get("version").is_some() {
             return true;
         }
@@ -170,9 +201,13 @@ fn tell_filter(kind: FaultKind, row: &TableRow, hint: &HintText) {
             begin_row(row, hint);
             hint.say_one(": filter {}", number.saturating_add(1));
             say_found(" is ", Some(filter), hint);
-            return hint.end(
+            hint.say(
                 "; it must be a text LLL/MMM, label and mask, each three octal digits from 000 to 377",
             );
+            if let Value::String(text) = filter {
+                say_meant_filter(text.as_str(), hint);
+            }
+            return hint.end("");
         }
     }
 }
@@ -209,7 +244,7 @@ fn tell_unknown_key(version: TableVersion, row: &TableRow, key: &str, hint: &Hin
     for column in columns_of(version, row.place) {
         hint.say_one(" `{}`", column.key);
     }
-    match where_it_belongs(row.place, key) {
+    match where_it_belongs(version, row.place, key) {
         Some(place) => hint.end_one("; {}", place),
         None => say_nearest_key(version, row.place, key, hint),
     }
@@ -227,7 +262,7 @@ fn say_nearest_key(version: TableVersion, place: TablePlace, key: &str, hint: &H
 }
 
 /// The right place of a key that this row must not have in the version of its table. `None` if no row has the key.
-fn where_it_belongs(place: TablePlace, key: &str) -> Option<&'static str> {
+fn where_it_belongs(version: TableVersion, place: TablePlace, key: &str) -> Option<&'static str> {
     match place {
         _ if key == "version" => Some(
             "`version` belongs to the top of the table, before the first [[..]]",
@@ -237,8 +272,17 @@ fn where_it_belongs(place: TablePlace, key: &str) -> Option<&'static str> {
         ),
         TablePlace::Root if key == "rate" => Some("in version 2 each [[group]] has its own `rate`"),
         TablePlace::Group(_) if key == "rate" => Some("`rate` of a group needs version = 2"),
+        _ if key == "rate" => Some(place_of_rate(version)),
         TablePlace::Output(_, _) if key == "hold" => Some("`hold` needs version = 2"),
         _ => None,
+    }
+}
+
+/// The place of the bit rate in a version.
+fn place_of_rate(version: TableVersion) -> &'static str {
+    match version {
+        TableVersion::One => "`rate` belongs to the top of the table, before the first [[..]]",
+        TableVersion::Two => "`rate` belongs to a [[group]], before its first [[group.output]]",
     }
 }
 
@@ -251,7 +295,7 @@ fn has_key(version: TableVersion, place: TablePlace, text: &str) -> bool {
     false
 }
 
-/// Says which name of a row is unknown, and which name is the nearest.
+/// Says which name of a row is unknown, which name is the nearest, and which names there are.
 fn tell_unknown_name(row: &TableRow, hint: &HintText) {
     let key = match row.place {
         TablePlace::Source(_) => "receiver",
@@ -261,10 +305,24 @@ fn tell_unknown_name(row: &TableRow, hint: &HintText) {
     let name = name.as_str();
     begin_row(row, hint);
     hint.say_two(": no {} has the name {?}", key, name);
+    let rows = rows_at(row.root, key);
     let mut nearest = Nearest::to(name);
-    for other in rows_at(row.root, key) {
+    for other in rows {
         nearest = nearest.or(hint.alloc, text_at(other, "name"));
     }
     nearest.tell("; the nearest is {}", hint);
+    say_names(key, rows, hint);
     hint.end("");
+}
+
+/// Says the names of these rows, the first ones if there are many.
+fn say_names(kind: &str, rows: &[Value], hint: &HintText) {
+    if rows.is_empty() {
+        return hint.say("; the table has none");
+    }
+    hint.say_one("; the {}s are", kind);
+    for row in rows.iter().take(LISTED) {
+        hint.say_one(" {}", text_at(row, "name"));
+    }
+    say_more(rows.len(), hint);
 }

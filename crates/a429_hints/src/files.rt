@@ -7,6 +7,9 @@ use a429_console::files::FileTrouble;
 pub const REFUSED_OUTPUT: &str =
     "this is the output of a command that refused its file; correct that, and run the command again";
 
+/// The hint about a file in UTF-16.
+pub const UTF_16: &str = "the file is UTF-16; save it as UTF-8";
+
 /// Says why the file of this name cannot be read.
 pub fn tell_trouble(trouble: FileTrouble, name: &str, hint: &HintText) {
     hint.turn_to(name);
@@ -68,7 +71,7 @@ pub fn other_file(bytes: &[u8]) -> Option<&'static str> {
         }
     }
     match bytes.get(1) {
-        Some(0) => Some("the file is UTF-16; save it as UTF-8"),
+        Some(0) => Some(UTF_16),
         _ => None,
     }
 }

@@ -8,12 +8,19 @@ static ADVICE: [&str; 8] = [
     "unfit: no transmit period lies within the interval, so the table has no plan: `a429 plan` prints intervals that work",
     "too-many-buses: a group can have at most 16 buses, so the table has no plan: give some of its outputs a longer max_us, or move them to another group",
     "unheard: no filter of the receiver passes the source's label, so its words are never accepted: add a filter LLL/377, or remove the filters",
-    "unsent: no group sends the source: add an output, or remove the source",
+    "unsent: no group sends the source: add an output, or remove the source, which makes another station",
     "idle: the receiver has no source, so its words are never accepted: add a source, or remove the receiver",
     "blind: the filter passes no label of the receiver's sources: correct it, or remove it",
     "alike: two outputs send the same label, one of them with sdi = \"any\", so an LRU cannot always distinguish them: give both sources a number as `sdi`, or send them in two groups",
     "full: the group's buses have no empty cell, so one more output needs one more bus: `a429 margin` prints what would free cells",
 ];
+
+/// The kinds of findings that can be corrected in receivers, filters or sources.
+static STATION_KINDS: [&str; 5] = ["unheard", "unsent", "idle", "blind", "alike"];
+
+/// What such a correction means for a station that runs.
+const OTHER_STATION: &str =
+    "a table with other receivers, filters, sources or groups is one of another station: a station that runs takes no plan of it";
 
 /// Whether a row has this kind in its first column.
 fn has_row(rows: &Rows, kind: &str) -> bool {
@@ -35,4 +42,17 @@ pub fn tell_findings(rows: &Rows, hint: &HintText) {
             hint.say_line(*advice);
         }
     }
+    if has_one_of(rows, &STATION_KINDS) {
+        hint.say_line(OTHER_STATION);
+    }
+}
+
+/// Whether a row has one of these kinds.
+fn has_one_of(rows: &Rows, kinds: &[&'static str]) -> bool {
+    for kind in kinds {
+        if has_row(rows, kind) {
+            return true;
+        }
+    }
+    false
 }

@@ -26,7 +26,7 @@ static VALUES: [&str; 11] = [
     "source: a text, the name of a source",
     "min_us: an integer from 1 to max_us (microseconds)",
     "max_us: an integer from min_us to 30000000 (microseconds)",
-    "hold: an integer from 1 to 1000000",
+    "hold: an integer from 1 to 1000000; without a limit leave the key out",
 ];
 
 /// What must be at a key.

@@ -4,7 +4,7 @@ use crate::checks::tell_objection;
 use crate::clocks::{tell_apart, tell_clocks};
 use crate::differences::tell_difference;
 use crate::faults::tell_table_fault;
-use crate::files::{REFUSED_OUTPUT, tell_trouble};
+use crate::files::{REFUSED_OUTPUT, UTF_16, tell_trouble};
 use crate::findings::tell_findings;
 use crate::hint::HintText;
 use crate::imports::{tell_rows, tell_short_intervals};
@@ -290,6 +290,13 @@ fn tell_order(asked: &Asked, looks: TableLook, hint: &HintText) {
             "these are rows for import; write a429 import FILE >table.toml, and name table.toml here",
         ),
         TableLook::Refusal => return hint.say_line(REFUSED_OUTPUT),
+        TableLook::Utf16 => return hint.say_line(UTF_16),
+        TableLook::SingleBrackets => return hint.say_line(
+            "each row begins with two brackets on each side: write [[receiver]], [[source]], [[group]] and [[group.output]]",
+        ),
+        TableLook::CurlyQuotes => return hint.say_line(
+            "a text has typographic quotes: write plain ones, for example name = \"adc\"",
+        ),
         TableLook::Other => return,
     };
     hint.begin(": ");

@@ -3,7 +3,7 @@
 use crate::hint::HintText;
 use a429_arguments::requests::FieldOptions;
 use a429_console::refusals::evidence::LineEvidence;
-use a429_filter::FILTERS;
+use a429_filter::{FILTERS, Filter};
 use a429_word::{Label, Word, raw_word};
 
 /// Says what is wrong with the text of a word.
@@ -90,8 +90,14 @@ pub fn tell_data_text(fields: &FieldOptions, hint: &HintText) {
 /// Says which BNR numbers have at most this number of bits below their sign.
 fn tell_bnr_text(text: &str, bits: u32, hint: &HintText) {
     let most: u64 = 1 << bits.min(18);
-    let form = "--bnr {?} is not a whole number from -{} to {}";
-    hint.line_three(form, text, most, most - 1);
+    hint.begin(": ");
+    hint.say_two("--bnr {?} is not a whole number from -{}", text, most);
+    let remedy = if text.starts_with('+') {
+        "; write it without a plus sign"
+    } else {
+        ""
+    };
+    hint.end_two(" to {}{}", most - 1, remedy);
 }
 
 /// Says what is wrong with a filter. Filters are numbered from 1.
@@ -105,14 +111,26 @@ pub fn tell_filter(number: usize, text: &str, hint: &HintText) {
     }
     hint.begin(": ");
     hint.say_two("filter {}: {?}", number, text);
-    match Label::parse(text) {
-        Ok(label) => {
-            hint.say_value(" has no mask; ", label);
-            hint.end("/377 passes only this label");
-        }
-        Err(_) => hint.end(
+    if Label::parse(text.trim()).is_ok() {
+        hint.say(" has no mask");
+    } else {
+        hint.say(
             " must be LLL/MMM, a label and a mask of three octal digits each, such as 203/377",
-        ),
+        );
+    }
+    say_meant_filter(text, hint);
+    hint.end("");
+}
+
+/// Says which filter a text may mean, if it is one with blanks around it, or a label without a mask.
+pub fn say_meant_filter(text: &str, hint: &HintText) {
+    let text = text.trim();
+    if Filter::parse(text).is_ok() {
+        return hint.say_one("; write {}, without blanks", text);
+    }
+    if let Ok(label) = Label::parse(text) {
+        hint.say_value("; ", label);
+        hint.say("/377 passes only this label");
     }
 }
 
@@ -122,6 +140,10 @@ pub fn tell_line_byte(line: &LineEvidence, byte: u8, hint: &HintText) {
     hint.say_one("{}", line.bytes.len().saturating_add(1));
     if byte == b'\r' {
         hint.end(": a carriage return: save the file with line feeds only");
+        return;
+    }
+    if byte == 0xEF && line.number == 1 && line.bytes.is_empty() {
+        hint.end(": the file begins with a byte order mark: save it without one");
         return;
     }
     match byte {

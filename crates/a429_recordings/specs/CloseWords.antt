@@ -12,9 +12,9 @@ times_at r words = filter_map (λ w. if w.receiver == r then Some w.time else No
 abbrev pub AreClose : List ℕ → Type 0
 AreClose times = (i t u : ℕ) → slice_get times i ≡ Some t → slice_get times (i + 1) ≡ Some u → u < t + 360
 
--- at no receiver do more than 100 words in a row come so closely
+-- at no receiver, of the 16 that a table has at most, do more than 100 words in a row come so closely
 abbrev pub AreSpaced : List LogWord → Type 0
-AreSpaced words = (r : ℕ) (before close after : List ℕ) → times_at r words ≡ before ++ close ++ after → AreClose close → length close ≤ 100
+AreSpaced words = (r : ℕ) (before close after : List ℕ) → r < 16 → times_at r words ≡ before ++ close ++ after → AreClose close → length close ≤ 100
 
 -- ---- as it is kept
 
@@ -40,6 +40,22 @@ pub record KeepsRun (times : List ℕ) (run : CloseRun) : Type 0 where
   pub count : run.words ≤ length close
   pub last : (i t : ℕ) → i + 1 ≡ length close → slice_get close i ≡ Some t → t ≡ run.last
 
--- so are those of each receiver
-abbrev pub KeepsRuns : List LogWord → List CloseRun → Type 0
-KeepsRuns words runs = (r : ℕ) (run : CloseRun) → slice_get runs r ≡ Some run → KeepsRun (times_at r words) run
+-- of these times, n from place i on come closely
+abbrev pub AreCloseFrom : List ℕ → ℕ → ℕ → Type 0
+AreCloseFrom times i n = (j t u : ℕ) → i ≤ j → j + 1 < i + n → slice_get times j ≡ Some t → slice_get times (j + 1) ≡ Some u → u < t + 360
+
+-- no more than 100 of these times come closely, and no more at their end than are kept; the last of them is kept
+pub record CountsRun (times : List ℕ) (run : CloseRun) : Type 0 where
+  pub most : (i n : ℕ) → i + n ≤ length times → AreCloseFrom times i n → n ≤ 100
+  pub ends : (i n : ℕ) → i + n ≡ length times → AreCloseFrom times i n → n ≤ run.words
+  pub last : (i t : ℕ) → i + 1 ≡ length times → slice_get times i ≡ Some t → t ≡ run.last
+
+-- for each receiver this is true of the times of its words and its run
+abbrev pub HoldsOfRuns : (List ℕ → CloseRun → Type 0) → List LogWord → List CloseRun → Type 0
+HoldsOfRuns Holds words runs = (r : ℕ) (run : CloseRun) → slice_get runs r ≡ Some run → Holds (times_at r words) run
+
+-- the runs of the 16 receivers after these words, of which none came too closely
+pub record KeepsRuns (words : List LogWord) (runs : List CloseRun) : Type 0 where
+  pub many : length runs ≡ 16
+  pub keeps : HoldsOfRuns KeepsRun words runs
+  pub counts : HoldsOfRuns CountsRun words runs

@@ -224,6 +224,12 @@ pub enum TableLook {
     /// The line of a refusal.
     Refusal,
     Log,
+    /// A text in UTF-16.
+    Utf16,
+    /// A table with a header such as `[source]`, which has two brackets on each side.
+    SingleBrackets,
+    /// A table whose reader stopped at a line with typographic quotes.
+    CurlyQuotes,
     Other,
 }
 
@@ -240,10 +246,74 @@ impl TableLook {
             TableLook::Rows
         } else if let [b'0'..=b'9', ..] = last_stated(text) {
             TableLook::Log
+        } else if is_utf16(text) {
+            TableLook::Utf16
         } else {
             TableLook::Other
         }
     }
+
+    /// By the text as a whole, otherwise by the line of it at which the reader of TOML stopped.
+    fn of_refused(text: &[u8], document: &Option<RefusedTable>) -> TableLook {
+        match (TableLook::of(text), document) {
+            (TableLook::Other, Some(RefusedTable::NotToml(error))) => {
+                TableLook::of_stop(text, error.span().map_or(0, |span| span.start))
+            }
+            (look, _) => look,
+        }
+    }
+
+    /// By its lines, if the reader of TOML stopped at this place.
+    fn of_stop(text: &[u8], stop: usize) -> TableLook {
+        if has_curly_quote(line_at(text, stop)) {
+            TableLook::CurlyQuotes
+        } else if has_single_brackets(text) {
+            TableLook::SingleBrackets
+        } else {
+            TableLook::Other
+        }
+    }
+}
+
+/// Whether a text is in UTF-16: by its byte order mark, or because the second byte of its first letter is 0.
+fn is_utf16(text: &[u8]) -> bool {
+    text.starts_with(b"\xFF\xFE") || text.starts_with(b"\xFE\xFF") || text.get(1) == Some(&0)
+}
+
+/// The line of a text that has this place.
+fn line_at(text: &[u8], place: usize) -> &[u8] {
+    let mut end: usize = 0;
+    for line in text.split(|byte| *byte == b'\n') {
+        end = end.saturating_add(line.len()).saturating_add(1);
+        if place < end {
+            return line;
+        }
+    }
+    &[]
+}
+
+/// Whether a line has a quote that is none of TOML: U+2018 to U+201F, in UTF-8.
+fn has_curly_quote(line: &[u8]) -> bool {
+    for place in 0..line.len() {
+        if let Some([0xE2, 0x80, 0x98..=0x9F, ..]) = line.get(place..) {
+            return true;
+        }
+    }
+    false
+}
+
+/// Whether a line of a text is the header of a row of an array, but with one bracket on each side.
+fn has_single_brackets(text: &[u8]) -> bool {
+    for line in text.split(|byte| *byte == b'\n') {
+        if line.starts_with(b"[receiver]")
+            || line.starts_with(b"[source]")
+            || line.starts_with(b"[group]")
+            || line.starts_with(b"[group.output]")
+        {
+            return true;
+        }
+    }
+    false
 }
 
 /// Whether a text begins with an event of a script.
@@ -298,7 +368,7 @@ impl TableEvidence {
     /// A text that is refused as a table, and its document if it has one.
     pub fn of_text(text: &[u8], document: Option<RefusedTable>) -> TableEvidence {
         TableEvidence {
-            looks: TableLook::of(text),
+            looks: TableLook::of_refused(text, &document),
             document,
             equipment: None,
         }

@@ -48,9 +48,10 @@ fn note_word(runs: &mut [CloseRun], word: LogWord) -> u64
 }
 
 /// The receiver to which the words of a log are the first to come too closely: more than 100 in a row, each less than a
-/// word time after the one before. `None` if there is none.
+/// word time after the one before. `None` if and only if there is none.
 pub fn close_receiver(words: &[LogWord]) -> Option<u8>
-    ensures { AreSpaced words.now → IsNone result }
+    ensures none { AreSpaced words.now → IsNone result }
+    ensures spaced { IsNone result → AreSpaced words.now }
 {
     let mut runs = [CloseRun { words: 0, last: 0 }; RECEIVERS];
     for word in words {
