@@ -119,7 +119,7 @@ fn tell_warning(asked: &Asked, warning: &Warning, hint: &HintText) {
 /// Says why a further table is refused: the same hint as for a first table, or in what its station differs.
 fn tell_further_fault(asked: &Asked, fault: &FurtherFault, hint: &HintText) {
     match &fault.cause {
-        FurtherCause::Fault(kind) => tell_fault(asked, *kind, &fault.table, hint),
+        FurtherCause::Fault(kind) => tell_further_table(asked, fault, *kind, hint),
         FurtherCause::Unfit => tell_unfit_of_table(&fault.table, hint),
         FurtherCause::TooManyBuses { group, needed } => {
             tell_fewer_buses(group.as_str(), *needed, hint);
@@ -128,6 +128,15 @@ fn tell_further_fault(asked: &Asked, fault: &FurtherFault, hint: &HintText) {
             tell_difference(table_name(asked), running, other, hint);
         }
     }
+}
+
+/// Says what is wrong with a further table. Of a large one nothing is kept, and the hint names the command that says it.
+fn tell_further_table(asked: &Asked, fault: &FurtherFault, kind: FaultKind, hint: &HintText) {
+    if fault.table.document.is_none() {
+        let name = nth(&asked.more, fault.number);
+        return hint.line_one("a429 plan {..} says what is wrong", name);
+    }
+    tell_fault(asked, kind, &fault.table, hint);
 }
 
 /// Says what is wrong with what a command was asked for.
