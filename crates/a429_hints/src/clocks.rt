@@ -1,6 +1,7 @@
 //! Hints about two logs of `judge` that do not fit together.
 
 use crate::hint::HintText;
+use a429_logs::TimeUnit;
 use a429_text::{Sheet, SheetForm};
 
 /// Says that a log has no time in common with that of the words that came in.
@@ -14,44 +15,97 @@ pub fn tell_apart(heard: &str, hint: &HintText) {
 /// A box with fewer sends says nothing of clocks.
 const FEWEST_SENDS: u64 = 4;
 
-/// How many sends have a known word, how many of these are not right, and how many sends come at a wrong interval. How many
-/// outputs send, and how many of them fall silent.
+/// How many words the outputs sent, how many of these are known, how many known ones are not right, and how many come too soon
+/// or too late. How many outputs send, how many of them fall silent, and how many words are of no output.
 #[derive(Clone, Copy)]
 struct Sends {
+    sent: u64,
     known: u64,
     wrong: u64,
-    unsteady: u64,
+    soon: u64,
+    late: u64,
     outputs: u64,
     silent: u64,
+    foreign: u64,
 }
 
 const NO_SENDS: Sends = Sends {
+    sent: 0,
     known: 0,
     wrong: 0,
-    unsteady: 0,
+    soon: 0,
+    late: 0,
     outputs: 0,
     silent: 0,
+    foreign: 0,
 };
 
-/// The sends of a row. `None` if it is no row of an output.
-fn sends_of(heading: &str, row: &str) -> Option<Sends> {
+/// The sends of a row. That of words of no output has their number alone.
+fn sends_of(heading: &str, row: &str) -> Sends {
     let mut sends = NO_SENDS;
-    let mut found: usize = 0;
     for (column, field) in heading.split(',').zip(row.split(',')) {
         let Ok(number) = field.parse::<u64>() else {
+            if column == "known" {
+                return Sends {
+                    foreign: sends.sent,
+                    ..NO_SENDS
+                };
+            }
             continue;
         };
         match column {
-            "sent" => sends.outputs = number.min(1),
+            "sent" => {
+                sends.sent = number;
+                sends.outputs = number.min(1);
+            }
             "known" => sends.known = number,
             "wrong" | "stale" => sends.wrong = sends.wrong.saturating_add(number),
-            "soon" | "late" => sends.unsteady = sends.unsteady.saturating_add(number),
+            "soon" => sends.soon = number,
+            "late" => sends.late = number,
             "silent" => sends.silent = number,
-            _ => continue,
+            _ => {}
         }
-        found = found.saturating_add(1);
     }
-    if found == 7 { Some(sends) } else { None }
+    sends
+}
+
+impl Sends {
+    /// These and others.
+    fn and(self, other: Sends) -> Sends {
+        Sends {
+            sent: self.sent.saturating_add(other.sent),
+            known: self.known.saturating_add(other.known),
+            wrong: self.wrong.saturating_add(other.wrong),
+            soon: self.soon.saturating_add(other.soon),
+            late: self.late.saturating_add(other.late),
+            outputs: self.outputs.saturating_add(other.outputs),
+            silent: self.silent.saturating_add(other.silent),
+            foreign: self.foreign.saturating_add(other.foreign),
+        }
+    }
+
+    /// Whether all outputs that send fall silent.
+    fn end_early(self) -> bool {
+        self.outputs > 0 && self.silent == self.outputs
+    }
+
+    /// Whether most words are not right, though hardly any comes at a wrong interval.
+    fn look_shifted(self) -> bool {
+        self.known >= FEWEST_SENDS
+            && self.wrong > self.known / 2
+            && self.soon.saturating_add(self.late) <= self.known / 10
+    }
+
+    /// Whether nearly all words come too soon after the one before.
+    fn look_fast(self) -> bool {
+        let later = self.sent.saturating_sub(self.outputs);
+        later >= FEWEST_SENDS && self.soon >= later - later / 10
+    }
+
+    /// Whether most words are of no output.
+    fn look_foreign(self) -> bool {
+        self.foreign >= FEWEST_SENDS && self.foreign > self.sent
+    }
 }
 
 /// The sends of all rows of comma-separated values.
@@ -60,42 +114,43 @@ fn all_sends(text: &str) -> Sends {
     let mut lines = text.split('\n');
     let heading = lines.next().unwrap_or("");
     for row in lines {
-        if let Some(sends) = sends_of(heading, row) {
-            all.known = all.known.saturating_add(sends.known);
-            all.wrong = all.wrong.saturating_add(sends.wrong);
-            all.unsteady = all.unsteady.saturating_add(sends.unsteady);
-            all.outputs = all.outputs.saturating_add(sends.outputs);
-            all.silent = all.silent.saturating_add(sends.silent);
-        }
+        all = all.and(sends_of(heading, row));
     }
     all
 }
 
-/// Whether most words are not right, though hardly any comes at a wrong interval.
-fn look_shifted(sends: Sends) -> bool {
-    sends.known >= FEWEST_SENDS
-        && sends.wrong > sends.known / 2
-        && sends.unsteady <= sends.known / 10
-}
-
-/// Says that a log of what was sent may have another clock than the log of what came in, or may end earlier, by the rows of
-/// `judge`.
-pub fn tell_clocks(heard: &str, judged: &Sheet, hint: &HintText) {
+/// Says that a log of what was sent may have another clock than the log of what came in, another unit of times, or words of
+/// other outputs, or may end earlier, by the rows of `judge`.
+pub fn tell_clocks(heard: &str, unit: TimeUnit, judged: &Sheet, hint: &HintText) {
     let Ok(bytes) = judged.render(hint.alloc, SheetForm::Csv) else {
         return hint.give_up();
     };
     let text = str::from_utf8(&bytes).unwrap_or("");
-    let sends = all_sends(text);
-    if sends.outputs > 0 && sends.silent == sends.outputs {
+    tell_sends(heard, unit, all_sends(text), hint);
+}
+
+/// Says what the sends of all outputs are like.
+fn tell_sends(heard: &str, unit: TimeUnit, sends: Sends, hint: &HintText) {
+    if sends.end_early() {
         hint.line_one(
             "no output sends until the logs end: the box stopped, or this log ends too early; then cut {?} at the same time",
             heard,
         );
     }
-    if look_shifted(sends) {
+    if sends.look_shifted() {
         hint.line_one(
             "most words are wrong or stale, and hardly any is soon or late: perhaps this log and {?} are not on one clock; then shift the times of one of them",
             heard,
+        );
+    }
+    if sends.look_fast() && unit == TimeUnit::Microseconds {
+        hint.say_line(
+            "nearly all words come too soon: if the times of both logs are milliseconds, give --time ms",
+        );
+    }
+    if sends.look_foreign() {
+        hint.say_line(
+            "most words are of no output: perhaps a channel is taken as the wrong group or bus, or TABLE is of another revision",
         );
     }
 }

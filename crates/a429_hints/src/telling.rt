@@ -92,7 +92,7 @@ fn tell_answered(asked: &Asked, answered: &Answered, hint: &HintText) {
 fn tell_found(asked: &Asked, found: &Sheet, hint: &HintText) {
     if asked.verb == Verb::Judge {
         hint.turn_to(asked.third);
-        tell_clocks(asked.second, found, hint);
+        tell_clocks(asked.second, asked.options.time, found, hint);
     } else {
         hint.turn_to(table_name(asked));
         tell_findings(&found.rows, hint);
