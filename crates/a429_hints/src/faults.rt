@@ -35,15 +35,15 @@ pub fn tell_table_fault(document: &RefusedTable, kind: FaultKind, hint: &HintTex
 }
 
 fn tell_places(root: &Value, kind: FaultKind, hint: &HintText) {
-    let Ok(places) = places_of(hint.alloc, root, kind) else {
+    let Ok(places) = places_of(hint.alloc, root, kind, LINES) else {
         return hint.give_up();
     };
-    for place in places.iter().take(LINES) {
+    for place in &places.first {
         if let Some(row) = TableRow::at(root, *place) {
             tell_row(kind, &row, hint);
         }
     }
-    hint.leave_out(places.len().saturating_sub(LINES));
+    hint.leave_out(places.more);
 }
 
 /// Begins a line about a row of a table.

@@ -8,12 +8,10 @@ use Rattle.toml.specs.Data.{Data, get}
 use Rattle.a429_word.proofs.Lists.{and_false}
 use Rattle.a429_equipment.specs.declared.version.TableVersion.{TableVersion}
 use Rattle.a429_table.specs.declared.fault.FaultKind.TheVariants.{MissingKey, WrongKind}
-use Rattle.a429_table.specs.declared.repeats.Repeats.{Repeats}
 use Rattle.a429_table.specs.Columns.{Column, columns}
-use Rattle.a429_table.specs.Faults.{all_fit_columns, fills, fits_columns, has_shape, has_wrong_kind, lacks_key, misfits, stands}
-use Rattle.a429_table.specs.Repeats.{is_found}
+use Rattle.a429_table.specs.Faults.{all_fit_columns, fills, fits_columns, has_shape, has_wrong_kind, lacks_key, misfits}
+use Rattle.a429_table.specs.Early.{shows}
 use Rattle.a429_table.specs.Tree.{is_table}
-use Rattle.a429_table.specs.Version.{version_of}
 use Rattle.a429_table.specs.Walk.{Stop}
 
 not_lacked : (required : Bool) (test : Data → Bool) (found : Option Data) → option_map_or test found (not required) ≡ true → (required && is_none found) ≡ false
@@ -60,10 +58,10 @@ nowhere test fits (s ∷ stops) none h =
     let p = and_parts _ _ h in
     rw (none s p.0) (nowhere test fits stops none p.1)
 
-pub no_missing_key : (repeats : Repeats) (root : Data) (stops : List Stop) → all_fit_columns (version_of root) stops ≡ true → find (is_found repeats root MissingKey) stops ≡ None
-unfolding is_found stands
-no_missing_key repeats root stops h = nowhere _ (fits_columns (version_of root)) stops (λ s fits. fitting_lacks (version_of root) s fits) h
+pub no_missing_key : (version : TableVersion) (stops : List Stop) → all_fit_columns version stops ≡ true → find (shows version MissingKey) stops ≡ None
+unfolding shows
+no_missing_key version stops h = nowhere _ (fits_columns version) stops (λ s fits. fitting_lacks version s fits) h
 
-pub no_wrong_kind : (repeats : Repeats) (root : Data) (stops : List Stop) → all_fit_columns (version_of root) stops ≡ true → find (is_found repeats root WrongKind) stops ≡ None
-unfolding is_found stands
-no_wrong_kind repeats root stops h = nowhere _ (fits_columns (version_of root)) stops (λ s fits. fitting_kind (version_of root) s fits) h
+pub no_wrong_kind : (version : TableVersion) (stops : List Stop) → all_fit_columns version stops ≡ true → find (shows version WrongKind) stops ≡ None
+unfolding shows
+no_wrong_kind version stops h = nowhere _ (fits_columns version) stops (λ s fits. fitting_kind version s fits) h

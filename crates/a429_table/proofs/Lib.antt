@@ -18,3 +18,4 @@ pub mod RepeatedRows
 pub mod AtKeys
 pub mod Written
 mod MoreRows
+pub mod EarlyFaults

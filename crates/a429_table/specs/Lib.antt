@@ -6,6 +6,7 @@ pub mod Stops
 pub mod Names
 pub mod Numbers
 pub mod Faults
+pub mod Early
 pub mod Least
 pub mod Stated
 pub mod Repeats

@@ -35,11 +35,15 @@ group_stops e = (Group e.0, e.1) ∷ numbered (rows.Outputs e.0) (rows_at (codes
 abbrev pub stops_of_groups : List Data → List Stop
 stops_of_groups groups = flat_map group_stops (enumerate_from 0 groups)
 
--- the root, the receivers, the sources, and each group followed by its outputs
-unfoldable pub walk : Data → List Stop
-walk root =
-    (Root, root) ∷ numbered rows.Receivers (rows_at (codes "receiver") root) ++ numbered rows.Sources (rows_at (codes "source") root)
+-- below the root: the receivers, the sources, and each group followed by its outputs
+abbrev pub below : Data → List Stop
+below root =
+    numbered rows.Receivers (rows_at (codes "receiver") root) ++ numbered rows.Sources (rows_at (codes "source") root)
     ++ stops_of_groups (rows_at (codes "group") root)
+
+-- the root, and what is below it
+unfoldable pub walk : Data → List Stop
+walk root = (Root, root) ∷ below root
 
 -- the outputs of a group
 abbrev pub outputs_of : Option Data → List Data

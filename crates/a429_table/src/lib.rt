@@ -25,7 +25,9 @@
 mod build;
 mod columns;
 mod document;
+mod early;
 mod fault;
+mod fault_places;
 pub mod laws;
 mod names;
 mod reading;
@@ -41,6 +43,7 @@ mod walk;
 pub use columns::{Column, Shape, columns_of};
 pub use document::RefusedTable;
 pub use fault::{FaultKind, TableFault, TablePlace};
+pub use fault_places::FaultPlaces;
 pub use reading::{read_equipment, read_or_keep};
 pub use search::places_of;
 pub use table_index::number_name;

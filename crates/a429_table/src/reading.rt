@@ -2,7 +2,9 @@
 ghost use Rattle.std.specs.Prelude.{◌≡◌, IfOk, None};
 ghost use Rattle.toml.specs.View.{view};
 ghost use Rattle.a429_equipment.specs.TableRecord.{record_of};
-ghost use Rattle.a429_table.specs.Faults.{first, faults};
+ghost use Rattle.std.specs.List.{flat_map};
+ghost use Rattle.a429_table.specs.Early.{early_kinds};
+ghost use Rattle.a429_table.specs.Faults.{faults, faults_of, first};
 ghost use Rattle.a429_table.specs.Reading.{GivesUnlessMemory, IsJudged, reading};
 ghost use Rattle.a429_table.specs.Repeats.{AreRowsOf};
 ghost use Rattle.a429_table.specs.Stated.{stated};
@@ -10,10 +12,12 @@ ghost use Rattle.a429_table.specs.Stops.{table_of};
 
 use crate::build::{WordRows, group_rows, rate_of, receiver_rows, word_rows};
 use crate::document::{RefusedTable, document};
+use crate::early::early_fault;
 use crate::fault::TableFault;
 use crate::search::fault_of;
 use crate::table_index::TableIndex;
 use crate::tree::rows_at;
+use crate::version::version_of;
 use a429_equipment::{Equipment, StationRows};
 use std::alloc::{AllocError, Global};
 use toml::Value;
@@ -50,25 +54,30 @@ pub fn read_or_keep(
 fn equipment_of_root(alloc: Global, root: &Value) -> Result<Equipment, TableFault>
     ensures { IsJudged (view root.now) result }
 {
+    if let Some((kind, place)) = early_fault(version_of(root), root) {
+        return Err(TableFault::At(kind, place));
+    }
     let index = TableIndex::of(alloc, root)?;
     equipment_of_index(alloc, &index)
 }
 
-/// The same, once the names of the table have numbers.
+/// The equipment of a table in which no row shows a fault by itself, or its first fault.
 fn equipment_of_index(alloc: Global, index: &TableIndex<'_>) -> Result<Equipment, TableFault>
+    requires { first (flat_map (faults_of (table_of index.now)) early_kinds) ≡ None }
     ensures { IsJudged (table_of index.now) result }
 {
     let words = word_rows(alloc, index)?;
     equipment_with(alloc, index, words)
 }
 
-/// The same, once the rows of its sources and outputs are there.
+/// The equipment of such a table with these rows of its sources and outputs, or its first fault.
 fn equipment_with(
     alloc: Global,
     index: &TableIndex<'_>,
     words: WordRows,
 ) -> Result<Equipment, TableFault>
-    requires { AreRowsOf (table_of index.now) words }
+    requires rows { AreRowsOf (table_of index.now) words }
+    requires none_early { first (flat_map (faults_of (table_of index.now)) early_kinds) ≡ None }
     ensures { IsJudged (table_of index.now) result }
 {
     if let Some((kind, place)) = fault_of(alloc, index, &words)? {
