@@ -57,7 +57,8 @@ fn heading_of(alloc: Global, maps: &[&str], form: Form<'_>) -> Result<Heading, A
 fn is_data(heading: &Heading, row: &CsvLine) -> bool
     ensures { result ≡ is_data (fields_of heading.now.line.fields) (fields_of row.now.fields) }
 {
-    row.len() == heading.line.len() && label_in(heading.field_of(row, ImportColumn::Label)).is_some()
+    row.len() == heading.line.len()
+        && label_in(heading.field_of(row, ImportColumn::Label)).is_some()
 }
 
 /// The line that was found, otherwise that of a row of data.
