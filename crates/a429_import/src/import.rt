@@ -170,8 +170,7 @@ fn unfit_line(
     }
 }
 
-/// The fault of a text for which no row below the heading is looked at: it comes before all faults of rows. Error: an
-/// allocation failed.
+/// The fault of a text that comes before those of the rows below its heading. Error: an allocation failed.
 fn text_fault(
     alloc: Global,
     maps: &[&str],
