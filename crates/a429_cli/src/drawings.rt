@@ -110,8 +110,8 @@ fn image_numbered(
     }
 }
 
-/// The picture of a proposal's plan, of the group of this name or of all, with status 0. A name that no group has is refused
-/// first, then an image that is too high.
+/// The picture of a proposal's plan, of the group of this name or of all, with status 0. Errors, in this order: no group
+/// has this name, or the image is too high. `Memory` if an allocation fails.
 pub fn image_of(
     alloc: Global,
     proposal: &Proposal<OUTPUTS>,

@@ -77,7 +77,8 @@ fn commented_table(alloc: Global, read: &mut NamesRead) -> Result<Vec<u8>, Impor
     }
 }
 
-/// The same, unless two texts of a column become one name.
+/// The table that lines with made names describe, with the given texts as comments. Error: two texts of a column become
+/// one name; otherwise the fault of the table.
 fn made_table(alloc: Global, read: &mut NamesRead) -> Result<Vec<u8>, ImportFault>
     requires { (lines : List CsvLine) × HasMade read.old.lines.heading read.old lines }
     ensures { (lines : List CsvLine) → HasMade read.old.lines.heading read.old lines → IsImportBy true lines result }

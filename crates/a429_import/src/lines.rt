@@ -37,7 +37,7 @@ impl CsvLine {
         self.fields.len()
     }
 
-    /// Whether a field is not empty.
+    /// Whether the line has a field that is not empty.
     pub fn has_text(&self) -> bool
         ensures { result ≡ has_text (fields_of self.now.fields) }
     {

@@ -66,7 +66,7 @@ pub enum Found {
 }
 
 impl Found {
-    /// The same, if the column is at one place more.
+    /// What is found after one more place that has the column: this place, or that the column is there twice.
     fn noted(self, place: usize) -> Found
         ensures { result ≡ noted self place }
     {
@@ -76,7 +76,8 @@ impl Found {
         }
     }
 
-    /// The same after a field of the heading.
+    /// What is found after one more field of the heading, the one at this place. Nothing changes if the field does not
+    /// name the column.
     fn after(self, column: Column, place: usize, name: &[u8]) -> Found
         ensures { result ≡ found_next column self place name.now }
     {

@@ -292,7 +292,7 @@ fn print_simulation<O: Output>(
 /// Plays the words of logs on the station of a table, at their times. It puts a line for each word that is sent or
 /// refused, or only for those that are sent, or instead the summary of what each output sent. A refusal is one line
 /// instead. The status is 0, or 1 after a refusal, or if an allocation fails after the first lines. A receiver to which
-/// words come too closely is noted.
+/// words come too closely is noted. Error: the output failed.
 pub fn simulate<'a, F: FileReader, O: Output>(
     alloc: Global,
     files: &mut F,

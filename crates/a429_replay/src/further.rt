@@ -94,8 +94,8 @@ impl FurtherTable {
         }
     }
 
-    /// Publishes it on a station, and appends the line of the answer, or of the refusal of the table or of its plan. If an
-    /// allocation fails, nothing is appended.
+    /// Publishes it on a station, and appends the line of the answer, or of the refusal of the table or of its plan.
+    /// Error: an allocation failed; then nothing is appended.
     pub fn publish(
         &mut self,
         alloc: Global,

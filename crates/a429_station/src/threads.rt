@@ -209,8 +209,9 @@ fn run_in_scope<
     )
 }
 
-/// Runs each worker on a thread of its own, all at once, and at the same time the calling thread's own work. If a
-/// thread cannot be started or joined, no worker runs instead. In any case the threads that were started have ended.
+/// Runs each worker on a thread of its own, all at once, and at the same time the calling thread's own work. Error: a
+/// thread could not be started or joined. Then no answer of a worker is given. In any case the threads that were started
+/// have ended.
 pub fn run_at_once<
     R: Threads + Wait,
     W: Work<Done = X>,

@@ -64,7 +64,8 @@ pub fn open_ends<R: Abort, const C: u32>(rt: &R, alloc: Global, table: &str) -> 
 }
 
 impl Ends {
-    /// The last accepted word of the first source, with its number among them.
+    /// The word that a load of the first source finds, with its number among those that the source accepted. `None` if it
+    /// finds none.
     pub fn load(&mut self) -> Option<(u64, u32)> {
         let (count, word) = self.transmitter.load_numbered(0)?;
         Some((count, word.raw()))

@@ -16,7 +16,7 @@ pub(crate) fn printable_char(c: char) -> char
     if c.is_control() { '?' } else { c }
 }
 
-/// A name as a refusal prints it, in one line.
+/// A name as a refusal prints it, in one line. Error: an allocation failed.
 #[tactic(auto, unfolding(crate::specs::FileReadings::printable_name))]
 pub fn printable_name(alloc: Global, name: &str) -> Result<String, AllocError>
     ensures { IfOk result (λ shown. string_bytes shown ≡ printable_name name.now) }

@@ -73,7 +73,7 @@ impl Evidence {
         }
     }
 
-    /// The same of the second of two tables.
+    /// This evidence, as that of the second of two tables if it is of a table.
     pub fn of_second_table(self) -> Evidence {
         match self {
             Evidence::Table { table, .. } => Evidence::Table {
@@ -84,7 +84,7 @@ impl Evidence {
         }
     }
 
-    /// The same, with this plan if it is nothing.
+    /// This evidence, or this plan if there is none.
     pub fn or_plan(self, proposal: Proposal<OUTPUTS>) -> Evidence {
         match self {
             Evidence::Nothing => Evidence::Proposal(proposal),
@@ -92,7 +92,7 @@ impl Evidence {
         }
     }
 
-    /// The same of a log after this number of other logs.
+    /// This evidence; if it is of a log, then of one that comes after this number of other logs.
     pub fn after_logs(self, before: usize) -> Evidence {
         match self {
             Evidence::Log { line, log } => Evidence::Log {

@@ -89,7 +89,8 @@ impl KnownSources {
         }
     }
 
-    /// The first row that a row contradicts about its source. The row's receiver is given by the number of its first row.
+    /// The first row that a row contradicts about its source, with the column. The row's receiver is given by the number
+    /// of its first row. `None` if it contradicts none.
     pub fn clash(&self, receiver: Option<usize>, row: &RowFields<'_>) -> Option<RowClash>
         requires { (rows : List ImportRow) × KnowsSources self.now rows }
         ensures { (rows : List ImportRow) → Agree rows → KnowsSources self.now rows
