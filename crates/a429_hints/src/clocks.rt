@@ -119,8 +119,8 @@ fn all_sends(text: &str) -> Sends {
     all
 }
 
-/// Says that a log of what was sent may have another clock than the log of what came in, another unit of times, or words of
-/// other outputs, or may end earlier, by the rows of `judge`.
+/// Says by the rows of `judge` what may be wrong with a log of what was sent. It may have another clock than the log of
+/// what came in, another unit of times, or words of other outputs, or it may end earlier.
 pub fn tell_clocks(heard: &str, unit: TimeUnit, judged: &Sheet, hint: &HintText) {
     let Ok(bytes) = judged.render(hint.alloc, SheetForm::Csv) else {
         return hint.give_up();

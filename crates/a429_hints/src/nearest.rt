@@ -29,7 +29,7 @@ impl<'a> Nearest<'a> {
         }
     }
 
-    /// Among names that are separated by spaces.
+    /// The name nearest to a text, among names that are separated by spaces.
     pub fn among(alloc: Global, text: &'a str, names: &'a str) -> Nearest<'a> {
         let mut nearest = Nearest::to(text);
         for name in names.split(' ') {

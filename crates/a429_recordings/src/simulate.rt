@@ -141,7 +141,8 @@ fn read_station(alloc: Global, table: &[u8], style: LineStyle) -> Result<Setting
     })
 }
 
-/// Logs on a station, with slots up to the time that the form asks for. Error: the log is refused, or a group would send too much.
+/// Logs on a station, with slots up to the time that the form asks for. Error: the log is refused, or a group would send
+/// too much.
 fn read_player<'a>(
     alloc: Global,
     setting: &Setting,

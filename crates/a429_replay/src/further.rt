@@ -218,7 +218,7 @@ fn cause_of_proposal(
     }
 }
 
-/// These tables, of which none was published yet. Error: an allocation failed.
+/// Further tables of a replay, of which none was published yet. Error: an allocation failed.
 pub fn further_tables(alloc: Global, tables: Vec<Vec<u8>>) -> Result<Vec<FurtherTable>, AllocError>
     ensures { IfOk result (λ further. further.items ≡ bytes_of tables.items) }
 {

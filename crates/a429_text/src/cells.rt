@@ -107,7 +107,7 @@ impl Row {
         }
     }
 
-    /// Its cells. Error: an allocation failed for one of them.
+    /// The cells of the row. Error: an allocation failed for one of them.
     pub fn cells(&self) -> Result<&[KeptCell], AllocError>
         ensures { IfOk result (λ cells. map kept_field cells.now ≡ self.now) }
     {
