@@ -1,4 +1,5 @@
--- The command line of the program: a row for each command, and what the rules of the command line make of the rows.
+-- The command line of the program: a row for each command, and what the rules of the command line make of the rows
+-- (the clap library; profile: docs/FORMATS.md, Usage errors).
 use Rattle.std.specs.Prelude.{◌≡◌, ◌∷◌, [], ℕ, List, Option, true, false, Some, None, codes, fold, map, option_map}
 use Rattle.clap.specs.Words.{App, Rule, Shape, Text, new_app, new_rule, rule_of, with_rule, with_subcommand}
 use Rattle.clap.specs.declared.builder.arg.Arg.{Arg}

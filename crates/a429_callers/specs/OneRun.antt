@@ -1,4 +1,4 @@
--- What a station of two receivers and a group did on threads, as one list of events of the machine.
+-- What a station of two receivers and a group did on threads, as one list of events of the machine (vocabulary of contracts).
 use Rattle.std.specs.Prelude.{◌≡◌, ◌-◌, ◌^◌, ◌++◌, ◌∷◌, [], ℕ, zero, suc, Bool, true, List, Option, ◌<◌, length}
 use Rattle.std.specs.List.{AllByRecursion}
 use Rattle.a429_equipment.specs.declared.loads.Load.{Load}

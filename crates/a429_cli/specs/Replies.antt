@@ -1,4 +1,4 @@
--- What is answered to what is asked for.
+-- What is answered to what is asked for (vocabulary of contracts).
 use Rattle.std.specs.Prelude.{◌∷◌, ⊤, ℕ, List, Bool, true, false, Option, Result}
 use Rattle.a429_console.specs.Outputs.{FailedCalls, OrNoMemory}
 use Rattle.a429_console.specs.Replying.{RepliesByReader, RepliesToWords}

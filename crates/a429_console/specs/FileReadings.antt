@@ -1,4 +1,4 @@
--- Files as a command reads them, by their names.
+-- Files as a command reads them, by their names (vocabulary of contracts).
 use Rattle.std.specs.Prelude.{◌≡◌, ◌∷◌, [], ◌⊎◌, ℕ, List, Option, Some, None, Result, MatchResult, if◌then◌else◌, nat_le, length, map, string_bytes, chars, encode_utf8_all}
 use Rattle.std.specs.Char.{is_control}
 use Rattle.std.specs.List.{AllZip}

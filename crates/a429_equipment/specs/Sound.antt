@@ -1,6 +1,5 @@
--- What is true of the record of each equipment. It keeps to the limits, each number and name is in range, and its
--- sources are apart. No two receivers, sources or groups have the same name, and no two outputs of a group the same
--- source.
+-- What is true of the record of each equipment (profile: equipment table). It keeps to the limits, each number and name is in range, and its sources
+-- are apart. No two receivers, sources or groups have the same name, and no two outputs of a group the same source.
 use Rattle.std.specs.Prelude.{◌≡◌, ℕ, ◌<◌, ◌≤◌, ◌⊎◌, List, length, Some, None, IfSome, IsTrue, slice_get}
 use Rattle.std.specs.List.{AllByRecursion}
 use Rattle.a429_filter.specs.declared.filters.Filter.{Filter}

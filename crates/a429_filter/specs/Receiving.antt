@@ -1,4 +1,4 @@
--- What a socket answers, by the words that it took in the call (profile).
+-- What a socket answers, by the words that it took in the call (profile: docs/RULES.md, Receivers, filters and sources).
 use Rattle.std.specs.Prelude.{◌≡◌, ◌≤◌, ℕ, Bool, true, false, List, ◌++◌, Option, Some, None, Result, Ok, Err, length, filter, map, min, option_map, ◌+◌, ◌-◌, ◌^◌, ◌==◌, ◌&&◌}
 use Rattle.std.specs.List.{FoldsTo}
 use Rattle.a429_word.specs.Bits.{has_odd_parity, label_of}

@@ -1,4 +1,4 @@
--- The command `survey`: what it prints, and why it prints nothing.
+-- The command `survey`: what it prints, and why it prints nothing (profile: docs/FORMATS.md, Output of `survey`).
 use Rattle.std.specs.Prelude.{◌≡◌, ◌⊎◌, ℕ, List, Option, Some, None, Ok, Result, MatchResult, if◌then◌else◌, option_map, unwrap_or}
 use Rattle.std.specs.declared.vec.Vec.{Vec}
 use Rattle.std.specs.declared.alloc.Global.{Global}

@@ -1,4 +1,4 @@
--- The places of the groups of a simulation, as the program keeps them.
+-- The places of the groups of a simulation, as the program keeps them (vocabulary of contracts).
 use Rattle.std.specs.Prelude.{◌≡◌, ◌+◌, ◌-◌, ◌*◌, ◌/◌, ◌<◌, ◌≤◌, ◌++◌, ◌∷◌, [], ◌↔◌, ⊤, ℕ, Bool, List, Option, Some, None, Result, MatchOption, MatchResult, IsTrue, drop, length, min, slice_get, slice_set, sum_by}
 use Rattle.std.specs.Option.{option_map_or}
 use Rattle.std.specs.declared.vec.Vec.{Vec}

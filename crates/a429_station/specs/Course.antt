@@ -1,5 +1,5 @@
--- The course of a run of a station: what came to its receivers, what its groups sent by that, and which plans were
--- published during the run.
+-- The course of a run of a station: what came to its receivers, what its groups sent by that, and which plans were published during the run
+-- (vocabulary of contracts).
 use Rattle.std.specs.Prelude.{◌≡◌, ◌≤◌, ◌-◌, ◌^◌, ◌++◌, [], ℕ, Bool, true, List, Option, IsTrue, length, map}
 use Rattle.std.specs.List.{AllByRecursion, range_with_len}
 use Rattle.a429_equipment.specs.TableRecord.{TableRecord}

@@ -1,4 +1,4 @@
--- Why a station did not run, or not to its end: the faults of its plan and of its workers.
+-- Why a station did not run, or not to its end: the faults of its plan and of its workers (vocabulary of contracts).
 use Rattle.std.specs.Prelude.{◌≡◌, ◌<◌, ◌≤◌, List, [], ◌∷◌, ◌⊎◌, ⊤, ℕ, true, Option, Some, None, Result, Ok, Err, OnOk, length}
 use Rattle.a429_equipment.specs.TableRecord.{TableRecord}
 use Rattle.a429_filter.specs.declared.sources.LineSource as LineSource

@@ -1,4 +1,5 @@
--- Plans that are published while a station runs: of the tables that are submitted again, those of the same station.
+-- Plans that are published while a station runs: of the tables that are submitted again, those of the same station
+-- (profile: docs/RULES.md, Sending).
 use Rattle.std.specs.Prelude.{◌≡◌, ◌≤◌, ◌+◌, ◌^◌, ◌++◌, ◌∷◌, [], ⊤, ℕ, true, false, List, Ok, Err, length, map}
 use Rattle.std.specs.List.{AllByRecursion}
 use mathlib.Core.List.{IsPrefix}

@@ -1,5 +1,5 @@
--- The record of a table says what is written in the document: no value is made up for one that is absent or of another
--- kind.
+-- The record of a table says what is written in the document: no value is made up for one that is absent or of another kind
+-- (profile: equipment table).
 use Rattle.std.specs.Prelude.{codes, ◌≡◌, ℕ, pos, List, [], ◌∷◌, ◌++◌, Option, Some, None, IfSome, slice_get}
 use Rattle.toml.specs.Data.{Data, Items, string, integer, array, get}
 use Rattle.a429_word.specs.Texts.{octal}

@@ -1,4 +1,4 @@
--- What the bytes of an equipment table state: a record, or the least fault.
+-- What the bytes of an equipment table state: a record, or the least fault (profile: equipment table).
 use Rattle.std.specs.Prelude.{◌≡◌, ℕ, true, List, [], ◌∷◌, Option, Some, None, option_map, Result, Ok, Err, if◌then◌else◌}
 use Rattle.std.specs.Str.{is_utf8}
 use Rattle.toml.specs.Data.{Data, table}

@@ -1,4 +1,4 @@
--- What was written of a text.
+-- What was written of a text (vocabulary of contracts).
 use Rattle.std.specs.Prelude.{ℕ, ◌+◌, ◌/◌, ◌%◌, ◌∷◌, [], ◌++◌, List, Option, None, Some, codes}
 use Rattle.std.specs.Fmt.{decimal}
 use Rattle.a429_text.specs.declared.said.Said.{Said}

@@ -1,4 +1,4 @@
--- What a seat of the table knows, by what it is.
+-- What a seat of the table knows, by what it is (vocabulary of contracts).
 use Rattle.std.specs.Prelude.{None, ◌≡◌, ◌==◌, ◌+◌, ◌^◌, ◌<◌, ℕ, [], ◌∷◌, ◌++◌, Some, length, slice_get, true, false}
 use Rattle.std.specs.List.{list_any}
 use Rattle.a429_equipment.specs.Limits.{count_bits}

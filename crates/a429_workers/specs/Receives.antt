@@ -1,4 +1,4 @@
--- What a receiver does with the raw words that a line gave, one after another.
+-- What a receiver does with the raw words that a line gave, one after another (vocabulary of contracts).
 use Rattle.std.specs.Prelude.{◌≡◌, ◌≤◌, ◌+◌, ◌∷◌, [], ◌++◌, ℕ, Bool, true, false, List, Option, Result, Ok, Err, length, take, count_by, option_map}
 use Rattle.a429_equipment.specs.Receiving.{accepted_after}
 use Rattle.a429_values.specs.Ends.{ReceiverEnd, accept_answer}
