@@ -26,6 +26,7 @@ two first second (suc zero) = second
 two first second (suc (suc r)) = []
 
 -- what each receiver of the station accepts of the words that come in there, of no source more than 41 bits can count
+-- (profile: docs/RULES.md, Limits)
 abbrev pub heard_of : TableRecord → (ℕ → List ℕ) → ℕ → List (ℕ × ℕ)
 heard_of t words r = accepted_after (2 ^ 41 - 1) t r [] (words r)
 

@@ -13,7 +13,7 @@ use Rattle.a429_equipment.specs.Arrivals.{SourcesAreApart}
 use Rattle.a429_equipment.specs.Limits.{most_sends}
 use Rattle.a429_equipment.specs.NameForm.{is_name}
 
--- 100000 bit/s, or 12000 to 14500
+-- 100000 bit/s, or 12000 to 14500 (ARINC 429 Part 1: low speed and high speed)
 abbrev pub IsRate : ℕ → Type 0
 IsRate rate = (rate ≡ 100000) ⊎ ((12000 ≤ rate) × (rate ≤ 14500))
 

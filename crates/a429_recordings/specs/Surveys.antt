@@ -31,6 +31,7 @@ abbrev pub noted_by : List (List ℕ) → Stated → Option Noted
 noted_by channels = named channels noted_of
 
 -- what the options ask for: a bit rate of 100000 bit/s, and intervals widened by 25 per cent, unless others are given
+-- (profile: docs/RULES.md, Limits)
 abbrev pub survey_form : OptionBytes → SurveyForm
 survey_form o = record {
   rate = unwrap_or o.rate 100000;

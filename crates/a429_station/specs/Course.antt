@@ -36,7 +36,7 @@ pub record Course : Type 0 where
 
 -- ---- receivers
 
--- receiver r, which accepted nothing yet: of a source it accepts as many words as 41 bits count
+-- receiver r, which accepted nothing yet: of a source it accepts as many words as 41 bits count (profile: docs/RULES.md, Limits)
 abbrev pub fresh : ends.Place → ℕ → ends.ReceiverEnd
 fresh at r = record { at = at; number = r; limit = 2 ^ 41 - 1; accepted = [] }
 

@@ -35,7 +35,7 @@ pub record Running : Type 0 where
 abbrev pub opening : TableRecord → PlanTable → Opening
 opening t p = record { proposal = record { station = t; plan = p }; first = 0 }
 
--- a frame of each group has at most 8192 slots on a bus
+-- a frame of each group has at most 8192 slots on a bus (profile: docs/RULES.md, Limits)
 abbrev pub HasFewSlots : PlanTable → Type 0
 HasFewSlots p = AllByRecursion (λ t. frame_of t ≤ 8192) (groups_of p)
 

@@ -79,6 +79,6 @@ pub record IsAsWritten (root : Data) (t : TableRecord) : Type 0 where
   pub groups : HasRows (codes "group") root (IsGroupOf root t) t.groups
   pub outputs : HasRows (codes "group") root (λ d. HasRows (codes "output") d (IsOutputOf t)) t.outputs
 
--- the bytes are a TOML document, and the record says what is written in it
+-- the bytes are a TOML document, and the record says what is written in it (TOML)
 abbrev pub IsWrittenIn : List ℕ → TableRecord → Type 0
 IsWrittenIn bytes t = (root : Data) × (document bytes ≡ Some root) × IsAsWritten root t

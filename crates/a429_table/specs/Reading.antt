@@ -13,7 +13,7 @@ use Rattle.a429_table.specs.Faults.{faults}
 use Rattle.a429_equipment.specs.TableRecord.{TableRecord}
 use Rattle.a429_table.specs.Stated.{stated}
 
--- the root table, if the bytes are UTF-8 and a TOML document
+-- the root table, if the bytes are UTF-8 and a TOML document (TOML)
 unfoldable pub document : List ℕ → Option Data
 document bytes = if is_utf8 bytes then option_map table (parse_document bytes) else None
 

@@ -83,7 +83,7 @@ CanMeet v w = (v.transmits ≡ true) × (v.receives ≡ false) × (w.receives �
 abbrev pub ReceivesFor : View → TableRecord → Type 0
 ReceivesFor v t = (v.receives ≡ true) × (v.station ≡ t)
 
--- the next word that the source accepts is its `count`th, and 41 bits can count it
+-- the next word that the source accepts is its `count`th, and 41 bits can count it (profile: docs/RULES.md, Limits)
 abbrev pub IsNextCount : View → ℕ → ℕ → Type 0
 IsNextCount v source count = (count ≡ length (words_of source v.accepted) + 1) × (count < 2 ^ count_bits)
 
