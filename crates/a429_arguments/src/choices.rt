@@ -281,7 +281,8 @@ fn fault_of(name: &str, found: &ArgMatches<'_>) -> Option<&'static str>
     first_fault(value_fault_of(name, found), others)
 }
 
-/// What is chosen of the command of this name. The error says what is wrong.
+/// What is chosen of the command of this name. Error: a text for people that says which option is wrong, or which options
+/// do not go together.
 #[tactic(auto, unfolding(crate::specs::RequestRows::choices_given))]
 pub fn choices_in(name: &str, found: &ArgMatches<'_>) -> Result<Choices, &'static str>
     ensures chosen { IfOk result (λ choices. choices_given name.now (rows_of (found_of found.now)) ≡ Some choices) }

@@ -52,7 +52,7 @@ pub fn command<'a, H: Hints, F: FileReader, O: Output, V: Output>(
     // If the arguments ask for something and no call of the output failed, the bytes put are those of the answer, and so
     // is the status.
     ensures replied { RepliesToCommand F.tells F.file O.contents O.failures (texts_of words.entry.now) files.old out.old out.new result }
-    // The same of a reader of any files: the answer is that of files which give what the reader answered in this call.
+    // For a reader of any files, the answer is that of files which give what the reader answered in this call.
     ensures read { RepliesToCommandByReader F.answers O.contents O.failures (texts_of words.entry.now) files.old out.old out.new result }
     // With status 0 nothing is written to `err`, if there is nothing to warn of in any files which give what the reader
     // answered.

@@ -50,7 +50,8 @@ fn group_numbered(groups: &[GroupRow], name: &str) -> Option<usize>
     groups.iter().position(|group| group.name.as_str() == name)
 }
 
-/// The number of the group to draw; `None` draws all groups. Error: no group has this name.
+/// The number of the group to draw; `None` draws all groups. Error: no group has this name. It is `Memory` instead if an
+/// allocation for the name fails.
 pub fn group_asked(
     alloc: Global,
     groups: &[GroupRow],

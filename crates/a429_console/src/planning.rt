@@ -13,7 +13,8 @@ use a429_slots::{NoProposal, OUTPUTS, Proposal};
 use a429_table::{TableFault, read_or_keep};
 use std::alloc::Global;
 
-/// The proposal of a table's bytes. Error: the table's fault, otherwise the first fault of its plan.
+/// The proposal of a table's bytes. Error: the fault of the table, otherwise the first fault of its plan. `Memory` if an
+/// allocation fails.
 pub fn propose(alloc: Global, table: &[u8]) -> Result<Proposal<OUTPUTS>, Refused>
     ensures { MatchResult result (IsProposedBy table.now) (OrMemory (IsTableRefusal table.now)) }
 {

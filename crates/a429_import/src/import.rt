@@ -197,7 +197,7 @@ fn text_fault(
 /// that `ImportColumn` does not have are skipped. So are lines above the heading, such as titles, but a row of data there is
 /// refused. With a text HEADING=COLUMN a heading is the name of a column. Receivers, sources and groups are in the order of
 /// their first rows, outputs in the order of the rows of their group. `read_equipment` reads the answer. Error: the first
-/// fault of the rows, otherwise the first of the table.
+/// fault of the rows, otherwise the first of the table, or `NoMemory` if an allocation fails.
 ///
 /// With `makes_names`, the texts of groups, sources and receivers become names: `made_name` makes them. The answer has
 /// a comment above each group, source and receiver whose text differs from its name. Two texts of a column that become

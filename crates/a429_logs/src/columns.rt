@@ -278,7 +278,8 @@ impl Heading<'_> {
         }
     }
 
-    /// The columns of a log with this heading. Error: what is wrong with it.
+    /// The columns of a log with this heading. Errors: `Lacks` with a column that the heading does not have, `Repeats`
+    /// with one that it has twice or more.
     #[tactic(auto, unfolding(crate::specs::LogColumns::places_of))]
     pub fn places(&self) -> Result<Places, HeadingFault>
         ensures { result ≡ places_of (names_in self.now) }
