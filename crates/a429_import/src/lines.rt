@@ -69,7 +69,7 @@ pub struct LineCount {
 }
 
 impl LineCount {
-    /// Before the first byte of a text.
+    /// The count of lines before the first byte of a text.
     pub fn new() -> LineCount {
         LineCount {
             at: 0,

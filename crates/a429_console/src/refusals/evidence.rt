@@ -49,7 +49,7 @@ impl Evidence {
         }
     }
 
-    /// A refused line of a script or of a file of words. `None`: an allocation failed.
+    /// A refused line of a script or of a file of words; nothing if `line` is `None`, since an allocation failed.
     pub fn of_line(line: Option<LineEvidence>) -> Evidence {
         match line {
             Some(line) => Evidence::Line(line),
@@ -65,7 +65,7 @@ impl Evidence {
         }
     }
 
-    /// A refused line of a log. `None`: an allocation failed.
+    /// A refused line of a log; nothing if `line` is `None`, since an allocation failed.
     pub fn of_log(line: Option<LineEvidence>, log: LogEvidence) -> Evidence {
         match line {
             Some(line) => Evidence::Log { line, log },
@@ -234,7 +234,7 @@ pub enum TableLook {
 }
 
 impl TableLook {
-    /// By the first words of the text, or its last line.
+    /// What a refused text looks like, by its first words or its last line.
     pub fn of(text: &[u8]) -> TableLook {
         if text.starts_with(b"plan ") {
             TableLook::PlanText

@@ -49,7 +49,7 @@ fn count(outputs: &mut Vec<u8>, place: usize)
 }
 
 impl KnownGroups {
-    /// Before the first row. Error: an allocation failed.
+    /// What is known of groups before the first row. Error: an allocation failed.
     pub fn new(alloc: Global, chains: usize) -> Result<KnownGroups, AllocError>
         ensures { IfOk result (λ known. KnowsGroups known []) }
     {

@@ -31,7 +31,7 @@ pub struct KnownReceivers {
 }
 
 impl KnownReceivers {
-    /// Before the first row. Error: an allocation failed.
+    /// What is known of receivers before the first row. Error: an allocation failed.
     pub fn new(alloc: Global, chains: usize) -> Result<KnownReceivers, AllocError>
         ensures { IfOk result (λ known. KnowsReceivers known []) }
     {

@@ -39,7 +39,7 @@ fn is_number(found: Option<usize>, number: usize) -> bool
 }
 
 impl KnownSources {
-    /// Before the first row. Error: an allocation failed.
+    /// What is known of sources before the first row. Error: an allocation failed.
     pub fn new(alloc: Global, chains: usize) -> Result<KnownSources, AllocError>
         ensures { IfOk result (λ known. KnowsSources known []) }
     {
