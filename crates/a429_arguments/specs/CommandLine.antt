@@ -1,4 +1,5 @@
--- The command line of the program: a row for each command, and what the rules of the command line make of the rows.
+-- The command line of the program: a row for each command, and what the rules of the command line make of the rows
+-- (the clap library; profile: docs/FORMATS.md, Usage errors).
 use Rattle.std.specs.Prelude.{◌≡◌, ◌∷◌, [], ℕ, List, Option, true, false, Some, None, codes, fold, map, option_map}
 use Rattle.clap.specs.Words.{App, Rule, Shape, Text, new_app, new_rule, rule_of, with_rule, with_subcommand}
 use Rattle.clap.specs.declared.builder.arg.Arg.{Arg}
@@ -46,15 +47,15 @@ number_value_rule name least most = record (value_rule name) { parser = Some (re
 
 -- ---- the options of all commands
 
--- how many frames a group can send in one run of `live` (profile)
+-- how many frames a group can send in one run of `live` (profile: docs/RULES.md, Limits)
 abbrev pub most_frames : ℕ
 most_frames = 1000000
 
--- how many slots of a bus can be drawn
+-- how many slots of a bus can be drawn (profile: docs/RULES.md, Limits)
 abbrev pub most_slots : ℕ
 most_slots = 8192
 
--- a limit of the load of a bus, in per cent
+-- a limit of the load of a bus, in per cent (profile: docs/RULES.md, Limits)
 abbrev pub most_percent : ℕ
 most_percent = 100
 
@@ -65,11 +66,11 @@ least_rate = 12000
 abbrev pub most_rate : ℕ
 most_rate = 100000
 
--- by how much an interval can be widened, in per cent
+-- by how much an interval can be widened, in per cent (profile: docs/RULES.md, Limits)
 abbrev pub most_slack : ℕ
 most_slack = 99
 
--- how far recorded times may be wrong at most, in microseconds: the longest interval of an output
+-- how far recorded times may be wrong at most, in microseconds: the longest interval of an output (profile: docs/RULES.md, Limits)
 abbrev pub most_tolerance : ℕ
 most_tolerance = 30000000
 
@@ -81,7 +82,7 @@ most_pair = 3
 abbrev pub most_bits : ℕ
 most_bits = 18
 
--- the last microsecond until which cells can be asked for: fourteen digits
+-- the last microsecond until which cells can be asked for: fourteen digits (profile: docs/RULES.md, Limits)
 abbrev pub last_time : ℕ
 last_time = 99999999999999
 

@@ -1,4 +1,4 @@
--- The arguments that a program was given.
+-- The arguments that a program was given (vocabulary of contracts).
 use Rattle.std.specs.Prelude.{◌≡◌, ◌<◌, ◌+◌, ◌∷◌, [], ⊤, ℕ, List, Some, None, length, slice_get}
 use Rattle.std.specs.Str.{IsUtf8}
 

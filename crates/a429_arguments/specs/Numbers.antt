@@ -1,4 +1,4 @@
--- The numbers of arguments, by their texts.
+-- The numbers of arguments, by their texts (the clap library).
 use Rattle.std.specs.Prelude.{ℕ, Option, Some, None, if◌then◌else◌}
 use Rattle.std.specs.Str.Parse.{digits_value, without_leading_plus}
 use Rattle.clap.specs.ValueTests.{is_unsigned_in}

@@ -1,4 +1,4 @@
--- What is asked for by the values that were read of a command's arguments.
+-- What is asked for by the values that were read of a command's arguments (profile: docs/FORMATS.md, Usage errors).
 use Rattle.std.specs.Prelude.{◌≡◌, [], ℕ, Bool, List, Option, Some, None, true, false, MatchOption, ◌&&◌, ◌||◌, not, codes, if◌then◌else◌, is_some, option_map, unwrap_or}
 use Rattle.std.specs.List.{list_all}
 use Rattle.std.specs.Str.{bytes_eq}

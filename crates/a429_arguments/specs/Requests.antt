@@ -1,4 +1,4 @@
--- What arguments ask for.
+-- What arguments ask for (profile: docs/FORMATS.md, Usage errors).
 use Rattle.std.specs.Prelude.{◌≡◌, ◌==◌, ◌≤◌, ◌≢◌, ◌∷◌, ◌++◌, ◌⊎◌, ◌&&◌, ◌||◌, not, [], ℕ, Bool, true, false, List, Option, Some, None, IfSome, MatchOption, Result, MatchResult, codes, if◌then◌else◌, is_some, option_map, ⊤}
 use Rattle.std.specs.Fmt.{decimal}
 use Rattle.std.specs.List.{AllByRecursion, list_any}

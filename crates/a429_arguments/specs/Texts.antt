@@ -1,4 +1,4 @@
--- Texts by reference, as lists of numbers.
+-- Texts by reference, as lists of numbers (vocabulary of contracts).
 use Rattle.std.specs.Prelude.{ℕ, List, map}
 use Rattle.std.specs.Borrow.{Bor}
 

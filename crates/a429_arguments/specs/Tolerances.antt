@@ -1,4 +1,5 @@
--- The texts of `--tolerance`, which say how far recorded times may be wrong (profile): US is for all groups, and GROUP=US for the group of this name.
+-- The texts of `--tolerance`, which say how far recorded times may be wrong (profile: docs/FORMATS.md, Output of `judge`): US is for all groups, and
+-- GROUP=US for the group of this name.
 use Rattle.std.specs.Prelude.{◌≡◌, ℕ, Bool, true, false, ◌&&◌, ◌||◌, not, ◌==◌, List, [], ◌∷◌, Option, None, Some, codes, if◌then◌else◌, is_some, length, option_map}
 use Rattle.std.specs.List.{list_all}
 use Rattle.std.specs.Option.{option_or}

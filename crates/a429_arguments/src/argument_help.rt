@@ -27,7 +27,7 @@ pub enum NameHelp {
 }
 
 impl NameHelp {
-    /// Its text.
+    /// The help text of the argument.
     pub fn text(self) -> &'static str {
         match self {
             NameHelp::Frames => help::FRAMES,
@@ -90,7 +90,7 @@ pub enum OptionHelp {
 }
 
 impl OptionHelp {
-    /// Its text.
+    /// The help text of the option.
     pub fn text(self) -> &'static str {
         match self {
             OptionHelp::Csv => help::CSV,

@@ -145,7 +145,8 @@ fn value_fault(found: &ArgMatches<'_>) -> Option<&'static str>
     None
 }
 
-/// The same, if the command of this name makes a word.
+/// What is wrong with the data of a word, if the command of this name makes a word. `None` if nothing is wrong, or if the
+/// command makes none.
 fn value_fault_of(name: &str, found: &ArgMatches<'_>) -> Option<&'static str>
     ensures { is_some result ≡ lacks_value name.now (rows_of (found_of found.now)) }
 {
@@ -204,7 +205,8 @@ fn fault_in(texts: &[&str], form: &'static str, twice: &'static str) -> Option<&
     }
 }
 
-/// The same of the texts of an option, if it is given.
+/// What is wrong with the texts FROM=TO of an option: `form` if one has not this form, `twice` if two have the same FROM.
+/// `None` if nothing is wrong, or if the option is not given.
 fn renames_fault(
     found: &ArgMatches<'_>,
     id: &str,
@@ -279,7 +281,8 @@ fn fault_of(name: &str, found: &ArgMatches<'_>) -> Option<&'static str>
     first_fault(value_fault_of(name, found), others)
 }
 
-/// What is chosen of the command of this name. The error says what is wrong.
+/// What is chosen of the command of this name. Error: a text for people that says which option is wrong, or which options
+/// do not go together.
 #[tactic(auto, unfolding(crate::specs::RequestRows::choices_given))]
 pub fn choices_in(name: &str, found: &ArgMatches<'_>) -> Result<Choices, &'static str>
     ensures chosen { IfOk result (λ choices. choices_given name.now (rows_of (found_of found.now)) ≡ Some choices) }

@@ -249,8 +249,9 @@ fn usage_error(
     error
 }
 
-/// The error of arguments that the command line accepts, but no call can use. It has the usage of the command of this form, or
-/// of the program.
+/// The error of arguments that the command line accepts, but no call can use. `message` says what is wrong with them. The
+/// error has the usage of the command of this form; with `None` that of the program. If an allocation fails, the error
+/// says that instead.
 pub fn words_error(
     alloc: Global,
     form: Option<&CommandForm>,

@@ -274,7 +274,7 @@ pub fn command_named(name: &str) -> Option<&'static CommandForm>
     None
 }
 
-/// The row of a command.
+/// The row of a command in the table of commands. `None` if the table has no such row.
 pub fn command_of(verb: Verb) -> Option<&'static CommandForm> {
     commands().iter().find(|form| form.verb == verb)
 }

@@ -28,7 +28,8 @@ pub trait Arguments {
     /// It answered that there is no argument at this place.
     ghost ends: { Self → ℕ → Type 0 };
 
-    /// Copies the argument at a place to the front of the room, and gives its length.
+    /// Copies the argument at a place to the front of the room, and gives its length. Errors: there is no argument at
+    /// this place (`NotPresent`), or it does not fit the room.
     fn argument(&self, place: usize, room: &mut [u8]) -> Result<usize, FillError>
         ensures bound { WritesAtMost result room.new }
         ensures given { IfOk result (λ n. gives self.now place (take n room.new)) }

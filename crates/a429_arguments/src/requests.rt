@@ -107,14 +107,14 @@ pub struct Asked<'a> {
     pub options: Options<'a>,
 }
 
-/// Reads the arguments, without the program's name. The error has the usage or help text for people. It is of kind
-/// `OutOfMemory` if an allocation failed.
+/// Reads the arguments, without the program's name. Error: the arguments are no request, or an allocation failed (kind
+/// `OutOfMemory`). The error has the usage or help text for people.
 pub fn parse<'a>(alloc: Global, words: &'a [&'a str]) -> Result<Asked<'a>, Error>
     // Arguments that ask for a request are read as it. The only error then is that an allocation fails.
     ensures asked { (r : AskedBytes) → AsksFor (texts_of words.entry.now) r → IsRead r result }
     // An error has a kind that the arguments have for `command`; a request means that they have none, unless it is for `live`.
     ensures kinds { ComesTo (kinds_of_words (texts_of words.entry.now)) is_run result }
-    // The same for `command_live`, which does `live` alone.
+    // An error has a kind that the arguments have for `command_live`, which does `live` alone.
     ensures live_kinds { ComesTo (live_kinds_of_words (texts_of words.entry.now)) (λ verb. not (is_run verb)) result }
 {
     let command = build_command(alloc)?;

@@ -36,7 +36,7 @@ fn unit_in(text: &str) -> Option<TimeUnit>
     }
 }
 
-/// The unit of the times in a log: microseconds, unless another one is given. `None` if it is one that there is not.
+/// The unit of the times in a log: microseconds, unless another one is given. `None` if what is given is no unit.
 pub fn unit_given(found: &ArgMatches<'_>) -> Option<TimeUnit>
     ensures { result ≡ unit_given (first_of (codes "time") (rows_of (found_of found.now))) }
 {
@@ -75,8 +75,8 @@ fn origin_in(text: &str) -> Option<LogOrigin>
     }
 }
 
-/// From when on the times in a log are counted: from 0, unless another time is given. `None` if it is one that there is
-/// not.
+/// From when on the times in a log are counted: from 0, unless another time is given. `None` if what is given is neither
+/// `first` nor a time.
 pub fn origin_given(found: &ArgMatches<'_>) -> Option<LogOrigin>
     ensures { result ≡ origin_given (first_of (codes "from") (rows_of (found_of found.now))) }
 {

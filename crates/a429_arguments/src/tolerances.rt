@@ -142,8 +142,8 @@ fn is_general_twice(texts: &[&str]) -> bool
     false
 }
 
-/// What is wrong, if these texts cannot be given together: one is neither US nor GROUP=US, or two are for one group or for
-/// all groups.
+/// What is wrong with texts of `--tolerance` that cannot be given together: one is neither US nor GROUP=US, or two are
+/// for one group or for all groups. `None` if nothing is wrong.
 pub fn fault_in(texts: &[&str]) -> Option<&'static str>
     ensures { is_some result ≡ not (are_tolerances (texts_of texts.now)) }
 {

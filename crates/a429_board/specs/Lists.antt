@@ -1,4 +1,4 @@
--- The list of published plans, and who has seen how much of it.
+-- The list of published plans, and who has seen how much of it (vocabulary of contracts).
 use Rattle.std.specs.Prelude.{◌≡◌, ℕ, ◌+◌, ◌<◌, ◌≤◌, ◌==◌, ⊤, List, [], ◌∷◌, ◌++◌, length, true, false, All, MatchBool}
 use Rattle.logbook.specs.Pages.{Book, Cell, Named, Nib, Step, View, cell, nib, may_make, may_write}
 use Rattle.a429_slots.specs.Tables.{PlanTable}

@@ -1,4 +1,4 @@
--- Why a plan is not published after one of this number.
+-- Why a plan is not published after one of this number (profile: docs/RULES.md, Limits).
 use Rattle.std.specs.Prelude.{◌≡◌, ℕ, ◌+◌, ◌<◌, ◌^◌}
 use Rattle.a429_board.specs.declared.planner.BoardFault.{BoardFault}
 use Rattle.a429_board.specs.declared.planner.BoardFault.TheVariants.{CountSpent, NoMemory}

@@ -1,4 +1,4 @@
--- What is shown stays a plan of one book.
+-- What is shown stays a plan of one book (vocabulary of contracts).
 use Rattle.std.specs.Prelude.{◌≡◌, ℕ, List, true, false}
 use mathlib.Core.Option.{some}
 use lib.ListN.{get_elem?}

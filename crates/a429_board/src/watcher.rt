@@ -66,7 +66,7 @@ fn read(reader: PlanReader, front: &mut Front) -> PlanReader
     }
 }
 
-// The same, of both together.
+// Takes over what is shown now, if it has more plans, for a reader and its front in one value.
 fn look(sight: Sight) -> Sight
     requires { sight.reader.place.me.0.client ≡ knower sight.front.value.book }
     ensures reader { result.reader.place.me.0.client ≡ knower result.front.value.book }

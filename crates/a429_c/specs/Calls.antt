@@ -1,4 +1,5 @@
--- What a call from C is answered, and what it leaves. Each call has an outcome: what it gives, or the status by which it is refused.
+-- What a call from C is answered, and what it leaves (profile: docs/C.md, The calls). Each call has an outcome: what it gives, or the status by
+-- which it is refused.
 use Rattle.std.specs.Prelude.{◌++◌, ℕ, List, Option, Some, None, Result, Ok, Err, if◌then◌else◌, nat_le, length, take, drop, option_and_then, option_map, slice_get}
 use Rattle.std.specs.Option.{option_map_or}
 use Rattle.a429_equipment.specs.Limits.{count_bits}

@@ -1,4 +1,4 @@
--- What a program in C holds: a value in a block of its own that may be freed, or nothing.
+-- What a program in C holds: a value in a block of its own that may be freed, or nothing (vocabulary of contracts).
 use base.Fml.{Fml, feq}
 use denote.RattleType.{RattleType}
 use denote.RawPtr.{Ptr, null_ptr}

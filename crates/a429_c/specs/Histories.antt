@@ -1,4 +1,4 @@
--- Whole histories of calls on a station that is held.
+-- Whole histories of calls on a station that is held (vocabulary of contracts).
 use Rattle.std.specs.Prelude.{◌≡◌, ◌++◌, ◌∷◌, [], ℕ, List, Option, Some, None}
 use Rattle.std.specs.List.{AllByRecursion}
 use Rattle.a429_equipment.specs.Limits.{count_bits}

@@ -1,4 +1,4 @@
--- Tables as calls from C read them, and the stations that are opened of them.
+-- Tables as calls from C read them, and the stations that are opened of them (profile: docs/C.md, The calls).
 use Rattle.std.specs.Prelude.{◌≡◌, ◌≤◌, ◌<◌, ◌⊎◌, [], ℕ, List, Option, Some, None, Result, true, false, length}
 use Rattle.a429_equipment.specs.Limits.{count_bits}
 use Rattle.a429_slots.specs.Tables.{groups_of}

@@ -1,4 +1,4 @@
--- What a call finds in the memory of a program in C.
+-- What a call finds in the memory of a program in C (vocabulary of contracts).
 use Rattle.std.specs.Prelude.{◌≡◌, ℕ, Result}
 use Rattle.a429_c.specs.Calls.{text_after, text_in}
 use Rattle.a429_c.specs.Openings.{PublicationMemory}

@@ -1,4 +1,4 @@
--- The slot tables that are in force, next to what the machine keeps, and the places of outputs in them.
+-- The slot tables that are in force, next to what the machine keeps, and the places of outputs in them (profile: docs/RULES.md, Sending).
 use Rattle.std.specs.Prelude.{◌&&◌, ◌^◌, ℕ, List, Option, if◌then◌else◌, nat_lt, get_or, length, map, option_map, slice_set}
 use Rattle.a429_slots.specs.Tables.{SlotTable, groups_of, no_table, place_of}
 use Rattle.a429_core.specs.MachineStates.{MachineState}

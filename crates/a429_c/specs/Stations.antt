@@ -1,4 +1,4 @@
--- A station that a program in C holds.
+-- A station that a program in C holds (vocabulary of contracts).
 use Rattle.a429_core.specs.MachineStates.{MachineState}
 use Rattle.a429_console.specs.Names.{Naming}
 

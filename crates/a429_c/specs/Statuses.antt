@@ -1,4 +1,4 @@
--- The statuses of calls from C: their numbers, and their texts.
+-- The statuses of calls from C: their numbers, and their texts (profile: docs/C.md, The calls).
 use Rattle.std.specs.Prelude.{ℕ, List, codes}
 use Rattle.a429_slots.specs.declared.answers.Refusal.{Refusal}
 use Rattle.a429_slots.specs.declared.answers.Refusal.TheVariants as why

@@ -1,4 +1,4 @@
--- Words and their fields, as calls from C give them.
+-- Words and their fields, as calls from C give them (ARINC 429 Part 1, word format; profile: docs/C.md, The calls).
 use Rattle.std.specs.Prelude.{◌≡◌, ◌<◌, ◌&&◌, ◌^◌, IsTrue, ℕ, Bool, Option, None, Some, Result, Ok, Err, if◌then◌else◌, nat_lt}
 use Rattle.a429_word.specs.Bits.{bit, data_of, has_odd_parity, label_of, sdi_of, ssm_of}
 use Rattle.a429_c.specs.declared.statuses.Status.{Status}

@@ -1,5 +1,5 @@
 -- An example that the laws of a change speak of: a group sends its only source in every second slot, and goes on to a plan that has it in every
--- fourth.
+-- fourth (profile: docs/RULES.md, How late a word goes out).
 use Rattle.std.specs.Prelude.{◌+◌, ◌<◌, ◌≤◌, ◌∷◌, [], ℕ, List, None}
 use Rattle.a429_equipment.specs.declared.rows.SourceRow.{SourceRow}
 use Rattle.a429_equipment.specs.TableRecord.{TableRecord}

@@ -1,7 +1,7 @@
--- A group that is judged, worked out. A slot is 360.1 µs, since the clock of the box is slow. Its only output has a period of four slots, and sends each
--- word twice at most. The words 193, 3265 and 12481 come in at 500, 4000 and 5000 µs. The output's slots begin at 1000, 2440.4, 3880.8 and
--- 5321.2 µs. The first two send the first word, the third sends nothing, and the fourth sends the third word. One log lacks the first word, and the
--- other one the first send.
+-- A group that is judged, worked out (profile: docs/FORMATS.md, Output of `judge`). A slot is 360.1 µs, since the clock of the box is slow. Its only
+-- output has a period of four slots, and sends each word twice at most. The words 193, 3265 and 12481 come in at 500, 4000 and 5000 µs. The output's
+-- slots begin at 1000, 2440.4, 3880.8 and 5321.2 µs. The first two send the first word, the third sends nothing, and the fourth sends the third
+-- word. One log lacks the first word, and the other one the first send.
 use Rattle.std.specs.Prelude.{◌≡◌, ◌≤◌, ◌+◌, ◌*◌, ◌∷◌, [], ℕ, zero, suc, List, None, Some, filter}
 use Rattle.a429_equipment.specs.declared.rows.OutputRow.{OutputRow}
 use Rattle.a429_equipment.specs.TableRecord.{TableRecord}

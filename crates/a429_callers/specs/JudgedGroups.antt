@@ -1,4 +1,5 @@
--- A group of a box that keeps to the plan of its table, and logs by which it is judged: of what came in, and of what it sent.
+-- A group of a box that keeps to the plan of its table, and logs by which it is judged: of what came in, and of what it sent
+-- (profile: docs/FORMATS.md, Output of `judge`).
 use Rattle.std.specs.Prelude.{◌≡◌, ◌==◌, ◌&&◌, ◌+◌, ◌*◌, ◌≤◌, ℕ, Bool, List, [], Some, filter, is_some, length, map, nat_le, option_and_then, slice_get}
 use Rattle.std.specs.List.{AllZip, zip}
 use Rattle.std.specs.List.Sorted.{IsNonDecreasingBy}

@@ -1,4 +1,4 @@
--- How late a word goes out that a group's transmitter knows of, by the transmitter's calls.
+-- How late a word goes out that a group's transmitter knows of, by the transmitter's calls (profile: docs/RULES.md, How late a word goes out).
 use Rattle.std.specs.Prelude.{◌≡◌, ◌+◌, ◌<◌, ◌≤◌, ℕ, List, Some, length, slice_get, take}
 use Rattle.std.specs.List.{AllByRecursion}
 use Rattle.a429_equipment.specs.Arrivals.{SourcesAreApart}

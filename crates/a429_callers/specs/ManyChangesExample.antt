@@ -1,5 +1,5 @@
 -- An example that the laws of any number of changes speak of: a group sends its only source in every second slot, goes on to a plan that has it in
--- every fourth, and then back to the first one.
+-- every fourth, and then back to the first one (profile: docs/RULES.md, How late a word goes out).
 use Rattle.std.specs.Prelude.{◌≡◌, ◌+◌, ◌*◌, ◌≤◌, ◌∷◌, [], List, Some}
 use Rattle.a429_slots.specs.Proposed.{Proposed}
 use Rattle.a429_slots.specs.Events.{Event, Arrive, Cell, Frame, Publish}

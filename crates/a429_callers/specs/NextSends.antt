@@ -1,4 +1,5 @@
--- When a source is sent next after its group went on to another plan. A place is how many events come before it.
+-- When a source is sent next after its group went on to another plan (profile: docs/RULES.md, How late a word goes out). A place is how many events
+-- come before it.
 use Rattle.std.specs.Prelude.{◌≡◌, ◌+◌, ◌<◌, ◌≤◌, ℕ, false, Some, slice_get}
 use Rattle.a429_slots.specs.Tables.{Placed, SlotTable, outputs_of}
 use Rattle.a429_core.specs.Histories.{GroupHistory, IsCellAt, current_at}

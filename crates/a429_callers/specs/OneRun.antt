@@ -1,4 +1,4 @@
--- What a station of two receivers and a group did on threads, as one list of events of the machine.
+-- What a station of two receivers and a group did on threads, as one list of events of the machine (vocabulary of contracts).
 use Rattle.std.specs.Prelude.{◌≡◌, ◌-◌, ◌^◌, ◌++◌, ◌∷◌, [], ℕ, zero, suc, Bool, true, List, Option, ◌<◌, length}
 use Rattle.std.specs.List.{AllByRecursion}
 use Rattle.a429_equipment.specs.declared.loads.Load.{Load}
@@ -26,6 +26,7 @@ two first second (suc zero) = second
 two first second (suc (suc r)) = []
 
 -- what each receiver of the station accepts of the words that come in there, of no source more than 41 bits can count
+-- (profile: docs/RULES.md, Limits)
 abbrev pub heard_of : TableRecord → (ℕ → List ℕ) → ℕ → List (ℕ × ℕ)
 heard_of t words r = accepted_after (2 ^ 41 - 1) t r [] (words r)
 

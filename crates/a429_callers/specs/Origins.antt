@@ -1,4 +1,4 @@
--- The origin of the words that a running station sends.
+-- The origin of the words that a running station sends (vocabulary of contracts).
 use Rattle.std.specs.Prelude.{◌≡◌, ◌++◌, ℕ, List, Option, Some, Contains, IsTrue, slice_get, take}
 use Rattle.std.specs.List.{AllByRecursion, AllZip}
 use Rattle.a429_equipment.specs.Arrivals.{accepts}

@@ -1,4 +1,4 @@
--- Schedules that serve the rows of an equipment table, and what a text states of them.
+-- Schedules that serve the rows of an equipment table, and what a text states of them (profile: docs/RULES.md, Plans).
 use Rattle.std.specs.Prelude.{◌≡◌, ◌≤◌, ℕ, List, Some, length, slice_get}
 use Rattle.a429_grid.specs.Grid.{IsGridPeriod}
 use Rattle.a429_pack.specs.Schedules.{Schedule, NamesBelow, RecursWithin}

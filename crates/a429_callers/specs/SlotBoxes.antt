@@ -1,5 +1,5 @@
--- What a group sends of an output while its opening plan is in force: slot by slot what a right box sends (`a429_judge`). A place is how many
--- events come before it.
+-- What a group sends of an output while its opening plan is in force: slot by slot what a right box sends (`a429_judge`; profile: docs/RULES.md,
+-- Sending). A place is how many events come before it.
 use Rattle.std.specs.Prelude.{◌≡◌, ◌+◌, ◌-◌, ◌*◌, ◌<◌, ◌≤◌, ◌∷◌, ◌++◌, [], ℕ, List, Option, Some, None, filter, length, map, slice_get, take}
 use Rattle.a429_judge.specs.Machine.{SlotSend, slot_send, slot_sends}
 use Rattle.a429_slots.specs.Events.{Event, Publish}

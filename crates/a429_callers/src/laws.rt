@@ -10,9 +10,10 @@ use a429_slots::laws::{
 };
 
 /// `import_table`, which makes no names, is given `icd_sheet` as comma-separated values, of a table of version 2 without
-/// filters. It answers a table that is read with the same groups and outputs, in order, each with the same source and receiver. The text of
-/// its plan is the same. Only the numbers of sources and receivers may be others. The sources that no group sends are
-/// gone, and so are the receivers that are left without a source. The one error is that memory ran out.
+/// filters. It answers a table that is read with the same groups and outputs, in order, each with the same source and
+/// receiver. The text of its plan is the same. Only the numbers of sources and receivers may be others. The sources that
+/// no group sends are gone, and so are the receivers that are left without a source. The one error is that memory ran
+/// out.
 pub fn imported_icd_is_same_plan()
     ensures { ImportedIcdIsSamePlan }
 {

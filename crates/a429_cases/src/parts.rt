@@ -5,7 +5,7 @@ use a429_cli::MemoryFiles;
 use a429_text::Text;
 use std::alloc::Global;
 
-/// The bytes of the file of this name.
+/// The bytes of the file of this name. `None` if there is none.
 pub fn find_file<'a>(files: &'a MemoryFiles, name: &str) -> Option<&'a [u8]> {
     for (known, bytes) in &files.files {
         if known.as_str() == name {

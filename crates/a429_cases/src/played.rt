@@ -59,7 +59,7 @@ impl Played {
         }
     }
 
-    /// Adds the number of cases. Whether nothing failed.
+    /// Adds the number of cases to the lines on what failed. The answer is `true` if nothing failed.
     pub fn end(&mut self) -> bool {
         let are_met = self.lines().is_empty();
         self.failed

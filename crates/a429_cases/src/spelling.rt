@@ -10,7 +10,7 @@ pub fn cut<'a>(text: &'a str, mark: &str) -> (&'a str, &'a str) {
     text.split_once(mark).unwrap_or((text, ""))
 }
 
-/// What follows this beginning of a text, if the text begins so.
+/// What follows this beginning of a text. `None` if the text does not begin with it.
 pub fn after<'a>(text: &'a str, start: &str) -> Option<&'a str> {
     text.strip_prefix(start)
 }
@@ -26,7 +26,7 @@ pub fn number_before<'a>(text: &'a str, mark: &str, other: usize) -> (usize, &'a
 }
 
 /// The bytes that a spelled text means: `;` is a line feed, `\xHH` the byte with these hexadecimal digits, and
-/// `N of PART` is the part N times.
+/// `N of PART` is the part N times. `None` if an allocation fails.
 pub fn spelled(alloc: Global, text: &str) -> Option<Vec<u8>> {
     let (count, part) = number_before(text, " of ", 1);
     match unescaped(alloc, part) {
@@ -85,7 +85,7 @@ fn with_new(alloc: Global, text: &[u8], old: &[u8], new: &str) -> Option<Vec<u8>
 }
 
 /// The path of the program, and the arguments of a line. Spaces separate them. Text between quotes is one argument, which
-/// may have spaces or be empty.
+/// may have spaces or be empty. Error: an allocation failed.
 pub fn words_of(alloc: Global, line: &[u8]) -> Result<Vec<&[u8]>, AllocError> {
     let mut words: Gathered<&[u8]> = Gathered::new(alloc);
     words.push(b"a429");

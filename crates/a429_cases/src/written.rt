@@ -27,7 +27,7 @@ impl Written<'_> {
     }
 
     /// The text with the fields of the row in their places. Bars separate the fields; the last field that the text uses
-    /// has the rest of the row.
+    /// has the rest of the row. Error: an allocation failed.
     pub fn filled(self, alloc: Global) -> Result<String, AllocError> {
         let mut text = String::from_str(alloc, self.text);
         let mut rest = self.row;

@@ -1,4 +1,4 @@
--- A plan that a text states for a group, and that was checked against the rows of an equipment table.
+-- A plan that a text states for a group, and that was checked against the rows of an equipment table (profile: docs/RULES.md, Plans).
 use Rattle.std.specs.Prelude.{◌≡◌, ◌≢◌, ℕ, ◌+◌, ◌-◌, ◌*◌, ◌/◌, ◌%◌, ◌<◌, ◌≤◌, List, [], ◌∷◌, ◌++◌, length, Contains, Some, take, drop, slice_get}
 use Rattle.std.specs.List.{AllByRecursion, flat_map, filter_map, sum_by}
 use Rattle.a429_grid.specs.Grid.{IsGridPeriod}

@@ -1,4 +1,4 @@
--- What an equipment table asks of the text of its plan.
+-- What an equipment table asks of the text of its plan (profile: docs/FORMATS.md, Plan text).
 use Rattle.std.specs.Prelude.{◌≡◌, ℕ, List, Option, Some, MatchOption, map, take, slice_get}
 use Rattle.std.specs.List.{AllZip, AllByRecursion}
 use Rattle.a429_grid.specs.Grid.{HasNoGridPeriod, IsGridPeriod}

@@ -1,4 +1,4 @@
--- The lines of a group's outputs so far, as the code holds them.
+-- The lines of a group's outputs so far, as the code holds them (vocabulary of contracts).
 use Rattle.std.specs.Prelude.{◌≡◌, ◌≤◌, ◌<◌, ℕ, List, map, length, Bool, false, Some, slice_index_or, All}
 use Rattle.a429_cert.specs.declared.due.DueOutput.{DueOutput}
 use Rattle.a429_cert.specs.declared.due.DueGroup.{DueGroup}

@@ -1,4 +1,4 @@
--- Why the lines of a plan text are refused.
+-- Why the lines of a plan text are refused (profile: docs/FORMATS.md, Output of `check`).
 use Rattle.std.specs.Prelude.{◌≡◌, ℕ, zero, suc, ◌+◌, ◌-◌, ◌*◌, ◌/◌, ◌%◌, ◌^◌, ◌<◌, min, max, List, [], ◌∷◌, ◌++◌, take, drop, length, Option, Some, None, option_map, option_and_then, unwrap_or, is_none, Bool, true, false, not, ◌==◌, ◌&&◌, ◌||◌, nat_lt, nat_le, if◌then◌else◌, find, fold, position, Result, Ok, Err, MatchResult}
 use Rattle.std.specs.List.{list_any, sum_by, filter_map, All}
 use Rattle.std.specs.Str.{bytes_eq}

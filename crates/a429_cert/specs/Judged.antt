@@ -1,4 +1,4 @@
--- What a verdict says, and when there is none.
+-- What a verdict says, and when there is none (profile: docs/FORMATS.md, Output of `check`).
 use Rattle.std.specs.Prelude.{◌≡◌, ◌+◌, ℕ, List, [], ◌∷◌, drop, length, slice_get, ⊤, Some, Ok, Err}
 use Rattle.std.specs.List.{zip}
 use Rattle.a429_equipment.specs.Sound.{IsSound}

@@ -1,4 +1,4 @@
--- The lines of a text.
+-- The lines of a text (profile: docs/FORMATS.md, Plan text).
 use Rattle.std.specs.Prelude.{ℕ, ◌+◌, List, [], ◌∷◌, ◌==◌, if◌then◌else◌, slice_index_or, length, drop, Option, Some, None, position}
 use Rattle.std.specs.List.{onto_first}
 

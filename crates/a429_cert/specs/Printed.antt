@@ -1,4 +1,4 @@
--- How the answers of a check are printed.
+-- How the answers of a check are printed (profile: docs/FORMATS.md, Output of `check`).
 use Rattle.std.specs.Prelude.{codes, ℕ, List, ◌++◌}
 use Rattle.std.specs.Fmt.{decimal}
 use Rattle.a429_cert.specs.declared.verdicts.Reason.{Reason}

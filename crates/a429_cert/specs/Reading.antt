@@ -1,4 +1,4 @@
--- How a line of a plan text is read from left to right.
+-- How a line of a plan text is read from left to right (profile: docs/FORMATS.md, Plan text).
 use Rattle.std.specs.Prelude.{◌≡◌, ℕ, List, length, take, drop, codes, Option, Some, None, Bool, ◌==◌, nat_eq, if◌then◌else◌}
 use Rattle.std.specs.List.{starts_with, position_or_len}
 use Rattle.std.specs.Str.{bytes_eq}

@@ -1,4 +1,4 @@
--- How the lines of a plan text are spelled.
+-- How the lines of a plan text are spelled (profile: docs/FORMATS.md, Plan text).
 use Rattle.std.specs.Prelude.{ℕ, ◌^◌, ◌<◌, ◌≡◌, List, ◌++◌, codes, length, ◌||◌, ◌==◌, Bool, false, Option, Some, None, is_some, IfSome, if◌then◌else◌}
 use Rattle.std.specs.List.{AllByRecursion}
 use Rattle.std.specs.Fmt.{decimal}

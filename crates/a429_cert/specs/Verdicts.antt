@@ -1,4 +1,4 @@
--- The answer of a check.
+-- The answer of a check (profile: docs/FORMATS.md, Output of `check`).
 use Rattle.std.specs.Prelude.{ℕ, List, Option, Some, None}
 use Rattle.a429_cert.specs.declared.verdicts.No.{No}
 use Rattle.a429_cert.specs.declared.verdicts.Verdict.{Verdict}

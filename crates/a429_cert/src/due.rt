@@ -37,7 +37,7 @@ pub struct DueTable {
     pub groups: Vec<DueGroup>,
 }
 
-/// The same number in 64 bits.
+/// A number of 32 bits in 64 bits; `None` stays `None`.
 fn to_u64(number: Option<u32>) -> Option<u64>
     ensures { result ≡ number }
 {

@@ -17,25 +17,25 @@ pub fn plan_lines()
     ensures only { IsReadAs plan_line version_text IsShort }
 {}
 
-/// The same of the line `rate` of version 1.
+/// The line `rate` of version 1 is read if and only if it is spelled in its form (profile: plan text).
 pub fn rate_lines()
     ensures found { IsReadOnlyAs rate_line rate_text IsShort }
     ensures only { IsReadAs rate_line rate_text IsShort }
 {}
 
-/// The same of a group's first line, in each version.
+/// A group's first line is read if and only if it is spelled in its form, in each version (profile: plan text).
 pub fn group_lines()
     ensures found { (version : ℕ) → IsReadOnlyAs (group_line version) group_text (FitsHeading version) }
     ensures only { (version : ℕ) → IsReadAs (group_line version) group_text (FitsHeading version) }
 {}
 
-/// The same of the line of an output, in each version.
+/// The line of an output is read if and only if it is spelled in its form, in each version (profile: plan text).
 pub fn output_lines()
     ensures found { (version : ℕ) → IsReadOnlyAs (output_line version) output_text (FitsListing version) }
     ensures only { (version : ℕ) → IsReadAs (output_line version) output_text (FitsListing version) }
 {}
 
-/// The same of a group's last line.
+/// A group's last line is read if and only if it is spelled in its form (profile: plan text).
 pub fn bound_lines()
     ensures found { IsReadOnlyAs bound_line bound_text FitsBounding }
     ensures only { IsReadAs bound_line bound_text FitsBounding }

@@ -40,7 +40,7 @@ impl Model for Refusal {
 impl Fault {
     ghost use Rattle.std.specs.Prelude.{◌≡◌};
 
-    /// This reason against a line, if this was expected.
+    /// A fault of a line: the reason why it is refused, and what was expected in its place.
     pub fn new(reason: Reason, expected: Expected) -> Fault
         ensures { result ≡ reason }
     {
@@ -108,7 +108,7 @@ impl<T: Drop> From<AllocFailed<T>> for CheckStop {
     }
 }
 
-/// What a line says, or the refusal of the line with this number.
+/// What a line says. Error: the line has a fault; it is then refused with its number.
 pub fn with_line_number<T: Drop>(line: usize, said: Result<T, Fault>) -> Result<T, CheckStop>
     ensures { MatchResult said (λ x. result ≡ Ok x) (λ r. result ≡ Err (CheckStop.Refused (record { reason = r; line = line }))) }
 {

@@ -1,4 +1,5 @@
--- What a call makes of its arguments before it does what they ask for: `command`, or `command_live`.
+-- What a call makes of its arguments before it does what they ask for: `command`, or `command_live`
+-- (profile: docs/FORMATS.md, Help, usage errors and outputs that fail).
 use Rattle.std.specs.Prelude.{◌≡◌, [], ℕ, List, Bool, if◌then◌else◌}
 use Rattle.clap.specs.Words.{Kinds}
 use Rattle.a429_console.specs.Ends.{EndsBy, IsLeft, IsPutTo, IsWhole, Writing}

@@ -1,4 +1,4 @@
--- The command `judge`: its answer and its status.
+-- The command `judge`: its answer and its status (profile: docs/FORMATS.md, Output of `judge`).
 use Rattle.std.specs.Prelude.{◌≡◌, ◌∷◌, ℕ, List, Bool, Option, if◌then◌else◌}
 use Rattle.a429_arguments.specs.Requests.{AskedBytes}
 use Rattle.a429_console.specs.declared.refusals.CommandRefusal.{CommandRefusal}

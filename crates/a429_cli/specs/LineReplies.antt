@@ -1,4 +1,4 @@
--- The command `lines`: what it writes, and its status.
+-- The command `lines`: what it writes, and its status (profile: docs/FORMATS.md, Output of `lines`).
 use Rattle.std.specs.Prelude.{◌≡◌, ◌==◌, ◌||◌, ◌+◌, ◌∷◌, [], ◌++◌, ◌⊎◌, ℕ, List, Bool, true, false, Option, Some, None, Result, MatchResult, map, take, is_none, if◌then◌else◌}
 use Rattle.a429_line.specs.declared.found.Symbol.{Symbol}
 use Rattle.a429_line.specs.Reports.{reports, rest}

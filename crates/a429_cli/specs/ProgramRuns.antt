@@ -1,4 +1,4 @@
--- What the program does with its arguments.
+-- What the program does with its arguments (profile: docs/FORMATS.md, Help, usage errors and outputs that fail).
 use Rattle.std.specs.Prelude.{◌≡◌, ◌≤◌, [], ◌∷◌, ◌⊎◌, ℕ, List, Bool, false, Option, IsTrue, codes}
 use Rattle.std.specs.Str.{bytes_eq}
 use Rattle.a429_console.specs.Ends.{EndsBy, IsLeft, IsMemoryRefused, IsMistakeTold, IsPutTo, IsWhole, Writing}

@@ -1,4 +1,4 @@
--- The proposal of the table in a file, with which the commands on one plan begin.
+-- The proposal of the table in a file, with which the commands on one plan begin (vocabulary of contracts).
 use Rattle.std.specs.Prelude.{◌≡◌, ◌⊎◌, ℕ, List, Option, Some, Result, MatchResult}
 use Rattle.a429_slots.specs.Proposed.{Proposed}
 use Rattle.a429_console.specs.FileReadings.{IsFileRefusal, readable}

@@ -1,4 +1,4 @@
--- What is answered to what is asked for.
+-- What is answered to what is asked for (vocabulary of contracts).
 use Rattle.std.specs.Prelude.{◌∷◌, ⊤, ℕ, List, Bool, true, false, Option, Result}
 use Rattle.a429_console.specs.Outputs.{FailedCalls, OrNoMemory}
 use Rattle.a429_console.specs.Replying.{RepliesByReader, RepliesToWords}
@@ -29,7 +29,7 @@ is_whole verb.Simulate = false
 is_whole verb.Live = false
 is_whole _ = true
 
--- the status of a refusal: `load`, `lint`, `diff` and `judge` keep 1 for what they find
+-- the status of a refusal: `load`, `lint`, `diff` and `judge` keep 1 for what they find (profile: status 0, 1 and 2)
 abbrev pub trouble_of : Verb → ℕ
 trouble_of verb.Load = 2
 trouble_of verb.Lint = 2

@@ -1,4 +1,4 @@
--- The command `survey`: its answer and its status.
+-- The command `survey`: its answer and its status (profile: docs/FORMATS.md, Output of `survey`).
 use Rattle.std.specs.Prelude.{◌≡◌, ◌∷◌, ℕ, List, Option}
 use Rattle.a429_arguments.specs.Requests.{AskedBytes}
 use Rattle.a429_console.specs.declared.refusals.CommandRefusal.{CommandRefusal}

@@ -23,11 +23,11 @@ data_text value = data_digits value ++ 10 ∷ []
 abbrev pub fields_line : ℕ → List ℕ
 fields_line raw = name_text (label_of raw) (sdi_of raw) ++ status_text (ssm_of raw) ++ data_text (data_of raw)
 
--- 18 data bits and the sign
+-- 18 data bits and the sign (ARINC 429 Part 1, data formats)
 abbrev pub bnr_line : ℕ → List ℕ
 bnr_line raw = codes "bnr " ++ signed_decimal (bnr_of 18 raw) ++ codes " " ++ bnr_text (bnr_meaning (ssm_of raw)) ++ 10 ∷ []
 
--- the five digits, if each field is one
+-- the five digits, if each field is one (ARINC 429 Part 1, data formats)
 abbrev pub bcd_digits : Option (List ℕ) → List ℕ
 bcd_digits None = codes "none"
 bcd_digits (Some ds) = flat_map decimal ds

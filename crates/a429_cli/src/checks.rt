@@ -149,7 +149,8 @@ fn verdict_reply(alloc: Global, verdict: JudgedText) -> Result<Reply, Refused>
 }
 
 /// The line of the verdict on the text in a file by the table in another. The status is 0 if the text shows the fewest
-/// buses for the table, otherwise 1. The first file is refused first, then the second, then the table.
+/// buses for the table, otherwise 1. Errors, in this order: the file of the table or that of the text is refused, or the
+/// table has a fault. `Memory` if an allocation fails.
 pub fn check_reply<F: FileReader>(
     alloc: Global,
     files: &mut F,

@@ -49,11 +49,13 @@ pub fn command<'a, H: Hints, F: FileReader, O: Output, V: Output>(
     out: &mut O,
     err: &mut V,
 ) -> u8
-    // If the arguments ask for something and no call of the output failed, the bytes put are those of the answer, and so is the status.
+    // If the arguments ask for something and no call of the output failed, the bytes put are those of the answer, and so
+    // is the status.
     ensures replied { RepliesToCommand F.tells F.file O.contents O.failures (texts_of words.entry.now) files.old out.old out.new result }
-    // The same of a reader of any files: the answer is that of files which give what the reader answered in this call.
+    // For a reader of any files, the answer is that of files which give what the reader answered in this call.
     ensures read { RepliesToCommandByReader F.answers O.contents O.failures (texts_of words.entry.now) files.old out.old out.new result }
-    // With status 0 nothing is written to `err`, if there is nothing to warn of in any files which give what the reader answered.
+    // With status 0 nothing is written to `err`, if there is nothing to warn of in any files which give what the reader
+    // answered.
     ensures quiet { (r : AskedBytes) → is_run r.verb ≡ false → AsksFor (texts_of words.entry.now) r
         → HasReadFrom F.answers (λ file. IsSilent file r → result ≡ 0 → err.new ≡ err.old) files.old }
     // The status is at most 1, or at most 2 of a command whose status 1 says that it found something.

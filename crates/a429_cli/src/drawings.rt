@@ -50,7 +50,8 @@ fn group_numbered(groups: &[GroupRow], name: &str) -> Option<usize>
     groups.iter().position(|group| group.name.as_str() == name)
 }
 
-/// The number of the group to draw; `None` draws all groups. Error: no group has this name.
+/// The number of the group to draw; `None` draws all groups. Error: no group has this name. It is `Memory` instead if an
+/// allocation for the name fails.
 pub fn group_asked(
     alloc: Global,
     groups: &[GroupRow],
@@ -110,8 +111,8 @@ fn image_numbered(
     }
 }
 
-/// The picture of a proposal's plan, of the group of this name or of all, with status 0. A name that no group has is refused
-/// first, then an image that is too high.
+/// The picture of a proposal's plan, of the group of this name or of all, with status 0. Errors, in this order: no group
+/// has this name, or the image is too high. `Memory` if an allocation fails.
 pub fn image_of(
     alloc: Global,
     proposal: &Proposal<OUTPUTS>,

@@ -158,8 +158,9 @@ fn given_word(label: Label, fields: &FieldOptions<'_>) -> Option<Word>
     Word::build(label, sdi, value, ssm).ok()
 }
 
-/// The word of a label, an SDI, an SSM and data: eight hexadecimal digits on a line, with status 0. A text that is no label is
-/// refused (`label-text`), otherwise data that is not in its form or does not fit its bits (`data-text`).
+/// The word of a label, an SDI, an SSM and data: eight hexadecimal digits on a line, with status 0. Errors, in this
+/// order: the text is no label (`label-text`), or the data is not in its form or does not fit its bits (`data-text`).
+/// `Memory` if an allocation fails.
 pub fn encode_reply(alloc: Global, label: &str, fields: &FieldOptions<'_>) -> Result<Reply, Refused>
     ensures { Replies (IsEncoded label.now (fields_of fields.now)) (IsNotEncoded label.now (fields_of fields.now)) result }
 {

@@ -50,8 +50,8 @@ fn lint(alloc: Global, equipment: &Equipment, form: SheetForm) -> Result<Reply, 
     Ok(reply.with(Found::Rows(sheet)))
 }
 
-/// The likely mistakes in the table in a file, a row for each finding. The status is 0 if there is none, otherwise 1. The
-/// file is refused first, then the table.
+/// The likely mistakes in the table in a file, a row for each finding. The status is 0 if there is none, otherwise 1.
+/// Errors, in this order: the file is refused, or the table has a fault. `Memory` if an allocation fails.
 pub fn lint_reply<F: FileReader>(
     alloc: Global,
     files: &mut F,
@@ -105,9 +105,10 @@ fn diff_between(
     Ok(diff_of(alloc, &first, &second, all, form)?)
 }
 
-/// What changes from the plan of the table in a file to that of the table in another, a row for each thing that differs. With
-/// `all` each output that only changes its place has a row, otherwise one row has their number. The status is 0 if
-/// nothing changes, otherwise 1. The first file is refused first, then the second, then the tables and their plans.
+/// What changes from the plan of the table in a file to that of the table in another, a row for each thing that differs.
+/// With `all` each output that only changes its place has a row, otherwise one row has their number. The status is 0 if
+/// nothing changes, otherwise 1. Errors, in this order: the first or the second file is refused, or a table has a fault
+/// or no plan. `Memory` if an allocation fails.
 pub fn diff_reply<F: FileReader>(
     alloc: Global,
     files: &mut F,

@@ -60,8 +60,9 @@ fn rows_evidence(bytes: Vec<u8>, fault: &ImportFault) -> RowsEvidence {
 }
 
 /// The table that the rows in a file state, with status 0. Their heading is read by texts HEADING=COLUMN. With `names`,
-/// texts of groups, sources and receivers become names. The file is refused first, then the first of the rows that has a
-/// fault, then the table. Each group of the table whose intervals may be milliseconds is noted.
+/// texts of groups, sources and receivers become names. Each group of the table whose intervals may be milliseconds is
+/// noted. Errors, in this order: the file is refused, a row has a fault, or the table has one. `Memory` if an allocation
+/// fails.
 pub fn import_reply<F: FileReader>(
     alloc: Global,
     files: &mut F,

@@ -35,8 +35,9 @@ fn names_in<'a>(asked: &'a Asked) -> JudgeNames<'a>
     }
 }
 
-/// Whether what a box sent is right, with status 0 if nothing was found, and otherwise 1. The files are refused first, then
-/// the table and its plan, the tolerances, the first faulty line, and logs that have no time in common.
+/// Whether what a box sent is right, with status 0 if nothing was found, and otherwise 1. Errors, in this order: a file
+/// is refused; the table has a fault or no plan; a tolerance is refused; a line is faulty; the logs have no time in
+/// common. `Memory` if an allocation fails.
 pub fn judge_reply<F: FileReader>(
     alloc: Global,
     files: &mut F,

@@ -115,7 +115,7 @@ fn tell_line<O: Output>(alloc: Global, line: &LineInput, out: &mut O) -> Result<
 /// filters, at most 32, there is one line for each word that a socket on the line gives. A refusal is one line instead.
 /// It is `file` if the file cannot be read, and `filter` if a filter is not `LLL/MMM` or is the 33rd. It is `line byte`
 /// if a byte is neither a symbol nor a space or a line feed. The status is 0, or 1 after a refusal, or if an allocation
-/// fails after the first lines.
+/// fails after the first lines. Error: the output failed.
 pub fn tell_lines<F: FileReader, O: Output>(
     alloc: Global,
     files: &mut F,

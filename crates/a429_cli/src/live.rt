@@ -37,11 +37,13 @@ pub fn command_live<
     err: &mut V,
     progress: &P,
 ) -> u8
-    // If the arguments ask for a run and no call of the output failed, the bytes put and the status are those of its report or of the one refusal.
+    // If the arguments ask for a run and no call of the output failed, the bytes put and the status are those of its
+    // report or of the one refusal.
     ensures replied { RepliesToLive F.tells F.file O.contents O.failures (texts_of words.entry.now) files.old out.old out.new result }
-    // The same of a reader of any files: the answer is that of files which give what the reader answered in this call.
+    // For a reader of any files, the answer is that of files which give what the reader answered in this call.
     ensures read { RepliesToLiveByReader F.answers O.contents O.failures (texts_of words.entry.now) files.old out.old out.new result }
-    // With status 0 nothing is written to `err`, if there is nothing to warn of in any files which give what the reader answered.
+    // With status 0 nothing is written to `err`, if there is nothing to warn of in any files which give what the reader
+    // answered.
     ensures quiet { (r : AskedBytes) → is_run r.verb ≡ true → AsksFor (texts_of words.entry.now) r
         → HasReadFrom F.answers (λ file. IsSilent file r → result ≡ 0 → err.new ≡ err.old) files.old }
     ensures asked { (r : AskedBytes) → is_run r.verb ≡ true → AsksFor (texts_of words.entry.now) r → result ≤ 1 }

@@ -109,8 +109,9 @@ fn reply_on_plan(
     }
 }
 
-/// What a command writes about the plan of the table in a file, and its status. The file is refused first, then the table, then
-/// its plan, then a group that is not there, then an image that is too high.
+/// What a command writes about the plan of the table in a file, and its status. Errors, in this order: the file is
+/// refused; the table has a fault; it has no plan; no group has the given name; an image is too high. `Memory` if an
+/// allocation fails.
 pub fn plan_reply<F: FileReader>(
     alloc: Global,
     files: &mut F,

@@ -9,7 +9,8 @@ use a429_console::refusals::Refused;
 use a429_slots::{OUTPUTS, Proposal};
 use std::alloc::Global;
 
-/// The proposal of the table in a file. Error: the file is refused, then the table, then its plan.
+/// The proposal of the table in a file. Errors, in this order: the file is refused; the table has a fault; it has no
+/// plan. `Memory` if an allocation fails.
 pub fn propose_file<F: FileReader>(
     alloc: Global,
     files: &mut F,

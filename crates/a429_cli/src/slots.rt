@@ -58,7 +58,8 @@ fn slots_text(
     }
 }
 
-/// The same of the group of this name, with status 0. A name that no group has is refused.
+/// The slot tables of a proposal's plan, of the group of this name or of all, with status 0. Error: no group has this
+/// name. `Memory` if an allocation fails.
 pub fn slots_of(
     alloc: Global,
     proposal: &Proposal<OUTPUTS>,

@@ -25,8 +25,8 @@ fn names_in<'a>(asked: &'a Asked) -> LogNames<'a>
     }
 }
 
-/// What is on the lines of a log and of those that follow it, with status 0. The files are refused first, then the first
-/// faulty line.
+/// What is on the lines of a log and of those that follow it, with status 0. Errors, in this order: a file is refused, or
+/// a line is faulty. `Memory` if an allocation fails.
 pub fn survey_reply<F: FileReader>(
     alloc: Global,
     files: &mut F,

@@ -93,8 +93,8 @@ fn write_word<W: Write>(out: &mut W, word: Word) -> io::Result<()>
     write_bcd(out, word)
 }
 
-/// What the word of eight hexadecimal digits says, in either case, with status 0. Another text is refused (`word-text`), and
-/// one of even parity (`parity`).
+/// What the word of eight hexadecimal digits says, in either case, with status 0. Errors, in this order: the text is not
+/// of this form (`word-text`), or the word has even parity (`parity`). `Memory` if an allocation fails.
 pub fn word_reply(alloc: Global, text: &str) -> Result<Reply, Refused>
     ensures { Replies (IsWordOf text.now) (IsNoWord text.now) result }
 {

@@ -1,4 +1,4 @@
--- A replay that came to its end.
+-- A replay that came to its end (profile: docs/FORMATS.md, Output of `replay`).
 use Rattle.std.specs.Prelude.{ℕ, List, [], Option}
 use Rattle.a429_slots.specs.Proposed.{Proposed}
 use Rattle.a429_arguments.specs.Requests.{asked_by_names}

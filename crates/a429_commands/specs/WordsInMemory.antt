@@ -1,4 +1,4 @@
--- Arguments in memory, given to the program.
+-- Arguments in memory, given to the program (vocabulary of contracts).
 use Rattle.std.specs.Prelude.{◌⊎◌, ℕ, List, Option, drop}
 use Rattle.std.specs.List.{AllByRecursion}
 use Rattle.std.specs.Str.{IsUtf8}

@@ -11,8 +11,8 @@ use std::alloc::Global;
 use std::sync::Wait;
 use std::thread::Threads;
 
-/// The status of a replay over files in memory, and what it writes, if all of it was taken. With status 0 that is the
-/// answers to all events of the script, from the opening of the table's own plan.
+/// The status of a replay over files in memory, and what it writes. With status 0 that is the answers to all events of
+/// the script, from the opening of the table's own plan. `None` if the output in memory failed, since an allocation did.
 pub fn replay_in_memory<H: Hints>(
     alloc: Global,
     hints: &H,
@@ -36,8 +36,9 @@ pub fn replay_in_memory<H: Hints>(
     Some((status, out.writer))
 }
 
-/// The same by the whole program, on arguments in memory: its path, which need not be text, `replay`, and the two names. It
-/// may wait for threads, since the program may.
+/// The status of a replay over files in memory by the whole program, and what it writes. The arguments are in memory too:
+/// the path of the program, which need not be text, `replay`, and the two names. It may wait for threads, since the
+/// program may. `None` if the output in memory failed, since an allocation did.
 pub fn replay_by_words<R: AllocGlobal + Threads + Wait, H: Hints>(
     rt: &R,
     hints: &H,

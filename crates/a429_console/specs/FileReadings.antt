@@ -1,4 +1,4 @@
--- Files as a command reads them, by their names.
+-- Files as a command reads them, by their names (vocabulary of contracts).
 use Rattle.std.specs.Prelude.{◌≡◌, ◌∷◌, [], ◌⊎◌, ℕ, List, Option, Some, None, Result, MatchResult, if◌then◌else◌, nat_le, length, map, string_bytes, chars, encode_utf8_all}
 use Rattle.std.specs.Char.{is_control}
 use Rattle.std.specs.List.{AllZip}
@@ -9,7 +9,7 @@ use Rattle.a429_console.specs.RefusalText.{OrMemory}
 use Rattle.a429_console.specs.declared.refusals.CommandRefusal.{CommandRefusal}
 use Rattle.a429_console.specs.declared.refusals.CommandRefusal.TheVariants as refused
 
--- how many bytes a file may have, and how many a log: 16 MiB and 1 GiB
+-- how many bytes a file may have, and how many a log: 16 MiB and 1 GiB (profile: docs/RULES.md, Limits)
 abbrev pub largest_file : ℕ
 largest_file = 16777216
 
@@ -35,7 +35,7 @@ AreRead file names contents = AreReadIn largest_file file names contents
 abbrev pub AreReadLogs : (List ℕ → Option (List ℕ)) → List (List ℕ) → List (List ℕ) → Type 0
 AreReadLogs file names contents = AreReadIn largest_log file names contents
 
--- a character as a refusal prints it; a control character, such as a line feed, is `?`
+-- a character as a refusal prints it; a control character, such as a line feed, is `?` (profile: docs/FORMATS.md, Refusals before an answer)
 abbrev pub printable_char : ℕ → ℕ
 printable_char c = if is_control c then 63 else c
 

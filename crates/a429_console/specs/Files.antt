@@ -1,4 +1,4 @@
--- The bytes of files, as lists of numbers.
+-- The bytes of files, as lists of numbers (vocabulary of contracts).
 use Rattle.std.specs.Prelude.{ℕ, List, map}
 use Rattle.std.specs.declared.vec.Vec.{Vec}
 use Rattle.std.specs.declared.alloc.Global.{Global}

@@ -1,4 +1,4 @@
--- Names of a station, and the numbers that they stand for.
+-- Names of a station, and the numbers that they stand for (vocabulary of contracts).
 use Rattle.std.specs.Prelude.{ℕ, List, [], Option, map, position, slice_get, unwrap_or}
 use Rattle.std.specs.Option.{option_map_or}
 use Rattle.std.specs.Str.{bytes_eq}

@@ -1,4 +1,4 @@
--- What a reader of files answered, call by call.
+-- What a reader of files answered, call by call (vocabulary of contracts).
 use Rattle.std.specs.Prelude.{◌≡◌, ◌∷◌, [], ⊤, ℕ, List, Option, Some, None, Result, Ok, Err}
 use Rattle.std.specs.Prelude.{Bool, true, false, IsTrue}
 use Rattle.std.specs.List.{AllByRecursion}

@@ -1,4 +1,4 @@
--- How a command that reads files answers.
+-- How a command that reads files answers (vocabulary of contracts).
 use Rattle.std.specs.Prelude.{◌≡◌, ℕ, List, Bool, Option, Result, IfOk, IsTrue}
 use Rattle.a429_console.specs.Outputs.{FailedCalls, IsPut, NoneFailed}
 use Rattle.a429_console.specs.Readings.{HasRead, HasReadFrom}

@@ -1,4 +1,4 @@
--- Tables as a command reads them: the proposal of a table, or why there is none.
+-- Tables as a command reads them: the proposal of a table, or why there is none (vocabulary of contracts).
 use Rattle.std.specs.Prelude.{◌≡◌, ℕ, true, List, Result, MatchResult, Ok, Err, string_bytes}
 use Rattle.std.specs.List.{AllByRecursion}
 use Rattle.a429_equipment.specs.TableRecord.{TableRecord}

@@ -87,7 +87,8 @@ impl Answered {
     }
 }
 
-/// What a command answered with this status, if it leaves this for a hint.
+/// What a command answered: this status, and what was found for a hint. Error: the fault that was given in place of a
+/// status.
 pub fn answer_with(status: Result<u8, OutputFault>, found: Found) -> Result<Answered, OutputFault>
     ensures { result ≡ status }
 {
@@ -97,14 +98,14 @@ pub fn answer_with(status: Result<u8, OutputFault>, found: Found) -> Result<Answ
     }
 }
 
-/// The same, if it leaves nothing.
+/// What a command answered: this status, and nothing for a hint. Error: the fault that was given in place of a status.
 pub fn plain_answer(status: Result<u8, OutputFault>) -> Result<Answered, OutputFault>
     ensures { result ≡ status }
 {
     answer_with(status, Found::Nothing)
 }
 
-/// The status of what a command answered.
+/// The status of what a command answered. Error: the output fault that it has instead.
 pub fn status_of(answered: &Result<Answered, OutputFault>) -> Result<u8, OutputFault>
     ensures { result ≡ answered.now }
 {

@@ -44,13 +44,13 @@ pub trait Output {
     /// Whether it passed on all that it took.
     ghost is_flushed: { Self → Bool };
 
-    /// Takes all of the bytes, or fails.
+    /// Takes all of the bytes. Error: the output failed.
     fn put(&mut self, bytes: &[u8]) -> Result<(), OutputFault>
         ensures taken { OnOk result (Appends (contents self.old) (contents self.new) bytes.now) }
         ensures faults { CountsFault result (failures self.old) (failures self.new) }
         ensures ended { 0 < (failures self.old).count → IsErr result };
 
-    /// Passes on what it took, or fails.
+    /// Passes on what it took. Error: the output failed.
     fn flush(&mut self) -> Result<(), OutputFault>
         ensures taken { OnOk result (Keeps (contents self.old) (contents self.new)) }
         ensures flushed { OnOk result (IsTrue (is_flushed self.new)) }

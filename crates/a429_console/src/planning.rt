@@ -13,7 +13,8 @@ use a429_slots::{NoProposal, OUTPUTS, Proposal};
 use a429_table::{TableFault, read_or_keep};
 use std::alloc::Global;
 
-/// The proposal of a table's bytes. Error: the table's fault, otherwise the first fault of its plan.
+/// The proposal of a table's bytes. Error: the fault of the table, otherwise the first fault of its plan. `Memory` if an
+/// allocation fails.
 pub fn propose(alloc: Global, table: &[u8]) -> Result<Proposal<OUTPUTS>, Refused>
     ensures { MatchResult result (IsProposedBy table.now) (OrMemory (IsTableRefusal table.now)) }
 {
@@ -32,7 +33,7 @@ fn refuse_plan(none: NoProposal) -> Refused
     Refused::of_table(refusal, TableEvidence::of_equipment(none.equipment))
 }
 
-/// What is done with the plan of a table. If that is refused without evidence, the plan is evidence.
+/// What is done with the plan of a table. Error: the given refusal; if it has no evidence, the plan becomes its evidence.
 pub fn with_plan<T: Drop>(
     done: Result<T, Refused>,
     proposal: Proposal<OUTPUTS>,
@@ -45,7 +46,7 @@ pub fn with_plan<T: Drop>(
     }
 }
 
-/// The equipment of a table's bytes. The refusal is the table's fault.
+/// The equipment of a table's bytes. Error: the fault of the table, or `Memory` if an allocation fails.
 pub fn read_table(alloc: Global, table: &[u8]) -> Result<Equipment, Refused>
     ensures { MatchResult result (λ t. reading table.now ≡ Ok t) (OrMemory (IsTableFault table.now)) }
 {

@@ -213,7 +213,7 @@ impl Refused {
         Refused::with(refusal, Evidence::of_table(table))
     }
 
-    /// The same of the second of two tables.
+    /// This refusal, as that of the second of two tables.
     pub fn of_second_table(self) -> Refused
         ensures { result ≡ self }
     {
@@ -221,7 +221,7 @@ impl Refused {
         Refused::with(refusal, evidence.of_second_table())
     }
 
-    /// The same of a log after this number of other logs.
+    /// This refusal, as that of a log which comes after this number of other logs.
     pub fn after_logs(self, before: usize) -> Refused
         ensures { result ≡ self }
     {
@@ -245,7 +245,7 @@ impl Refused {
         }
     }
 
-    /// The same, with the plan of the table as evidence if it has none.
+    /// This refusal, with the plan of the table as evidence if it had no evidence.
     pub fn or_plan(self, proposal: Proposal<OUTPUTS>) -> Refused
         ensures { result ≡ self }
     {
@@ -345,7 +345,8 @@ pub fn refuse_as<O: Output>(
     }
 }
 
-/// The same with status 1. Error: the output failed.
+/// Puts the line of a refusal, or the line `refused memory` if an allocation for it fails. The status is 1, and the
+/// refusal is handed on for a hint. Error: the output failed.
 pub fn refuse<O: Output>(
     alloc: Global,
     refused: Refused,

@@ -15,7 +15,8 @@ use std::io;
 use std::io::Write;
 
 /// Answers arguments that ask for no command, by the parser's error. Help that was asked for is put, with status 0. The
-/// text of a usage error, with what may have been meant, is written to `err`, with status 2, or 1 if `err` fails.
+/// text of a usage error, with what may have been meant, is written to `err`, with status 2, or 1 if `err` fails. Error:
+/// the output `out` failed.
 pub fn explain<H: Hints, O: Output, V: Output>(
     alloc: Global,
     error: &Error,

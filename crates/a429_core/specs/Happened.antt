@@ -1,4 +1,4 @@
--- The events that the program's values stand for.
+-- The events that the program's values stand for (vocabulary of contracts).
 use Rattle.a429_slots.specs.Events.{Event, Arrive, Cell, Frame, Publish}
 use Rattle.a429_core.specs.declared.events.Event as code
 use Rattle.a429_core.specs.declared.events.Event.TheVariants as code_event

@@ -1,4 +1,4 @@
--- The history of one group of a station.
+-- The history of one group of a station (vocabulary of contracts).
 use Rattle.std.specs.Prelude.{ℕ, List, take}
 use Rattle.a429_slots.specs.Tables.{Placed, SlotTable}
 use Rattle.a429_slots.specs.Events.{Event}

@@ -1,4 +1,5 @@
--- How long an accepted word waits until it goes out, in slots of its group: its latency. A place is how many events come before it.
+-- How long an accepted word waits until it goes out, in slots of its group: its latency (profile: docs/RULES.md, How late a word goes out). A place
+-- is how many events come before it.
 use Rattle.std.specs.Prelude.{◌≡◌, ◌⊎◌, ◌+◌, ◌*◌, ◌<◌, ◌≤◌, ◌/◌, ◌%◌, ◌^◌, ℕ, false, IsTrue, List, Some, None, if◌then◌else◌, nat_lt, length, take, slice_get}
 use Rattle.a429_equipment.specs.Arrivals.{SourcesAreApart}
 use Rattle.a429_slots.specs.declared.group_plan.SlotPlace.{SlotPlace}

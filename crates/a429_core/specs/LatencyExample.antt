@@ -1,5 +1,5 @@
--- An example that the laws of latency speak of: a group sends its only source in every second slot, and a word comes in once its output has
--- stayed for a period.
+-- An example that the laws of latency speak of: a group sends its only source in every second slot, and a word comes in once its output has stayed
+-- for a period (profile: docs/RULES.md, How late a word goes out).
 use Rattle.std.specs.Prelude.{◌∷◌, [], List, None}
 use Rattle.a429_equipment.specs.declared.rows.SourceRow.{SourceRow}
 use Rattle.a429_equipment.specs.TableRecord.{TableRecord}

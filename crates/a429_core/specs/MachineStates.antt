@@ -1,4 +1,4 @@
--- What a state is: what contracts see of it, and the histories that it stands for.
+-- What a state is: what contracts see of it, and the histories that it stands for (vocabulary of contracts).
 use Rattle.std.specs.Prelude.{◌≡◌, ◌≤◌, ◌+◌, ◌-◌, ◌/◌, ◌^◌, ◌++◌, ℕ, List, Option, Some, Result, Ok, ⊤, length, slice_get, option_and_then, option_map}
 use Rattle.a429_equipment.specs.declared.rows.SourceRow.{SourceRow}
 use Rattle.a429_equipment.specs.TableRecord.{TableRecord}

@@ -1,4 +1,4 @@
--- What the machine does in one step: its answer, and the state after it.
+-- What the machine does in one step: its answer, and the state after it (profile: docs/RULES.md, Sending).
 use Rattle.std.specs.Prelude.{◌≡◌, ◌+◌, ◌-◌, ◌^◌, ℕ, Bool, false, List, Option, Some, None, Result, Ok, Err, if◌then◌else◌, nat_lt, nat_le, length, slice_get, slice_set, option_and_then, option_map}
 use Rattle.std.specs.Option.{option_map_or}
 use Rattle.a429_equipment.specs.declared.arrivals.ArrivalRefusal.{ArrivalRefusal}

@@ -1,4 +1,4 @@
--- A group whose slots have passed by one table.
+-- A group whose slots have passed by one table (vocabulary of contracts).
 use Rattle.std.specs.Prelude.{◌-◌, ◌*◌, ◌%◌, ℕ, List, slice_get, slice_set}
 use Rattle.std.specs.Option.{option_map_or}
 use Rattle.a429_slots.specs.FrameStates.{FrameState}

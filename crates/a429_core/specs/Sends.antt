@@ -1,4 +1,4 @@
--- What the answers of a history mean: which cells of a frame are answered, and which words are in them.
+-- What the answers of a history mean: which cells of a frame are answered, and which words are in them (profile: docs/RULES.md, Sending).
 use Rattle.std.specs.Prelude.{◌≡◌, ◌↔◌, ◌⊎◌, ◌+◌, ◌<◌, ◌++◌, ◌∷◌, [], ℕ, List, Some, None, IsTrue, map, filter, take, replicate, count_by, flat_map}
 use Rattle.std.specs.List.{AllByRecursion, range_with_len, zip}
 use Rattle.a429_equipment.specs.Arrivals.{SourcesAreApart}

@@ -1,4 +1,4 @@
--- What the answers of a history say of how far apart a group sends words of one source.
+-- What the answers of a history say of how far apart a group sends words of one source (profile: docs/RULES.md, Sending).
 use Rattle.std.specs.Prelude.{◌≡◌, ◌+◌, ◌<◌, ◌≤◌, ℕ, Bool, false, Option, Some, None, length, take}
 use Rattle.a429_slots.specs.Tables.{Placed}
 use Rattle.a429_slots.specs.Events.{Cell}

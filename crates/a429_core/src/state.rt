@@ -160,8 +160,8 @@ impl<const C: u32> State<C> {
     }
 
     /// A raw word comes in at a receiver. An accepted word is kept. It is refused for the first of these that is the
-    /// case: `NoSuch` for the receiver, `Parity`, `Filtered`, `NoSource`, `CountSpent`. Each of these four calls
-    /// allocates no memory and never fails. Its contract says exactly what it does to what the state keeps.
+    /// case: `NoSuch` for the receiver, `Parity`, `Filtered`, `NoSource`, `CountSpent`. This call, `cell`, `frame` and
+    /// `publish` allocate no memory and never fail. Their contracts say exactly what they do to what the state keeps.
     /// `laws::calls_are_answered` says what that means for each history.
     pub fn arrive(&mut self, receiver: usize, raw: u32) -> Answer
         ensures answer { result ≡ (arrived C self.old receiver raw).0 }

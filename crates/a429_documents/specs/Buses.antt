@@ -1,4 +1,4 @@
--- What each bus of a station carries: the rows of `buses`.
+-- What each bus of a station carries: the rows of `buses` (profile: docs/FORMATS.md, Output of `buses`).
 use Rattle.std.specs.Prelude.{ℕ, ◌==◌, ◌^◌, List, [], ◌∷◌, ◌++◌, codes, if◌then◌else◌, filter, length, map, slice_get}
 use Rattle.std.specs.List.{flat_map, range_with_len}
 use Rattle.std.specs.Option.{option_map_or}

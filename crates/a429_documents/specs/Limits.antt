@@ -1,4 +1,4 @@
--- The fewest buses of a group, if each bus may have only a part of its cells filled.
+-- The fewest buses of a group, if each bus may have only a part of its cells filled (profile: docs/FORMATS.md, Output of `load`).
 use Rattle.std.specs.Prelude.{ℕ, ◌+◌, ◌*◌, ◌/◌, ◌^◌, ◌≡◌, ◌==◌, ◌<◌, ◌≤◌, List, [], ◌∷◌, if◌then◌else◌, length, map, nat_le, sum, Option, None, Some}
 use Rattle.std.specs.Int.{div_ceil}
 use Rattle.std.specs.List.{AllByRecursion, list_all, range_with_len}

@@ -1,4 +1,4 @@
--- What each bus carries and has room for: the rows of `load`.
+-- What each bus carries and has room for: the rows of `load` (profile: docs/FORMATS.md, Output of `load`).
 use Rattle.std.specs.Prelude.{ℕ, ◌+◌, ◌-◌, ◌*◌, ◌/◌, ◌^◌, ◌≡◌, ◌≤◌, List, [], ◌∷◌, ◌++◌, Bool, false, Option, None, Some, codes, count_by, if◌then◌else◌, is_none, is_some, length, map, nat_le, nat_lt, sum, take}
 use Rattle.std.specs.Int.{div_ceil}
 use Rattle.std.specs.List.{list_all, list_any, range_with_len}

@@ -1,4 +1,4 @@
--- A table that loses nothing: what it means that `lint` has no row `unfit`, `unheard` or `unsent`.
+-- A table that loses nothing: what it means that `lint` has no row `unfit`, `unheard` or `unsent` (profile: docs/FORMATS.md, Output of `lint`).
 use Rattle.std.specs.Prelude.{ℕ, ◌≡◌, ◌^◌, ◌<◌, ◌≤◌, ◌↔◌, List, [], Ok, Some, length, slice_get}
 use Rattle.std.specs.List.{AllByRecursion}
 use Rattle.a429_equipment.specs.Arrivals.{sorted}

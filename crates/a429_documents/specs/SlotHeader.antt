@@ -1,4 +1,5 @@
--- The slot tables of a plan as a header of C (C99): for each group a comment that numbers its outputs, its sizes as macros, and its cells as an array.
+-- The slot tables of a plan as a header of C (C99): for each group a comment that numbers its outputs, its sizes as macros, and its cells as an
+-- array (profile: docs/FORMATS.md, Header for C).
 use Rattle.std.specs.Prelude.{ℕ, ◌%◌, ◌==◌, ◌^◌, List, ◌++◌, [], Option, None, Some, codes, if◌then◌else◌, length, slice_get}
 use Rattle.std.specs.Fmt.{decimal}
 use Rattle.std.specs.List.{flat_map, range_with_len}

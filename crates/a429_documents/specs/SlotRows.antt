@@ -1,4 +1,5 @@
--- The slot tables of a plan as rows: the names of the columns, and a row for each cell that has an output.
+-- The slot tables of a plan as rows: the names of the columns, and a row for each cell that has an output
+-- (profile: docs/FORMATS.md, Output of `slots`).
 use Rattle.std.specs.Prelude.{◌≡◌, ◌<◌, ◌↔◌, ◌^◌, ℕ, Bool, false, List, [], ◌∷◌, ◌++◌, Option, Some, codes, if◌then◌else◌, slice_get}
 use Rattle.std.specs.List.{IsAmong, flat_map, range_with_len}
 use Rattle.std.specs.Option.{option_map_or}

@@ -1,4 +1,4 @@
--- What it means that `diff` has no row: of the station, and at all.
+-- What it means that `diff` has no row: of the station, and at all (profile: docs/FORMATS.md, Output of `diff`).
 use Rattle.std.specs.Prelude.{ℕ, ◌≡◌, ◌↔◌, Bool, true, [], Some, slice_get}
 use Rattle.a429_equipment.specs.SameStation.{same_station}
 use Rattle.a429_equipment.specs.TableRecord.{TableRecord, outputs_in}

@@ -1,4 +1,5 @@
--- What a receiver accepted, what a transmitter loaded, and when the two agree. An accepted word is a pair of its source's number and the word.
+-- What a receiver accepted, what a transmitter loaded, and when the two agree (vocabulary of contracts). An accepted word is a pair of its source's
+-- number and the word.
 use Rattle.std.specs.Prelude.{◌≡◌, ◌==◌, ◌&&◌, ◌-◌, ◌≤◌, ◌++◌, ℕ, zero, suc, Bool, true, false, List, [], ◌∷◌, Option, Some, None, if◌then◌else◌, nat_le, length, take, map, filter, slice_get}
 use Rattle.std.specs.Option.{option_map_or}
 use Rattle.std.specs.List.{range_with_len, AllByRecursion}

@@ -1,4 +1,4 @@
--- The inside of a name.
+-- The inside of a name (vocabulary of contracts).
 use Rattle.std.specs.Prelude.{◌≡◌, ◌≤◌, ◌-◌, ◌++◌, ℕ, List, IsUtf8, length, drop, replicate, take}
 use Rattle.std.proofs.Common.{◌∙◌, ap, sym, arith, take-append-drop, length-take-le}
 use Rattle.a429_equipment.specs.declared.names.Name.TheInside.{Inside}

@@ -1,4 +1,4 @@
--- The index in which the source of a word is looked up.
+-- The index in which the source of a word is looked up (vocabulary of contracts).
 use Rattle.std.specs.Prelude.{◌≡◌, ◌==◌, ◌&&◌, ◌+◌, ◌*◌, ◌<◌, ℕ, Bool, true, List, Option, Some, None, length, slice_index_or, slice_set, position, if◌then◌else◌}
 use Rattle.std.specs.Option.{option_map_or, option_or}
 use Rattle.a429_equipment.specs.declared.rows.SourceRow.{SourceRow}

@@ -1,4 +1,4 @@
--- What is true of each `Equipment` of the code.
+-- What is true of each `Equipment` of the code (vocabulary of contracts).
 use Rattle.std.specs.Prelude.{length}
 use Rattle.a429_equipment.specs.declared.equipment.Equipment.TheInside.{Inside}
 use Rattle.a429_equipment.specs.TableRecord.{TableRecord, record_of}

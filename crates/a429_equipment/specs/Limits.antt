@@ -1,4 +1,4 @@
--- Limits of a station that runs (profile).
+-- Limits of a station that runs (profile: docs/RULES.md, Limits).
 use Rattle.std.specs.Prelude.{ℕ}
 
 -- how many bits count the words that a source accepts

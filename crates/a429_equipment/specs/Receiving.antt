@@ -1,4 +1,4 @@
--- What a receiver accepts of the raw words that come in there.
+-- What a receiver accepts of the raw words that come in there (profile: docs/RULES.md, Receivers, filters and sources).
 use Rattle.std.specs.Prelude.{◌≡◌, ◌<◌, ◌-◌, ◌^◌, ◌++◌, ℕ, List, [], ◌∷◌, Result, Ok, Err, Some, IsTrue, if◌then◌else◌, nat_lt, length, map, slice_get}
 use Rattle.std.specs.List.{AllByRecursion}
 use Rattle.a429_equipment.specs.declared.rows.SourceRow.{SourceRow}

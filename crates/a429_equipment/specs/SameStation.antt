@@ -1,5 +1,6 @@
--- Two equipments of one station: equal receivers with their filters as written, sources, and names and bit rates of groups, each in order (profile).
--- Neither the versions nor the bit rates of the roots are compared: a table of version 1 and one of version 2 may be of one station.
+-- Two equipments of one station: equal receivers with their filters as written, sources, and names and bit rates of groups, each in order
+-- (profile: docs/RULES.md, Sending). Neither the versions nor the bit rates of the roots are compared: a table of version 1 and one of version 2 may
+-- be of one station.
 use Rattle.std.specs.Prelude.{◌≡◌, ◌==◌, ◌&&◌, ℕ, Bool, true, false, List, Option, Some, None, length}
 use Rattle.std.specs.List.{list_all, zip}
 use Rattle.std.specs.Str.{bytes_eq}

@@ -1,6 +1,5 @@
--- What is true of the record of each equipment. It keeps to the limits, each number and name is in range, and its
--- sources are apart. No two receivers, sources or groups have the same name, and no two outputs of a group the same
--- source.
+-- What is true of the record of each equipment (profile: equipment table). It keeps to the limits, each number and name is in range, and its sources
+-- are apart. No two receivers, sources or groups have the same name, and no two outputs of a group the same source.
 use Rattle.std.specs.Prelude.{◌≡◌, ℕ, ◌<◌, ◌≤◌, ◌⊎◌, List, length, Some, None, IfSome, IsTrue, slice_get}
 use Rattle.std.specs.List.{AllByRecursion}
 use Rattle.a429_filter.specs.declared.filters.Filter.{Filter}
@@ -14,7 +13,7 @@ use Rattle.a429_equipment.specs.Arrivals.{SourcesAreApart}
 use Rattle.a429_equipment.specs.Limits.{most_sends}
 use Rattle.a429_equipment.specs.NameForm.{is_name}
 
--- 100000 bit/s, or 12000 to 14500
+-- 100000 bit/s, or 12000 to 14500 (ARINC 429 Part 1: low speed and high speed)
 abbrev pub IsRate : ℕ → Type 0
 IsRate rate = (rate ≡ 100000) ⊎ ((12000 ≤ rate) × (rate ≤ 14500))
 

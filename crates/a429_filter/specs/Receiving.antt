@@ -1,4 +1,4 @@
--- What a socket answers, by the words that it took in the call (profile).
+-- What a socket answers, by the words that it took in the call (profile: docs/RULES.md, Receivers, filters and sources).
 use Rattle.std.specs.Prelude.{◌≡◌, ◌≤◌, ℕ, Bool, true, false, List, ◌++◌, Option, Some, None, Result, Ok, Err, length, filter, map, min, option_map, ◌+◌, ◌-◌, ◌^◌, ◌==◌, ◌&&◌}
 use Rattle.std.specs.List.{FoldsTo}
 use Rattle.a429_word.specs.Bits.{has_odd_parity, label_of}
@@ -19,7 +19,7 @@ is_skipped (Err Failed) = false
 is_skipped (Err Skipped) = true
 
 -- The words that were taken are refused ones and then the answer's, which passes. The answer is Skipped if and only if
--- 65536 were refused; no more words are looked at.
+-- 65536 were refused; no more words are looked at (profile: docs/RULES.md, Limits).
 pub record Received (filters : Option (List Filter)) (taken : List ℕ) (answer : Result (Option ℕ) SourceFault) : Type 0 where
   pub refused : List ℕ
   pub order : taken ≡ refused ++ word_given answer

@@ -1,4 +1,4 @@
--- What a source of a line gave (profile).
+-- What a source of a line gave (vocabulary of contracts).
 use Rattle.std.specs.Prelude.{ℕ, Bool, true, false, List, [], ◌∷◌, Option, Some, None, Result, Ok, Err, ◌+◌, ◌-◌, ◌^◌, ◌&&◌, min}
 use Rattle.a429_filter.specs.declared.sources.SourceFault.{SourceFault}
 use Rattle.a429_line.specs.declared.found.Found.{Found}

@@ -32,7 +32,7 @@ pub trait LineSource {
     /// Whether a call can answer this and take it from one state to another, if it says so.
     ghost steps: { Self → SourceAnswer → Self → Type 0 } = { λ _ _ _. Unit {0} };
 
-    /// The next word, of either parity, or None at the end. A call that answers a fault gives no word.
+    /// The next word, of either parity, or `None` at the end. Error: the source failed; then the call gives no word.
     fn next(&mut self) -> Result<Option<u32>, SourceFault>
         ensures given { given self.new ≡ given self.old ++ word_given result }
         ensures ended { ended self.new ≡ is_end result }

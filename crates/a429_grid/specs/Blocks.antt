@@ -1,4 +1,4 @@
--- Blocks of places, and the slots that stand for them.
+-- Blocks of places, and the slots that stand for them (profile: layout).
 use Rattle.std.specs.Prelude.{◌≡◌, ℕ, ◌+◌, ◌-◌, ◌*◌, ◌/◌, ◌%◌, ◌^◌, ◌<◌, ◌≤◌, ◌↔◌}
 use Rattle.a429_grid.specs.Reversal.{reversed}
 

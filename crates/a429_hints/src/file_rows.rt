@@ -211,12 +211,12 @@ pub struct FileField<'a> {
 }
 
 impl<'a> FileField<'a> {
-    /// It as a text; the empty text if it is not UTF-8.
+    /// The field as a text; the empty text if it is not UTF-8.
     pub fn text(self) -> &'a str {
         self.file.text(self.row, self.column)
     }
 
-    /// Begins a line about it.
+    /// Begins a line about the field: the number of its row and the title of its column.
     pub fn begin(self, hint: &HintText) {
         hint.turn_to_line(self.row.number as usize);
         hint.begin(", column ");

@@ -63,7 +63,8 @@ static KINDS: [FileKind; 6] = [
     ),
 ];
 
-/// What kind of file begins with these bytes, if it is none of text in UTF-8.
+/// What kind of file begins with these bytes, and what to do with it. `None` if they begin like no other kind than text
+/// in UTF-8.
 pub fn other_file(bytes: &[u8]) -> Option<&'static str> {
     for kind in &KINDS {
         if bytes.starts_with(kind.start) {

@@ -81,6 +81,7 @@ impl HintText {
         }
     }
 
+    /// Adds a text to the line. A control character is written as its number, such as `\u{7}`.
     pub fn say(&self, words: &str) {
         for c in words.chars() {
             if c.is_control() {

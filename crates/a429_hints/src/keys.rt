@@ -29,7 +29,7 @@ static VALUES: [&str; 11] = [
     "hold: an integer from 1 to 1000000; without a limit leave the key out",
 ];
 
-/// What must be at a key.
+/// What must be at a key, as a text for people; the empty text for a key that has no such text.
 pub fn form(column: &Column) -> &'static str {
     match column.shape {
         Shape::Tables => text_under(&ARRAYS, column.key),
@@ -83,7 +83,8 @@ fn most(key: &str) -> usize {
     }
 }
 
-/// The bit rate in bit/s, if a number is one of the two usual bit rates in kbit/s.
+/// The bit rate in bit/s, if a number is one of the two usual bit rates in kbit/s, 100 and 12.5. `None` for any other
+/// value.
 pub fn kilobits(found: Option<&Value>) -> Option<u32> {
     match found {
         Some(Value::Integer(100)) => Some(100000),

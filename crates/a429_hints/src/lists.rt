@@ -24,7 +24,8 @@ pub fn tell_names(kind: &str, name: &str, names: &[String], hint: &HintText) {
     hint.end("");
 }
 
-/// The same, and the line goes on.
+/// Begins a line that says that a name is unknown, which name is the nearest, and which names there are. The line goes
+/// on.
 pub fn begin_names(kind: &str, name: &str, names: &[String], hint: &HintText) {
     hint.begin(": no ");
     hint.say_two("{} has the name {?}", kind, name);

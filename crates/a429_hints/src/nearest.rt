@@ -19,7 +19,8 @@ impl<'a> Nearest<'a> {
         Nearest::after(0, text)
     }
 
-    /// The same, if the text and all names have this number of letters before these.
+    /// The name nearest to a text, before any name was compared. The text and all names have this number of letters
+    /// before these.
     pub fn after(common: usize, text: &'a str) -> Nearest<'a> {
         Nearest {
             text,
@@ -28,7 +29,7 @@ impl<'a> Nearest<'a> {
         }
     }
 
-    /// Among names that are separated by spaces.
+    /// The name nearest to a text, among names that are separated by spaces.
     pub fn among(alloc: Global, text: &'a str, names: &'a str) -> Nearest<'a> {
         let mut nearest = Nearest::to(text);
         for name in names.split(' ') {
@@ -52,7 +53,8 @@ impl<'a> Nearest<'a> {
         }
     }
 
-    /// The nearest name, if it is not the text itself and at most half of its letters differ.
+    /// The nearest name. `None` if no name was compared, if the text is a name itself, or if more than half of the
+    /// letters differ.
     pub fn other_name(self) -> Option<&'a str> {
         match self.best {
             Some((0, _)) => None,
@@ -60,7 +62,7 @@ impl<'a> Nearest<'a> {
         }
     }
 
-    /// The nearest name, if at most half of its letters differ.
+    /// The nearest name. `None` if no name was compared, or if more than half of its letters differ.
     pub fn name(self) -> Option<&'a str> {
         match self.best {
             Some((edits, name)) if edits <= name.len().saturating_add(self.common) / 2 => {

@@ -1,4 +1,4 @@
--- The first row of a receiver, source or group.
+-- The first row of a receiver, source or group (vocabulary of contracts).
 use Rattle.std.specs.Prelude.{ℕ, List, Option}
 use Rattle.std.specs.List.{position_from}
 use Rattle.std.specs.Str.{bytes_eq}

@@ -1,4 +1,4 @@
--- A table of TOML that is built key by key, from the last key to the first, and an array of values that grows.
+-- A table of TOML that is built key by key, from the last key to the first, and an array of values that grows (TOML).
 use Rattle.std.specs.Prelude.{◌≡◌, ◌++◌, ℕ, List, codes, map, Option, Result, OnOk, Vec, true}
 use Rattle.std.specs.declared.alloc.Global.{Global}
 use Rattle.toml.specs.Data.{Data, Members, is_before, member}

@@ -1,4 +1,4 @@
--- The contradictions between a row and earlier rows that agree with one another.
+-- The contradictions between a row and earlier rows that agree with one another (profile: import).
 use Rattle.std.specs.Prelude.{◌≡◌, ◌+◌, ◌==◌, ◌&&◌, ℕ, List, [], ◌∷◌, Option, None, Some, not, nat_lt, slice_get, if◌then◌else◌}
 use Rattle.std.specs.List.{AllByRecursion}
 use Rattle.std.specs.Option.{option_and_then, option_map, option_or}

@@ -1,4 +1,4 @@
--- The places of columns in a heading.
+-- The places of columns in a heading (profile: import).
 use Rattle.std.specs.Prelude.{ℕ, Option}
 use Rattle.a429_import.specs.declared.columns.Places.{Places}
 use Rattle.a429_import.specs.declared.fault.ImportColumn.{ImportColumn}

@@ -1,4 +1,4 @@
--- Why rows are not imported.
+-- Why rows are not imported (profile: docs/FORMATS.md, Kinds of a row).
 use Rattle.std.specs.Prelude.{ℕ, List, codes}
 use Rattle.a429_table.specs.declared.fault.TableFault.{TableFault}
 use Rattle.a429_table.specs.declared.fault.TableFault.TheVariants as fault

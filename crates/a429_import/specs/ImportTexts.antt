@@ -1,4 +1,4 @@
--- The texts of a row, as its fields have them.
+-- The texts of a row, as its fields have them (profile: import).
 use Rattle.std.specs.Borrow.{Bor}
 use Rattle.std.specs.Prelude.{ℕ, List, Result}
 use Rattle.std.specs.Result.{result_map_both}

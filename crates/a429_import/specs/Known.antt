@@ -1,4 +1,4 @@
--- What is known of rows: the names of their receivers, sources and groups, and what the first row of each says.
+-- What is known of rows: the names of their receivers, sources and groups, and what the first row of each says (vocabulary of contracts).
 use Rattle.std.specs.Prelude.{◌≡◌, ◌+◌, ◌==◌, ◌||◌, ℕ, Bool, false, not, if◌then◌else◌, List, Option, None, Some, is_some, map, min, length, nat_le, nat_lt, slice_get, slice_index_or, slice_set, vec_len}
 use Rattle.std.specs.List.{AllZip, count_by, position_from}
 use Rattle.std.specs.Option.{option_map}

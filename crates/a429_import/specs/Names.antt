@@ -1,4 +1,4 @@
--- Names that are found by chains: each chain has the names whose bytes give its number, from the last to the first.
+-- Names that are found by chains: each chain has the names whose bytes give its number, from the last to the first (vocabulary of contracts).
 use Rattle.std.specs.Prelude.{◌≡◌, ◌+◌, ◌*◌, ◌%◌, ◌^◌, ◌<◌, ◌==◌, ◌++◌, ℕ, zero, suc, List, [], ◌∷◌, if◌then◌else◌, length, slice_index_or}
 use Rattle.csv.specs.Records.{Rising, cut_from, last_end}
 use Rattle.a429_import.specs.declared.names.Names.{Names}

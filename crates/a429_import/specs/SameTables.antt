@@ -1,4 +1,4 @@
--- Outputs that are equal.
+-- Outputs that are equal (vocabulary of contracts).
 use Rattle.std.specs.Prelude.{◌==◌, ◌&&◌, Bool}
 use Rattle.a429_equipment.specs.declared.rows.OutputRow.{OutputRow}
 use Rattle.a429_equipment.specs.SameStation.{same_sdi}

@@ -92,8 +92,8 @@ fn data_line(
     Ok(found)
 }
 
-/// The line on which the first row of data above the heading begins, counted from 1. The form is that of the text. Error: an
-/// allocation failed.
+/// The line on which the first row of data above the heading begins, counted from 1. `None` if no row of data is above
+/// it. The form is that of the text. Error: an allocation failed.
 pub fn line_above(
     alloc: Global,
     maps: &[&str],

@@ -18,7 +18,7 @@ fn insert(table: &mut Table, key: String, value: Value) -> Result<(), AllocError
     }
 }
 
-/// The same, for a key that is copied. Error: an allocation failed.
+/// Puts a value at a key that comes before those of the table. The key is copied. Error: an allocation failed.
 pub fn put(alloc: Global, table: &mut Table, key: &str, value: Value) -> Result<(), AllocError>
     ensures { Puts result (table_view table.old) (table_view table.new) key.now (view value) }
 {

@@ -18,7 +18,7 @@ pub struct RowClash {
     pub column: ImportColumn,
 }
 
-/// A clash with the row of a number, if it has a column.
+/// A clash with the row of a number in a column. `None` if there is no column.
 pub fn numbered(number: usize, column: Option<ImportColumn>) -> Option<RowClash>
     ensures { result ≡ numbered number column }
 {

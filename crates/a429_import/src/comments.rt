@@ -135,7 +135,8 @@ fn commented(alloc: Global, given: &GivenTexts, text: &[u8]) -> Result<Vec<u8>, 
     shown.into_bytes()
 }
 
-/// The same, if it is read as the same equipment. Error: an allocation failed.
+/// A table with these comments. `None` if it is not read as the same equipment as the table without them. Error: an
+/// allocation failed.
 fn same_commented(
     alloc: Global,
     given: &GivenTexts,
@@ -152,7 +153,8 @@ fn same_commented(
     }
 }
 
-/// The same; the table as it is if the other is not read as the same equipment. Error: an allocation failed.
+/// A table with comments that give the texts of its names. If it would not be read as the same equipment with them, it is
+/// the table as it was. Error: an allocation failed.
 pub fn with_texts(alloc: Global, given: &GivenTexts, text: Vec<u8>) -> Result<Vec<u8>, AllocError>
     requires { AreGiven given.now }
     ensures { IfOk result (λ table. reading table.items ≡ reading text.items) }

@@ -328,7 +328,8 @@ pub fn filters_in(field: &[u8]) -> Option<&str>
     if are_filters(text) { Some(text) } else { None }
 }
 
-/// The bit rate of a row. If the row names no group, the field is empty, and the answer is 0.
+/// The bit rate of a row, in bit/s. Of a row without a group it is 0. `None` if the field states no bit rate, or is not
+/// empty in a row without a group.
 pub fn rate_of(names_group: bool, field: &[u8]) -> Option<u32>
     ensures { result ≡ if_group names_group rate_in 0 field.now }
 {
@@ -341,7 +342,8 @@ pub fn rate_of(names_group: bool, field: &[u8]) -> Option<u32>
     }
 }
 
-/// An interval of a row, in microseconds. If the row names no group, the field is empty, and the answer is 0.
+/// An interval of a row, in microseconds. Of a row without a group it is 0. `None` if the field states no interval, or is
+/// not empty in a row without a group.
 pub fn interval_of(names_group: bool, in_millis: bool, separator: u8, field: &[u8]) -> Option<u32>
     ensures { result ≡ if_group names_group (interval_in in_millis separator) 0 field.now }
 {
@@ -354,7 +356,9 @@ pub fn interval_of(names_group: bool, in_millis: bool, separator: u8, field: &[u
     }
 }
 
-/// The hold of a row. If the row names no group, the field is empty.
+/// The hold of a row. `Some(Some(n))`: the row has a group, and its field is the number n. `Some(None)`: there is no
+/// limit, since the field is empty, or is `none` in a row with a group. `None`: the field is none of these, or is not
+/// empty in a row without a group.
 pub fn hold_of(names_group: bool, field: &[u8]) -> Option<Option<u32>>
     ensures { result ≡ if_group names_group hold_in None field.now }
 {

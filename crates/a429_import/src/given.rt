@@ -130,7 +130,8 @@ fn two_columns(alloc: Global, chains: usize) -> Result<(GivenNames, GivenNames),
     }
 }
 
-/// The same for the columns with names, and the first line whose text differs from that of its name, with the column.
+/// The given texts of the columns with names, and the first line whose text differs from that of its name, with the
+/// column.
 #[derive(Drop)]
 pub struct GivenTexts {
     pub group: GivenNames,

@@ -77,7 +77,8 @@ fn commented_table(alloc: Global, read: &mut NamesRead) -> Result<Vec<u8>, Impor
     }
 }
 
-/// The same, unless two texts of a column become one name.
+/// The table that lines with made names describe, with the given texts as comments. Error: two texts of a column become
+/// one name; otherwise the fault of the table.
 fn made_table(alloc: Global, read: &mut NamesRead) -> Result<Vec<u8>, ImportFault>
     requires { (lines : List CsvLine) × HasMade read.old.lines.heading read.old lines }
     ensures { (lines : List CsvLine) → HasMade read.old.lines.heading read.old lines → IsImportBy true lines result }
@@ -195,7 +196,7 @@ fn text_fault(
 /// that `ImportColumn` does not have are skipped. So are lines above the heading, such as titles, but a row of data there is
 /// refused. With a text HEADING=COLUMN a heading is the name of a column. Receivers, sources and groups are in the order of
 /// their first rows, outputs in the order of the rows of their group. `read_equipment` reads the answer. Error: the first
-/// fault of the rows, otherwise the first of the table.
+/// fault of the rows, otherwise the first of the table, or `NoMemory` if an allocation fails.
 ///
 /// With `makes_names`, the texts of groups, sources and receivers become names: `made_name` makes them. The answer has
 /// a comment above each group, source and receiver whose text differs from its name. Two texts of a column that become

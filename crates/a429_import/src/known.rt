@@ -46,7 +46,7 @@ fn sources_and_groups(
 }
 
 impl Known {
-    /// Before the first row. Error: an allocation failed.
+    /// What is known before the first row. Error: an allocation failed.
     pub fn new(alloc: Global, chains: usize) -> Result<Known, AllocError>
         ensures { IfOk result (λ known. Knows known []) }
     {

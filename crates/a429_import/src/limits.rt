@@ -50,7 +50,7 @@ fn is_wrong_at(flag: bool, rate: u32) -> bool
     flag && is_wrong_rate(rate)
 }
 
-/// The place of the first wrong bit rate among those whose flags are set.
+/// The place of the first wrong bit rate among those whose flags are set. `None` if there is none.
 pub fn first_wrong_rate(flags: &[bool], rates: &[u32]) -> Option<usize>
     ensures { result ≡ position_from is_wrong_rate 0 (flagged flags.now rates.now) }
 {
@@ -70,7 +70,8 @@ fn is_above_at(flag: bool, outputs: u8) -> bool
     flag && OUTPUTS < usize::from(outputs)
 }
 
-/// The place of the first number of outputs that is above the limit, among those whose flags are set.
+/// The place of the first number of outputs that is above the limit, among those whose flags are set. `None` if there is
+/// none.
 pub fn first_above(flags: &[bool], outputs: &[u8]) -> Option<usize>
     ensures { result ≡ position_from (nat_lt 128) 0 (flagged flags.now outputs.now) }
 {
@@ -84,7 +85,7 @@ pub fn first_above(flags: &[bool], outputs: &[u8]) -> Option<usize>
     None
 }
 
-/// The place of the first `true`.
+/// The place of the first `true`. `None` if there is none.
 pub fn first_true(flags: &[bool]) -> Option<usize>
     ensures { result ≡ position_from itself 0 flags.now }
 {
@@ -103,7 +104,8 @@ fn has_too_many_parts(receivers: usize, sources: usize, groups: usize) -> bool
     RECEIVERS < receivers || SOURCES < sources || GROUPS < groups
 }
 
-/// The first fault of the table that rows describe, if it is a bit rate or a count above a limit.
+/// The first fault of the table that rows describe, if it is a bit rate or a count above a limit. `None` if there is no
+/// such fault.
 #[tactic(auto, unfolding(crate::specs::ImportLimits::limit_fault))]
 pub fn limit_fault(known: &Known) -> Option<(FaultKind, TablePlace)>
     ensures { (rows : List ImportRow) → Knows known.now rows → result ≡ limit_fault rows }

@@ -37,7 +37,7 @@ impl CsvLine {
         self.fields.len()
     }
 
-    /// Whether a field is not empty.
+    /// Whether the line has a field that is not empty.
     pub fn has_text(&self) -> bool
         ensures { result ≡ has_text (fields_of self.now.fields) }
     {
@@ -69,7 +69,7 @@ pub struct LineCount {
 }
 
 impl LineCount {
-    /// Before the first byte of a text.
+    /// The count of lines before the first byte of a text.
     pub fn new() -> LineCount {
         LineCount {
             at: 0,

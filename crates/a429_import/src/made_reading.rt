@@ -20,7 +20,7 @@ pub struct NamesRead {
 }
 
 impl NamesRead {
-    /// Before the first line. Error: an allocation failed.
+    /// What is known before the first line. Error: an allocation failed.
     pub fn new(alloc: Global, makes_names: bool, chains: usize) -> Result<NamesRead, AllocError>
         ensures { IfOk result (λ read. IsReadBy makes_names read []) }
     {

@@ -40,7 +40,7 @@ pub fn is_about(field: &[u8], text: &str) -> bool
     }
 }
 
-/// The COLUMN of a text; empty if it has no `=`.
+/// The COLUMN of a text HEADING=COLUMN: what follows its last `=`. It is empty if the text has no `=`.
 pub fn column_in(text: &str) -> &[u8]
     ensures { result.now ≡ column_in text.now }
 {
@@ -104,7 +104,7 @@ pub fn is_met(heading: &CsvLine, text: &str) -> bool
     is_column(column_in(text)) && has_heading(heading, text)
 }
 
-/// The same for all texts.
+/// Whether for each text COLUMN is the name of a column, and HEADING a field of the heading.
 fn are_met(heading: &CsvLine, maps: &[&str]) -> bool
     ensures { result ≡ list_all (is_met (fields_of heading.now.fields)) (given_texts maps.now) }
 {
@@ -132,7 +132,8 @@ fn push_all_mapped(
     Ok(())
 }
 
-/// The same, if all texts are met; otherwise adds nothing.
+/// Adds the names of the fields of a heading by texts, if all texts are met; otherwise adds nothing. Error: an allocation
+/// failed.
 fn push_names(names: &mut ByteRecord, maps: &[&str], heading: &CsvLine) -> Result<(), AllocError>
     requires none { fields_of names.old ≡ [] }
     requires partial { partial_of names.old ≡ [] }

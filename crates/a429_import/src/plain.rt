@@ -27,7 +27,8 @@ pub fn unquoted(field: &[u8]) -> &[u8]
     }
 }
 
-/// The field `203`, if a spreadsheet wrote it as `="203"`.
+/// The text between the quotes of a field of the form `="TEXT"`, which a spreadsheet writes to keep zeros. Any other
+/// field is unchanged.
 pub fn unwrapped(field: &[u8]) -> &[u8]
     ensures { result.now ≡ unwrapped field.now }
 {

@@ -105,8 +105,8 @@ fn line_of_rows(text: &[u8], form: Form<'_>) -> Option<u64>
     }
 }
 
-/// The line on which the first field begins that does not end as a field in quotes does, counted from 1. The form is that of
-/// the text.
+/// The line on which the first field begins that does not end as a field in quotes does, counted from 1. `None` if there
+/// is no such field. The form is that of the text.
 pub fn misquoted_line_of(text: &[u8], form: Form<'_>) -> Option<u64>
     ensures { is_some result ≡ has_wrong_quotes (separated form.entry.separator) form.entry.text.now text.now }
 {

@@ -39,7 +39,7 @@ pub struct LinesRead {
 }
 
 impl LinesRead {
-    /// Before the first line. Error: an allocation failed.
+    /// What is known before the first line. Error: an allocation failed.
     pub fn new(alloc: Global, chains: usize) -> Result<LinesRead, AllocError>
         ensures read { IfOk result (λ read. StandsFor read []) }
         ensures heading { IfOk result (λ read. read.heading ≡ None) }

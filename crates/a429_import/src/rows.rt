@@ -90,7 +90,7 @@ pub struct ImportRow {
     pub numbers: RowNumbers,
 }
 
-/// The same, with the texts as the fields have them.
+/// What a row says, with its texts as the fields have them, by reference.
 #[derive(Clone, Copy)]
 pub struct RowFields<'a> {
     pub texts: TextFields<'a>,

@@ -39,7 +39,8 @@ fn take_named(
     }
 }
 
-/// The same, unless the fields of the line are all empty. Error: an allocation failed.
+/// Takes one more line, unless its fields are all empty. A first line is the heading: it gets its names by texts
+/// HEADING=COLUMN. The answer is whether the heading was taken. Error: an allocation failed.
 fn take_filled(
     alloc: Global,
     maps: &[&str],

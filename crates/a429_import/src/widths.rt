@@ -18,7 +18,7 @@ const MOST_FIELDS: usize = 100_000;
 pub enum Part {
     /// Before its first field.
     Row,
-    /// The same, after a carriage return.
+    /// Before its first field, after a carriage return.
     Return,
     /// At the beginning of a field after the first.
     Field,
@@ -183,8 +183,8 @@ fn line_of_rows(text: &[u8], form: Form<'_>) -> Option<u64>
     }
 }
 
-/// The line on which the first row begins that has too many fields, counted from 1. Lines above the heading count too. The form
-/// is that of the text.
+/// The line on which the first row begins that has too many fields, counted from 1. Lines above the heading count too.
+/// `None` if no row has too many fields. The form is that of the text.
 pub fn wide_line(text: &[u8], form: Form<'_>) -> Option<u64>
     ensures { is_some result ≡ has_wide_rows form.entry.separator form.entry.text.now text.now }
 {

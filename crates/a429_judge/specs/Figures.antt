@@ -1,4 +1,5 @@
--- The figures of an output: the intervals between its sends, how late words were sent, and how many findings of a kind there are.
+-- The figures of an output: the intervals between its sends, how late words were sent, and how many findings of a kind there are
+-- (profile: docs/FORMATS.md, Output of `judge`).
 use Rattle.std.specs.Prelude.{ℕ, ◌-◌, ◌==◌, List, [], ◌∷◌, Bool, Option, None, Some, count_by, drop, flat_map, fold, if◌then◌else◌, length, max, min}
 use Rattle.std.specs.List.{find, range_with_len}
 use Rattle.std.specs.Option.{option_map_or}

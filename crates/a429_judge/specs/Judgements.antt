@@ -1,4 +1,4 @@
--- What is said of an output, and of words that are of none.
+-- What is said of an output, and of words that are of none (profile: docs/FORMATS.md, Output of `judge`).
 use Rattle.std.specs.Prelude.{ℕ, ◌==◌, ◌&&◌, List, [], Bool, count_by, if◌then◌else◌, length, nat_le, nat_lt}
 use Rattle.a429_judge.specs.declared.duties.Duty.{Duty}
 use Rattle.a429_judge.specs.declared.facts.Facts.{Facts}

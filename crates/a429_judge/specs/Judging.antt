@@ -1,6 +1,6 @@
--- Whether what an output sent is right, by the words that its source accepted. The words of a list are in the order of their times. A
--- slot L is 36 bit times, which are 36,000,000 / rate microseconds, and T is the tolerance. Times are compared in units of 1 / rate
--- microseconds, so that they are exact.
+-- Whether what an output sent is right, by the words that its source accepted (profile: docs/FORMATS.md, Output of `judge`). The words of a list are
+-- in the order of their times. A slot L is 36 bit times, which are 36,000,000 / rate microseconds, and T is the tolerance. Times are compared in
+-- units of 1 / rate microseconds, so that they are exact.
 use Rattle.std.specs.Prelude.{◌≡◌, ◌==◌, ◌&&◌, ◌||◌, ◌+◌, ◌-◌, ◌*◌, ℕ, List, [], ◌∷◌, ◌++◌, Bool, true, false, not, drop, flat_map, if◌then◌else◌, is_some, length, max, nat_le, nat_lt, slice_get, slice_index_or}
 use Rattle.std.specs.List.{list_any, position_or_len, range_with_len}
 use Rattle.std.specs.List.Sorted.{IsPartitionPoint}

@@ -1,4 +1,4 @@
--- Words that are sorted by their bits.
+-- Words that are sorted by their bits (vocabulary of contracts).
 use Rattle.std.specs.Prelude.{◌+◌, ◌*◌, ◌^◌, ℕ, Bool, List, IsPermutation, nat_lt}
 use Rattle.std.specs.List.Sorted.{IsNonDecreasingBy}
 use Rattle.a429_judge.specs.declared.facts.Mark.{Mark}

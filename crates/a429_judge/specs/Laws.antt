@@ -1,4 +1,4 @@
--- What follows from a judgement, and what is never condemned.
+-- What follows from a judgement, and what is never condemned (profile: docs/FORMATS.md, Output of `judge`).
 use Rattle.std.specs.Prelude.{◌≡◌, ◌<◌, ◌≤◌, ◌⊎◌, ◌+◌, ◌-◌, ◌*◌, ℕ, List, [], Some, length}
 use Rattle.std.specs.List.Sorted.{IsNonDecreasingBy}
 use Rattle.a429_grid.specs.Grid.{IsGridPeriod}

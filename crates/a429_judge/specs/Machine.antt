@@ -1,4 +1,4 @@
--- What a right box sends at an output by one plan, slot by slot, and how its sends are recorded.
+-- What a right box sends at an output by one plan, slot by slot, and how its sends are recorded (profile: docs/RULES.md, Sending).
 use Rattle.std.specs.Prelude.{◌≡◌, ◌<◌, ◌≤◌, ◌==◌, ◌||◌, ◌+◌, ◌-◌, ◌*◌, ◌++◌, ◌∷◌, ℕ, zero, suc, Bool, List, [], Option, count_by, false, if◌then◌else◌, length, nat_le, nat_lt, slice_index_or}
 use Rattle.std.specs.List.{position_or_len}
 use Rattle.std.specs.List.Sorted.{IsNonDecreasingBy}

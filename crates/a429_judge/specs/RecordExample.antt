@@ -1,6 +1,7 @@
--- Logs of a right box, worked out. A slot is 360 µs, and the period 1440 µs; the output sends each word once. The clock of the box is slow: its slots
--- begin at 400, 1841, 3282 and 4723 µs. Z, A, B and C come in at 200, 990, 2000 and 6000 µs, so the slots send Z, A, B and nothing. The log of what
--- came in has A and B, A with a time that is 10 µs late. The log of what was sent has A and B, and another output's word before them.
+-- Logs of a right box, worked out (profile: docs/FORMATS.md, Output of `judge`). A slot is 360 µs, and the period 1440 µs; the output sends each
+-- word once. The clock of the box is slow: its slots begin at 400, 1841, 3282 and 4723 µs. Z, A, B and C come in at 200, 990, 2000 and 6000 µs, so
+-- the slots send Z, A, B and nothing. The log of what came in has A and B, A with a time that is 10 µs late. The log of what was sent has A and B,
+-- and another output's word before them.
 use Rattle.std.specs.Prelude.{◌≡◌, ◌+◌, ◌*◌, ℕ, List, [], ◌∷◌, Some}
 use Rattle.a429_judge.specs.declared.facts.Facts.{Facts}
 use Rattle.a429_judge.specs.declared.facts.Mark.{Mark}

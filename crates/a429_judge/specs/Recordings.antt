@@ -1,4 +1,4 @@
--- The logs of a box, and which words of them are an output's.
+-- The logs of a box, and which words of them are an output's (profile: docs/FORMATS.md, Output of `judge`).
 use Rattle.std.specs.Prelude.{ℕ, ◌-◌, ◌==◌, ◌&&◌, ◌≤◌, List, [], ◌∷◌, ◌++◌, Bool, Option, None, Some, true, count_by, filter, length, map, max, not, slice_get, slice_index_or}
 use Rattle.std.specs.List.{find, list_any}
 use Rattle.std.specs.List.Sorted.{IsNonDecreasingBy}

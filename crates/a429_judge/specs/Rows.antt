@@ -1,4 +1,4 @@
--- The rows of judgements.
+-- The rows of judgements (profile: docs/FORMATS.md, Output of `judge`).
 use Rattle.std.specs.Prelude.{◌==◌, ℕ, List, [], ◌∷◌, ◌++◌, if◌then◌else◌, flat_map, length, slice_index_or, Option, None, Some, codes}
 use Rattle.a429_text.specs.Fields.{Field, Text, Number, Absent}
 use Rattle.std.specs.List.{range_with_len}

@@ -1,4 +1,4 @@
--- The tolerance if none is given.
+-- The tolerance if none is given (profile: docs/FORMATS.md, Output of `judge`).
 use Rattle.std.specs.Prelude.{◌*◌, ◌/◌, ℕ, min}
 use Rattle.std.specs.Int.{div_ceil}
 

@@ -30,7 +30,7 @@ fn greater(greatest: Option<u64>, number: u64) -> Option<u64>
     }
 }
 
-/// The least of some numbers, if there are some.
+/// The least of some numbers. `None` if there are none.
 pub fn least_of(numbers: &[u64]) -> Option<u64>
     ensures { result ≡ least_of numbers.now }
 {
@@ -41,7 +41,7 @@ pub fn least_of(numbers: &[u64]) -> Option<u64>
     least
 }
 
-/// The greatest of some numbers, if there are some.
+/// The greatest of some numbers. `None` if there are none.
 pub fn greatest_of(numbers: &[u64]) -> Option<u64>
     ensures { result ≡ greatest_of numbers.now }
 {

@@ -335,9 +335,9 @@ fn add_words(
     }
 }
 
-/// What is found at the sends of an output and at the accepted words of its source: at the sends in their order, after the
-/// last one, and then at the words that were missed. The words of both lists are in the order of their times. Error: an allocation
-/// failed.
+/// What is found at the sends of an output and at the accepted words of its source: at the sends in their order, after
+/// the last one, and then at the words that were missed. The words of both lists are in the order of their times. Error:
+/// an allocation failed.
 #[tactic(auto, unfolding(crate::specs::Judging::findings))]
 pub fn findings(
     alloc: Global,

@@ -26,7 +26,7 @@ fn window_end(facts: &Facts, send: &Mark) -> u128
     u128::from(send.time) + u128::from(facts.tolerance)
 }
 
-/// The same words, sorted by their bits and then by their times. Error: an allocation failed.
+/// The accepted words, sorted by their bits and then by their times. Error: an allocation failed.
 pub fn sorted_words(alloc: Global, accepted: &[Mark]) -> Result<Vec<Mark>, AllocError>
     ensures { IfOk result (λ words. AreWords accepted.now words.items) }
 {

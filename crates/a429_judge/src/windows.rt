@@ -83,7 +83,7 @@ fn is_before_next(facts: &Facts, time: u64, mark: &Mark) -> bool
         < units(facts.rate, time, 0) + u128::from(facts.period) * 36_000_000
 }
 
-/// How many words were accepted before that window.
+/// How many words were accepted before the window of the slot that is a period after a send.
 pub fn count_before_next(facts: &Facts, accepted: &[Mark], time: u64) -> usize
     requires { IsNonDecreasingBy (λ (a : Mark). a.time) accepted.now }
     ensures point { AreFirst (is_before_next facts.now time) accepted.now result }

@@ -1,4 +1,4 @@
--- What the runs of a line are: stretches of ones and zeros that cannot be made longer, and Nulls between them.
+-- What the runs of a line are: stretches of ones and zeros that cannot be made longer, and Nulls between them (profile: docs/RULES.md, Lines).
 use Rattle.std.specs.Prelude.{◌≡◌, ◌≤◌, ⊤, ℕ, Bool, true, false, List, [], ◌∷◌, ◌++◌, replicate, nat_lt, IsTrue}
 use Rattle.std.specs.List.{flat_map, AllByRecursion, list_all}
 use Rattle.a429_line.specs.declared.found.Symbol.{Symbol}

@@ -1,4 +1,4 @@
--- The lines that a reader stands for. Of a line it keeps what its last run is, or how many Nulls follow that run.
+-- The lines that a reader stands for (vocabulary of contracts). Of a line it keeps what its last run is, or how many Nulls follow that run.
 use Rattle.std.specs.Prelude.{◌≡◌, ◌++◌, ◌∷◌, [], ℕ, List, if◌then◌else◌, nat_lt, min, length}
 use Rattle.a429_line.specs.Reports.{number, gap_after, first_piece, later_pieces, reports}
 use Rattle.a429_line.specs.declared.found.Found.{Found}

@@ -1,4 +1,4 @@
--- What a reader does at each symbol, for its own proof: the public clauses do not speak of it.
+-- What a reader does at each symbol, for its own proof: the public clauses do not speak of it (vocabulary of contracts).
 use Rattle.std.specs.Prelude.{ℕ, List, [], ◌∷◌, ◌++◌, Option, Some, None, ◌+◌, ◌*◌, ◌%◌, ◌^◌, if◌then◌else◌, nat_lt, bit_or}
 use Rattle.std.specs.Option.{option_to_list}
 use Rattle.a429_line.specs.Reports.{report_of_32}

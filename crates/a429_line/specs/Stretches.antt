@@ -1,4 +1,4 @@
--- What a reader does at a stretch of bytes, for its own proof: the public clauses do not speak of it.
+-- What a reader does at a stretch of bytes, for its own proof: the public clauses do not speak of it (vocabulary of contracts).
 use Rattle.std.specs.Prelude.{◌≡◌, ◌==◌, ◌≤◌, ℕ, List, length, map, slice_range}
 use Rattle.std.specs.Simd.Lanes.{mask_l}
 use Rattle.a429_line.specs.LineBytes.{symbols_of}

@@ -148,7 +148,8 @@ fn pass(bytes: &[u8], from: usize, stage: Stage) -> (usize, Stage)
     }
 }
 
-/// Takes bytes up to the next report: the report, the place after it, and the stage then.
+/// Takes bytes up to the next report: the report, the place after it, and the stage then. Without a report it is `None`,
+/// and all bytes were taken.
 pub fn next_found(bytes: &[u8], from: usize, stage: Stage) -> (Option<Found>, usize, Stage)
     requires { from ≤ length bytes.now }
     ensures takes { Takes bytes.now from stage (option_to_list result.0) result.1 result.2 }

@@ -1,4 +1,4 @@
--- The line on a terminal that shows the progress of a run.
+-- The line on a terminal that shows the progress of a run (profile: docs/FORMATS.md, Output of `live`).
 use Rattle.std.specs.Prelude.{ℕ, List, ◌++◌, codes}
 use Rattle.std.specs.Fmt.{decimal}
 

@@ -1,4 +1,4 @@
--- The outcome of tables that are submitted again to a running station, one after another.
+-- The outcome of tables that are submitted again to a running station, one after another (profile: docs/FORMATS.md, Output of `live`).
 use Rattle.std.specs.Prelude.{◌≡◌, ◌+◌, ◌^◌, ◌∷◌, [], ℕ, Bool, true, false, List, Ok, IfOk, OnOk, Result, MatchResult}
 use Rattle.std.specs.declared.vec.Vec.{Vec}
 use Rattle.std.specs.declared.alloc.Global.{Global}

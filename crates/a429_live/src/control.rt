@@ -43,7 +43,7 @@ pub struct Resubmits<'a> {
 }
 
 impl<'a> Resubmits<'a> {
-    /// None was resubmitted yet to the station of this equipment.
+    /// The tables that are submitted again to the station of this equipment, before the first one was submitted.
     pub fn new(alloc: Global, running: &'a Equipment, tables: &'a [Vec<u8>]) -> Resubmits<'a>
         ensures tables { result.tables.now ≡ tables.now }
         ensures none { result.answers.items ≡ [] }

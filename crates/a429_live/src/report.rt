@@ -116,7 +116,8 @@ fn push_all_resubmitted(
     Ok(())
 }
 
-/// The text of a report: a line for each further table, for each receiver, and for each group.
+/// The text of a report: a line for each further table, for each receiver, and for each group. Error: `Memory` if an
+/// allocation fails.
 pub fn report_text(
     alloc: Global,
     station: &Equipment,

@@ -192,7 +192,7 @@ fn run_report<R: Threads + Wait, F: FileReader, P: Progress + Sync>(
 }
 
 /// Runs the station of a table on threads of its own, and prints the report of the run, or one refusal line. The status
-/// is 0, or 1 after a refusal. While the station runs, `progress` gets reports of its progress.
+/// is 0, or 1 after a refusal. While the station runs, `progress` gets reports of its progress. Error: the output failed.
 pub fn run_station<R: Threads + Wait, F: FileReader, O: Output, P: Progress + Sync>(
     rt: &R,
     alloc: Global,

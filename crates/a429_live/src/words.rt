@@ -54,8 +54,9 @@ impl LineForm for WordsForm<'_> {
     }
 }
 
-/// Reads a file of words for the receivers of these names. Error: the number of its first faulty line, from 1. A line
-/// is faulty if it is not a receiver's name and a word, names no receiver, or does not end with a line feed.
+/// Reads a file of words for the receivers of these names. Errors: `Script` with the number of its first faulty line,
+/// from 1, or `Memory` if an allocation fails. A line is faulty if it is not a receiver's name and a word, names no
+/// receiver, or does not end with a line feed.
 pub fn read_words(alloc: Global, names: &Names, bytes: &[u8]) -> Result<Vec<Arrival>, Refused>
     ensures { IsWordsReading names.now bytes.now result }
 {

@@ -36,7 +36,8 @@ impl Clock {
         }
     }
 
-    /// The same word with its time from the base on. Error: the word comes before the base, or before the last word.
+    /// The given word, with its time from the base on, in microseconds. Errors: `Early` if the word comes before the
+    /// base, `Falls` if it comes before the last word. After an error the clock is as before.
     pub fn read<'a>(&mut self, word: StatedWord<'a>) -> Result<StatedWord<'a>, RowFault>
         ensures word { shown_row result ≡ on_clock self.old (stated_by word.entry) }
         ensures clock { OnOk result (self.new ≡ clock_after self.old (stated_by word.entry)) }

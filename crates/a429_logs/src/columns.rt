@@ -66,7 +66,7 @@ pub enum Found {
 }
 
 impl Found {
-    /// The same, if the column is at one place more.
+    /// What is found after one more place that has the column: this place, or that the column is there twice.
     fn noted(self, place: usize) -> Found
         ensures { result ≡ noted self place }
     {
@@ -76,7 +76,8 @@ impl Found {
         }
     }
 
-    /// The same after a field of the heading.
+    /// What is found after one more field of the heading, the one at this place. Nothing changes if the field does not
+    /// name the column.
     fn after(self, column: Column, place: usize, name: &[u8]) -> Found
         ensures { result ≡ found_next column self place name.now }
     {
@@ -277,7 +278,8 @@ impl Heading<'_> {
         }
     }
 
-    /// The columns of a log with this heading. Error: what is wrong with it.
+    /// The columns of a log with this heading. Errors: `Lacks` with a column that the heading does not have, `Repeats`
+    /// with one that it has twice or more.
     #[tactic(auto, unfolding(crate::specs::LogColumns::places_of))]
     pub fn places(&self) -> Result<Places, HeadingFault>
         ensures { result ≡ places_of (names_in self.now) }

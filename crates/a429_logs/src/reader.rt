@@ -90,7 +90,7 @@ impl<'a> LogReader<'a> {
         self.is_done = true;
     }
 
-    /// Takes the next word. Error: the first faulty line, after which nothing is left.
+    /// Takes the next word. `None` if no word is left. Error: the first faulty line, after which nothing is left.
     pub fn next(&mut self) -> Option<Result<LogWord<'a>, LogFault>>
         ensures taken { Takes entry_of result (entries_left self.old) (entries_left self.new) }
         ensures after { GoesOn result (reading_left self.old) (reading_left self.new) }

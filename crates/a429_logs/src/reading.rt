@@ -134,7 +134,7 @@ impl Reading {
         }
     }
 
-    /// What a line states: a word, or nothing. Error: what is wrong with it.
+    /// What a line states: a word, or `None` if it is passed over or is a heading. Error: what is wrong with the line.
     #[tactic(auto, unfolding(crate::specs::Logs::read_line))]
     pub fn read<'a>(&mut self, line: &'a [u8]) -> Result<Option<StatedWord<'a>>, LineFault>
         ensures { shown_line self.new result ≡ read_line self.old line.now }

@@ -153,7 +153,7 @@ fn plain_row(line: &[u8]) -> Option<StatedWord<'_>>
     Some(StatedWord { time, name, raw })
 }
 
-/// The word that a row states. Error: the first fault of the row.
+/// The word that a row states. Error: the first fault of the row, in the order number of fields, time, word.
 #[tactic(auto, unfolding(crate::specs::LogRows::row_of))]
 pub fn row_of<'a>(
     unit: TimeUnit,

@@ -16,7 +16,7 @@ fn without_prefix(text: &[u8]) -> &[u8]
     }
 }
 
-/// The 32 bits of eight hexadecimal digits, in either case. They may come after `0x`.
+/// The 32 bits of eight hexadecimal digits, in either case. They may come after `0x`. `None` for any other text.
 #[tactic(auto, unfolding(crate::specs::LogRows::whole_word))]
 pub fn whole_word(text: &[u8]) -> Option<u32>
     ensures { result ≡ whole_word text.now }
@@ -50,7 +50,7 @@ fn as_value(number: Option<u64>) -> Option<u32>
     }
 }
 
-/// The 19 data bits that digits state.
+/// The 19 data bits that digits state. `None` if the text is no number in this base, or if the number needs more bits.
 pub fn value_in(base: Base, text: &[u8]) -> Option<u32>
     ensures value { result ≡ value_in base text.now }
     ensures small { IfSome result (λ value. value < 2 ^ 19) }
@@ -61,7 +61,7 @@ pub fn value_in(base: Base, text: &[u8]) -> Option<u32>
     }
 }
 
-/// The SDI or the SSM that digits state: one from 0 to 3, or two binary digits.
+/// The SDI or the SSM that digits state: one from 0 to 3, or two binary digits. `None` for any other text.
 #[tactic(auto, unfolding(crate::specs::LogRows::two_bits))]
 pub fn two_bits(text: &[u8]) -> Option<u8>
     ensures value { result ≡ two_bits text.now }

@@ -1,4 +1,4 @@
--- Outputs as they are sorted.
+-- Outputs as they are sorted (vocabulary of contracts).
 use Rattle.std.specs.Prelude.{◌≡◌, ℕ, ◌+◌, ◌-◌, ◌^◌, List, [], ◌∷◌, map}
 use Rattle.a429_pack.specs.declared.entry.Entry.{Entry}
 use Rattle.a429_pack.specs.declared.demands.Demand.{Demand}

@@ -1,4 +1,4 @@
--- Why a group has no layout.
+-- Why a group has no layout (profile: docs/RULES.md, Plans).
 use Rattle.std.specs.Prelude.{◌<◌, List, ⊤}
 use Rattle.a429_pack.specs.declared.demands.Demand.{Demand}
 use Rattle.a429_pack.specs.declared.demands.PackFault.{PackFault}

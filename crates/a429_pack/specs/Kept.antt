@@ -1,4 +1,4 @@
--- How arrays keep lists.
+-- How arrays keep lists (vocabulary of contracts).
 use Rattle.std.specs.Prelude.{◌≡◌, ◌+◌, ◌-◌, ◌≤◌, ◌++◌, [], ◌∷◌, ℕ, List, length, replicate, sum, take}
 use Rattle.std.specs.List.{All}
 use Rattle.std.proofs.Common.{ap, arith, length-append}

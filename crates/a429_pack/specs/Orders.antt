@@ -1,4 +1,4 @@
--- Lists that put the numbers below n in an order.
+-- Lists that put the numbers below n in an order (vocabulary of contracts).
 use Rattle.std.specs.Prelude.{◌≡◌, ℕ, ◌<◌, List, length, slice_index}
 
 -- each number below n is at exactly one place of the list, and the list has only such numbers

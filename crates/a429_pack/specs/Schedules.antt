@@ -1,4 +1,4 @@
--- Schedules of a group of outputs on some buses, of any form, and the fewest buses.
+-- Schedules of a group of outputs on some buses, of any form, and the fewest buses (profile: docs/RULES.md, Plans).
 use Rattle.std.specs.Prelude.{◌≡◌, ℕ, ◌+◌, ◌<◌, ◌≤◌, ◌%◌, ◌↔◌, Option, Some, List, length, slice_index}
 
 -- Each row is a bus, with one slot after another. Each cell is empty or names an output; what `cell` says is

@@ -1,4 +1,4 @@
--- How outputs are chosen to be widened: from the shortest period on, as long as cells are needed.
+-- How outputs are chosen to be widened: from the shortest period on, as long as cells are needed (profile: docs/FORMATS.md, Output of `margin`).
 use Rattle.std.specs.Prelude.{◌≡◌, ℕ, ◌+◌, ◌-◌, ◌*◌, ◌^◌, ◌<◌, ◌≤◌, List, [], ◌∷◌, Bool, false, IsTrue, ◌&&◌, nat_le, nat_lt, if◌then◌else◌, length, slice_index, slice_index_or}
 use Rattle.a429_pack.specs.Widening.{freed_in}
 

@@ -1,4 +1,4 @@
--- Outputs of a group that get twice their period, so that the group does with a bus less.
+-- Outputs of a group that get twice their period, so that the group does with a bus less (profile: docs/FORMATS.md, Output of `margin`).
 use Rattle.std.specs.Prelude.{◌≡◌, ℕ, ◌+◌, ◌-◌, ◌*◌, ◌^◌, ◌<◌, ◌≤◌, List, [], ◌∷◌, Bool, true, false, IsTrue, length, slice_index, slice_index_or}
 use Rattle.a429_pack.specs.Demanded.{demand_of, IsBusCount}
 use Rattle.a429_pack.specs.Demands.{greatest}

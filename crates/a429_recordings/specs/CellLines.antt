@@ -1,4 +1,4 @@
--- What the lines of a slot's cells have in common.
+-- What the lines of a slot's cells have in common (profile: docs/FORMATS.md, Output of `simulate`).
 use Rattle.std.specs.Prelude.{◌≡◌, ◌+◌, ◌<◌, ◌≤◌, ◌++◌, ◌∷◌, [], ℕ, List, Result, OnErr, codes, drop, length}
 use Rattle.std.specs.Fmt.{decimal}
 use Rattle.a429_word.specs.Hexadecimal.{hex}

@@ -1,4 +1,4 @@
--- Words at a receiver that come more closely than a bus can carry them.
+-- Words at a receiver that come more closely than a bus can carry them (profile: docs/FORMATS.md, Output of `simulate`).
 use Rattle.std.specs.Prelude.{◌≡◌, ◌==◌, ◌+◌, ◌-◌, ◌^◌, ◌<◌, ◌≤◌, ◌++◌, ℕ, List, Some, None, if◌then◌else◌, nat_lt, filter_map, length, min, slice_get, slice_set}
 use Rattle.std.specs.Option.{option_map_or}
 use Rattle.a429_recordings.specs.declared.simulate.close.CloseRun.{CloseRun}

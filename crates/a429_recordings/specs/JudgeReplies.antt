@@ -1,4 +1,4 @@
--- The command `judge`: what it prints, and why it prints nothing.
+-- The command `judge`: what it prints, and why it prints nothing (profile: docs/FORMATS.md, Output of `judge`).
 use Rattle.std.specs.Prelude.{◌≡◌, ◌==◌, ◌∷◌, ◌⊎◌, ℕ, Bool, true, false, is_some, not, List, None, Option, Some, Ok, Result, MatchResult, length, option_and_then}
 use Rattle.std.specs.List.{find}
 use Rattle.std.specs.Option.{option_map_or}

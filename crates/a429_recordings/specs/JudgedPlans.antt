@@ -1,4 +1,4 @@
--- The outputs of a plan as they are judged, and the rows of that.
+-- The outputs of a plan as they are judged, and the rows of that (profile: docs/FORMATS.md, Output of `judge`).
 use Rattle.std.specs.Prelude.{◌≡◌, ◌*◌, ◌^◌, ◌||◌, ◌++◌, ◌∷◌, [], ℕ, Bool, false, List, Option, Some, None, codes, flat_map, fold, length, map, min, nat_lt, option_and_then, slice_get, unwrap_or}
 use Rattle.std.specs.List.{list_any, range_with_len}
 use Rattle.std.specs.Option.{option_map_or}

@@ -1,4 +1,5 @@
--- What a simulation does and prints: steps of the machine by a timeline, what happens in them, and the lines of that.
+-- What a simulation does and prints: steps of the machine by a timeline, what happens in them, and the lines of that
+-- (profile: docs/FORMATS.md, Output of `simulate`).
 use Rattle.std.specs.Prelude.{◌==◌, ◌+◌, ◌-◌, ◌%◌, ◌++◌, ◌∷◌, [], ℕ, List, Option, Some, None, if◌then◌else◌, codes, filter_map, length, map, replicate, unwrap_or}
 use Rattle.std.specs.Fmt.{decimal}
 use Rattle.std.specs.List.{flat_map}

@@ -1,4 +1,4 @@
--- A simulation by the values of the program: its machine, and what is played on it.
+-- A simulation by the values of the program: its machine, and what is played on it (vocabulary of contracts).
 use Rattle.std.specs.Prelude.{◌≡◌, ◌+◌, ◌-◌, ◌*◌, ◌^◌, ◌<◌, ◌≤◌, ◌++◌, ◌∷◌, [], ⊤, ℕ, zero, suc, List, Option, None, Some, Result, IfSome, MatchOption, MatchResult, get_or, length, min, replicate, slice_get, slice_set}
 use Rattle.std.specs.Option.{option_map_or}
 use Rattle.a429_equipment.specs.Limits.{count_bits}

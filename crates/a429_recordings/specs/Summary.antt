@@ -1,4 +1,4 @@
--- The summary of a simulation: of each output how many words it sent, and at which times.
+-- The summary of a simulation: of each output how many words it sent, and at which times (profile: docs/FORMATS.md, Output of `simulate`).
 use Rattle.std.specs.Prelude.{◌==◌, ◌&&◌, ◌+◌, ◌-◌, ◌^◌, ◌++◌, ◌∷◌, [], ℕ, Bool, not, List, Option, Some, None, filter_map, if◌then◌else◌, codes, length, map, max, min}
 use Rattle.std.specs.List.{flat_map, fold, list_any, range_with_len}
 use Rattle.a429_equipment.specs.TableRecord.{TableRecord}

@@ -1,4 +1,5 @@
--- A law of the summary of a simulation: no word first goes out later than the bound of its output.
+-- A law of the summary of a simulation: no word first goes out later than the bound of its output
+-- (profile: docs/RULES.md, How late a word goes out).
 use Rattle.std.specs.Prelude.{◌≡◌, ◌≤◌, ℕ, List, Some, slice_get}
 use Rattle.std.specs.List.{AllByRecursion}
 use Rattle.a429_text.specs.Fields.{Field, Number}

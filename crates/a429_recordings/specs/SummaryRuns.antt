@@ -1,4 +1,4 @@
--- The summary of a simulation by the values of the program.
+-- The summary of a simulation by the values of the program (vocabulary of contracts).
 use Rattle.std.specs.Prelude.{◌≡◌, ◌==◌, ◌&&◌, ◌+◌, ◌-◌, ◌*◌, ◌^◌, ◌<◌, ◌++◌, ◌∷◌, [], ℕ, Bool, true, not, List, Option, Some, None, if◌then◌else◌, length, map, max, min, nat_lt, option_and_then, option_map, slice_get, slice_set, unwrap_or}
 use Rattle.std.specs.List.{flat_map, range_with_len}
 use Rattle.std.specs.Option.{option_map_or}

@@ -1,4 +1,4 @@
--- The command `survey`: what it prints, and why it prints nothing.
+-- The command `survey`: what it prints, and why it prints nothing (profile: docs/FORMATS.md, Output of `survey`).
 use Rattle.std.specs.Prelude.{◌≡◌, ◌⊎◌, ℕ, List, Option, Some, None, Ok, Result, MatchResult, if◌then◌else◌, option_map, unwrap_or}
 use Rattle.std.specs.declared.vec.Vec.{Vec}
 use Rattle.std.specs.declared.alloc.Global.{Global}
@@ -31,6 +31,7 @@ abbrev pub noted_by : List (List ℕ) → Stated → Option Noted
 noted_by channels = named channels noted_of
 
 -- what the options ask for: a bit rate of 100000 bit/s, and intervals widened by 25 per cent, unless others are given
+-- (profile: docs/RULES.md, Limits)
 abbrev pub survey_form : OptionBytes → SurveyForm
 survey_form o = record {
   rate = unwrap_or o.rate 100000;

@@ -1,4 +1,5 @@
--- The timeline of a simulation: words of a log, and slots of a station's groups, in the order of time.
+-- The timeline of a simulation: words of a log, and slots of a station's groups, in the order of time
+-- (profile: docs/FORMATS.md, Output of `simulate`).
 use Rattle.std.specs.Prelude.{◌≡◌, ◌==◌, ◌+◌, ◌*◌, ◌/◌, ◌<◌, ◌≤◌, ◌++◌, ◌∷◌, [], ⊤, ℕ, List, Option, Some, None, if◌then◌else◌, nat_lt, length, filter_map, max, slice_get, unwrap_or}
 use Rattle.std.specs.Int.{div_ceil}
 use Rattle.std.specs.List.{AllByRecursion, range_with_len}

@@ -1,4 +1,4 @@
--- The places of the groups of a simulation, as the program keeps them.
+-- The places of the groups of a simulation, as the program keeps them (vocabulary of contracts).
 use Rattle.std.specs.Prelude.{◌≡◌, ◌+◌, ◌-◌, ◌*◌, ◌/◌, ◌<◌, ◌≤◌, ◌++◌, ◌∷◌, [], ◌↔◌, ⊤, ℕ, Bool, List, Option, Some, None, Result, MatchOption, MatchResult, IsTrue, drop, length, min, slice_get, slice_set, sum_by}
 use Rattle.std.specs.Option.{option_map_or}
 use Rattle.std.specs.declared.vec.Vec.{Vec}
@@ -19,6 +19,7 @@ use Rattle.a429_recordings.specs.declared.simulate.moments.Timeline.{Timeline}
 use Rattle.a429_recordings.specs.declared.simulate.tracks.Track.{Track}
 
 -- a rate in bit/s, and few enough slots that 64 bits can count their microseconds: those of a million frames, and those before 10^14 us
+-- (profile: docs/RULES.md, Limits)
 pub record IsTrack (x : Track) : Type 0 where
   pub some_rate : 1 ≤ x.rate
   pub few_rate : x.rate ≤ 100000
@@ -93,6 +94,7 @@ IsKnownMoment tracks (Word w) = ⊤
 IsKnownMoment tracks (Slot g t) = (g < length tracks) × (t < 300000000000)
 
 -- how many slots begin at the last time or before, unless those from the first time on are more than a million frames
+-- (profile: docs/RULES.md, Limits)
 abbrev pub SlotsAreCounted : ℕ → ℕ → ℕ → ℕ → Option ℕ → Type 0
 SlotsAreCounted rate frame first last None = slots_before rate first + 1000000 * frame < last * rate / slot_time + 1
 SlotsAreCounted rate frame first last (Some slots) = (slots ≡ last * rate / slot_time + 1) × (slots ≤ 300000000000)

@@ -277,9 +277,9 @@ fn judge_input<'a>(
 }
 
 /// Whether what a box sent is right, as a sheet, by a log of what came in and one of what was sent. Each has further logs
-/// that are read after it. Errors, in this order: a file cannot be read; the table, or its plan; a tolerance is
-/// given for a group that is not there, or is more than half the period of an output; the first faulty line of what came in, and then of what was sent; the two have no
-/// time in common.
+/// that are read after it. Errors, in this order: a file cannot be read; the table has a fault or no plan; a tolerance is
+/// given for a group that is not there, or is more than half the period of an output; the first faulty line of what came
+/// in, and then of what was sent; the two have no time in common. `Memory` if an allocation fails.
 pub fn judge_logs<'a, F: FileReader>(
     alloc: Global,
     files: &mut F,

@@ -22,7 +22,7 @@ pub struct LogNames<'a> {
     pub channels: &'a [&'a str],
 }
 
-/// The same word of a log by the name as which its channel is taken.
+/// A word of a log, with the name as which its channel is taken in place of its own.
 pub fn with_name<'a>(channels: &'a [&'a str], entry: LogWord<'a>) -> LogWord<'a>
     ensures word { stated_by result.word ≡ with_name (texts_of channels.now) (stated_by entry.entry.word) }
     ensures line { result.line ≡ entry.entry.line }

@@ -141,7 +141,8 @@ fn read_station(alloc: Global, table: &[u8], style: LineStyle) -> Result<Setting
     })
 }
 
-/// Logs on a station, with slots up to the time that the form asks for. Error: the log is refused, or a group would send too much.
+/// Logs on a station, with slots up to the time that the form asks for. Error: the log is refused, or a group would send
+/// too much.
 fn read_player<'a>(
     alloc: Global,
     setting: &Setting,
@@ -292,7 +293,7 @@ fn print_simulation<O: Output>(
 /// Plays the words of logs on the station of a table, at their times. It puts a line for each word that is sent or
 /// refused, or only for those that are sent, or instead the summary of what each output sent. A refusal is one line
 /// instead. The status is 0, or 1 after a refusal, or if an allocation fails after the first lines. A receiver to which
-/// words come too closely is noted.
+/// words come too closely is noted. Error: the output failed.
 pub fn simulate<'a, F: FileReader, O: Output>(
     alloc: Global,
     files: &mut F,

@@ -132,8 +132,9 @@ fn text_of(alloc: Global, survey: &Survey, form: SurveyForm) -> Result<Vec<u8>, 
     }
 }
 
-/// What is on the lines of logs, as a sheet; or the start of a table, as rows for `import`. Error: a log cannot be read, or
-/// has a faulty line; that is a line as the reader of logs says, or one with a name that is not UTF-8.
+/// What is on the lines of logs, as a sheet; or the start of a table, as rows for `import`. Errors: a log cannot be read,
+/// or has a faulty line; that is a line as the reader of logs says, or one with a name that is not UTF-8. `Memory` if an
+/// allocation fails.
 pub fn survey_logs<'a, F: FileReader>(
     alloc: Global,
     files: &mut F,

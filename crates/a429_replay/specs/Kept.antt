@@ -1,4 +1,4 @@
--- Events of a script as they are kept between reading and play.
+-- Events of a script as they are kept between reading and play (vocabulary of contracts).
 use Rattle.std.specs.Prelude.{[], ◌≡◌, ◌+◌, ◌*◌, ◌^◌, ◌<◌, ◌∷◌, ◌++◌, ⊤, ℕ, List, Some, None, Ok, Err, Result, MatchResult, length, map, slice_index}
 use Rattle.std.specs.List.{AllByRecursion}
 use Rattle.std.specs.declared.vec.Vec.{Vec}

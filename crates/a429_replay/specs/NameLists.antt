@@ -1,4 +1,4 @@
--- Names with which a text begins.
+-- Names with which a text begins (profile: docs/FORMATS.md, Script of `replay`).
 use Rattle.std.specs.Prelude.{◌≡◌, ◌<◌, ◌++◌, ◌∷◌, ℕ, List, Some, None}
 use Rattle.a429_text.specs.CutText.{cut}
 use Rattle.a429_console.specs.Names.{name_at, number_named}

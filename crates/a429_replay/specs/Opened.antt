@@ -1,4 +1,4 @@
--- A station that is open for a script, and what a replay makes of the bytes that it was given.
+-- A station that is open for a script, and what a replay makes of the bytes that it was given (vocabulary of contracts).
 use Rattle.std.specs.Prelude.{◌≡◌, ◌∷◌, [], ℕ, List, Option, Result, MatchResult, length}
 use Rattle.std.specs.declared.vec.Vec.{Vec}
 use Rattle.std.specs.declared.alloc.Global.{Global}

@@ -1,4 +1,5 @@
--- What the program writes of a script: a line for each event, of the machine's answer, or of the fault of a table that was to be published.
+-- What the program writes of a script: a line for each event, of the machine's answer, or of the fault of a table that was to be published
+-- (profile: docs/FORMATS.md, Output of `replay`).
 use Rattle.std.specs.Prelude.{◌≡◌, ◌-◌, ◌≤◌, ◌++◌, ◌∷◌, [], ◌⊎◌, ℕ, List, Bool, Option, Some, Result, IfOk, IsTrue, ⊤, length, slice_get, take}
 use Rattle.a429_equipment.specs.Limits.{count_bits}
 use Rattle.a429_slots.specs.Events.{Event}

@@ -1,4 +1,4 @@
--- The command `replay`: what it writes, and its status.
+-- The command `replay`: what it writes, and its status (profile: docs/FORMATS.md, Output of `replay`).
 use Rattle.std.specs.Prelude.{◌≡◌, ◌∷◌, [], ◌++◌, ◌⊎◌, ℕ, List, Option, Ok, Result, take, length}
 use Rattle.std.specs.Borrow.{Bor}
 use Rattle.a429_slots.specs.Events.{Event}

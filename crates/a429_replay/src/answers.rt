@@ -80,7 +80,7 @@ fn push_sent(
     text.extend_from_slice(&room[at..])
 }
 
-/// Appends the line of an answer. If an allocation fails, nothing is appended.
+/// Appends the line of an answer. Error: an allocation failed; then nothing is appended.
 #[inline(always)]
 pub fn push_answer(
     text: &mut Vec<u8>,

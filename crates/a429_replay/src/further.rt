@@ -94,8 +94,8 @@ impl FurtherTable {
         }
     }
 
-    /// Publishes it on a station, and appends the line of the answer, or of the refusal of the table or of its plan. If an
-    /// allocation fails, nothing is appended.
+    /// Publishes it on a station, and appends the line of the answer, or of the refusal of the table or of its plan.
+    /// Error: an allocation failed; then nothing is appended.
     pub fn publish(
         &mut self,
         alloc: Global,
@@ -218,7 +218,7 @@ fn cause_of_proposal(
     }
 }
 
-/// These tables, of which none was published yet. Error: an allocation failed.
+/// Further tables of a replay, of which none was published yet. Error: an allocation failed.
 pub fn further_tables(alloc: Global, tables: Vec<Vec<u8>>) -> Result<Vec<FurtherTable>, AllocError>
     ensures { IfOk result (λ further. further.items ≡ bytes_of tables.items) }
 {

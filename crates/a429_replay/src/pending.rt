@@ -36,7 +36,7 @@ impl Pending {
         }
     }
 
-    /// Appends the line of an answer. If an allocation fails, nothing is appended.
+    /// Appends the line of an answer. Error: an allocation failed; then nothing is appended.
     #[inline(always)]
     pub fn push_answer(&mut self, names: &Names, answer: Answer) -> Result<(), AllocError>
         ensures line { OnOk result (self.new.text.items ≡ self.old.text.items ++ answer_line names.now.sources answer) }
@@ -45,7 +45,7 @@ impl Pending {
         push_answer(&mut self.text, &mut self.slots, names, answer)
     }
 
-    /// Appends the line of a refusal. If an allocation fails, nothing is appended.
+    /// Appends the line of a refusal. Error: an allocation failed; then nothing is appended.
     pub fn push_refusal(&mut self, refusal: &CommandRefusal) -> Result<(), AllocError>
         ensures line { OnOk result (self.new.text.items ≡ self.old.text.items ++ refusal_line refusal.now ++ 10 ∷ []) }
         ensures kept { OnErr result (self.new.text.items ≡ self.old.text.items) }

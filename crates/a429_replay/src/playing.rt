@@ -70,7 +70,7 @@ fn play(
 }
 
 /// Plays events one after another. Their lines are put out when they have become many, and those that are left are in
-/// `lines`. The result is whether memory sufficed for all.
+/// `lines`. The result is whether memory sufficed for all. Error: the output failed.
 pub fn play_all<O: Output>(
     alloc: Global,
     state: &mut StationState,

@@ -183,7 +183,7 @@ fn keep_first<'a>(
     }
 }
 
-/// The events of a script. The error is the number of its first faulty line, from 1.
+/// The events of a script. Error: the number of its first faulty line, from 1, or an allocation failed.
 pub fn read_events(
     alloc: Global,
     form: &ScriptForm<'_>,

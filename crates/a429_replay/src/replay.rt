@@ -115,9 +115,9 @@ fn play_prepared<O: Output>(
     finish(&lines.text, sufficed, out)
 }
 
-/// Plays a script on the station of a table, and puts one line for each event. A refusal is one line instead. The
-/// status is 0, or 1 after a refusal, or if an allocation fails after the first lines. The further tables that were
-/// published, and that the station did not take, are noted.
+/// Plays a script on the station of a table, and puts one line for each event. A refusal is one line instead. The status
+/// is 0, or 1 after a refusal, or if an allocation fails after the first lines. The further tables that were published,
+/// and that the station did not take, are noted. Error: the output failed.
 pub fn replay<F: FileReader, O: Output>(
     alloc: Global,
     files: &mut F,

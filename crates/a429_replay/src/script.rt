@@ -86,8 +86,8 @@ impl LineForm for ScriptForm<'_> {
     }
 }
 
-/// Reads a script. The refusal has the number of its first faulty line, from 1: one that is not an event, names nothing, or
-/// does not end with a line feed. That line is evidence.
+/// Reads a script. Errors: `Script` with the number of its first faulty line, from 1, or `Memory` if an allocation fails.
+/// A line is faulty if it is not an event, names nothing, or does not end with a line feed. That line is evidence.
 pub fn read_script(
     alloc: Global,
     form: &ScriptForm<'_>,

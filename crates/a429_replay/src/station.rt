@@ -23,8 +23,8 @@ pub struct ReplayStation {
 }
 
 impl ReplayStation {
-    /// Opens the station of a table's bytes at slot 0, with no event yet. Error: the table's fault, otherwise the first
-    /// fault of its plan.
+    /// Opens the station of a table's bytes at slot 0, with no event yet. Error: the fault of the table, otherwise the
+    /// first fault of its plan, or an allocation failed.
     pub fn open(alloc: Global, table: &[u8]) -> Result<ReplayStation, Refused>
         ensures { MatchResult result (IsOpenedFrom table.now) (OrMemory (IsTableRefusal table.now)) }
     {

@@ -9,7 +9,7 @@ use std::alloc::Global;
 use std::mem;
 use std::process::Abort;
 
-/// The equipment of a table with its plan.
+/// The equipment of a table with its plan. It ends the test if the table has a fault or no plan.
 pub fn proposal(rt: &impl Abort, alloc: Global, table: &str) -> Proposal<OUTPUTS> {
     let proposal = Proposal::of(alloc, equipment_of(rt, alloc, table)).ok();
     proposal.expect(rt, "a proposal")

@@ -79,7 +79,7 @@ static CELLS: [(u32, u64, Option<usize>); 8] = [
     (4294967295, 0, None),
 ];
 
-/// The same of `BEHIND`.
+/// Buses, slots, and the numbers of the outputs in the cells of `BEHIND`.
 static CELLS_BEHIND: [(u32, u64, Option<usize>); 4] = [
     (0, 0, Some(2)),
     (0, 1, Some(0)),

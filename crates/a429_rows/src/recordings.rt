@@ -55,7 +55,7 @@ const DUTY: Duty = Duty {
     },
 };
 
-/// A word of it at a time.
+/// A word of the output of `DUTY`, at a time in microseconds.
 fn mark(time: u64) -> Mark {
     Mark {
         time,
@@ -63,7 +63,7 @@ fn mark(time: u64) -> Mark {
     }
 }
 
-/// The same as a word that was sent.
+/// A word that the output of `DUTY` sent, at a time in microseconds.
 fn sent(time: u64) -> Sent {
     Sent {
         group: 0,

@@ -8,7 +8,7 @@ use std::process::Abort;
 /// The word of the examples, of label 203.
 const WORD: u32 = 0x6000_00c1;
 
-/// The same with another parity bit.
+/// The word of the examples with the other parity bit, so that its parity is even.
 const EVEN: u32 = 0xe000_00c1;
 
 /// A socket without filters on this number of words of even parity, followed by the word of the examples.

@@ -1,4 +1,4 @@
--- What each event is answered after a history, with the refusals in their order.
+-- What each event is answered after a history, with the refusals in their order (profile: docs/RULES.md, Sending).
 use Rattle.std.specs.Prelude.{◌+◌, ◌-◌, ◌^◌, ◌∷◌, [], ◌++◌, ℕ, List, Result, Ok, Err, if◌then◌else◌, nat_lt, nat_le, length, slice_get}
 use Rattle.std.specs.Option.{option_map_or}
 use Rattle.a429_equipment.specs.declared.arrivals.ArrivalRefusal.{ArrivalRefusal}

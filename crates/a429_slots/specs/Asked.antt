@@ -1,4 +1,4 @@
--- What the rows of a group ask of its layout.
+-- What the rows of a group ask of its layout (profile: layout).
 use Rattle.std.specs.Prelude.{◌≡◌, ◌/◌, ◌%◌, ◌^◌, ◌<◌, ℕ, List, Some, MatchOption, length, map, slice_get, slice_index}
 use Rattle.a429_grid.specs.Grid.{HasNoGridPeriod, least_spacing}
 use Rattle.a429_grid.specs.Reversal.{reversed}

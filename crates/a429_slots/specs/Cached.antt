@@ -1,4 +1,4 @@
--- What was found in the cells of a slot table, a number a cell.
+-- What was found in the cells of a slot table, a number a cell (vocabulary of contracts).
 use Rattle.std.specs.Prelude.{◌≡◌, ◌⊎◌, ◌+◌, ◌/◌, ◌%◌, ℕ, List, Option, Some, None, get_or}
 use Rattle.a429_slots.specs.Tables.{SlotTable, cell_at}
 

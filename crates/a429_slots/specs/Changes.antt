@@ -1,4 +1,4 @@
--- The distance between the cells of an output when the plan of its group changes.
+-- The distance between the cells of an output when the plan of its group changes (profile: docs/FORMATS.md, Output of `diff`).
 use Rattle.std.specs.Prelude.{◌≡◌, ℕ, ◌+◌, ◌-◌, ◌^◌, ◌<◌, Some}
 use Rattle.a429_slots.specs.declared.group_plan.SlotPlace.{SlotPlace}
 use Rattle.a429_slots.specs.Tables.{SlotTable, cell_at, frame_of, place_of}

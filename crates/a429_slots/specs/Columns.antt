@@ -1,4 +1,4 @@
--- How a `GroupPlan` keeps its table: a column for each part of an output.
+-- How a `GroupPlan` keeps its table: a column for each part of an output (vocabulary of contracts).
 use Rattle.std.specs.Prelude.{◌≡◌, ℕ, get_or, length, map, slice_index, take}
 use Rattle.std.specs.List.{range_with_len}
 use Rattle.a429_pack.specs.Kept.{padded}

@@ -1,4 +1,4 @@
--- What happens to a station. A list of events is a history, the oldest first.
+-- What happens to a station (profile: docs/RULES.md, Sending). A list of events is a history, the oldest first.
 use Rattle.std.specs.Prelude.{ℕ}
 use Rattle.a429_slots.specs.Proposed.{Proposed}
 

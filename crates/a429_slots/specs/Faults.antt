@@ -1,4 +1,4 @@
--- The faults of planning.
+-- The faults of planning (profile: docs/RULES.md, Plans).
 use Rattle.std.specs.Prelude.{ℕ, List, ⊤}
 use Rattle.a429_equipment.specs.TableRecord.{TableRecord}
 use Rattle.a429_equipment.specs.declared.rows.OutputRow.{OutputRow}

@@ -1,4 +1,4 @@
--- The state of a group in its frame, as the machine keeps it.
+-- The state of a group in its frame, as the machine keeps it (vocabulary of contracts).
 use Rattle.std.specs.Prelude.{◌≡◌, ◌<◌, ◌*◌, ◌⊎◌, ◌+◌, ◌/◌, ◌%◌, ◌^◌, ℕ, Bool, Option, Some, None, List, if◌then◌else◌, nat_lt, min}
 use Rattle.std.specs.List.{list_all}
 use Rattle.a429_slots.specs.Tables.{Placed, SlotTable, frame_of, buses_of, cells_of}

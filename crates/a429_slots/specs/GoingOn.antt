@@ -1,4 +1,4 @@
--- How the frame of a group, and the cells that it has answered, go on by one more event.
+-- How the frame of a group, and the cells that it has answered, go on by one more event (profile: docs/RULES.md, Sending).
 use Rattle.std.specs.Prelude.{◌≡◌, ◌++◌, ◌∷◌, [], ℕ, List, false, if◌then◌else◌, nat_lt, option_to_list}
 use Rattle.a429_slots.specs.Tables.{SlotTable, cells_of}
 use Rattle.a429_slots.specs.Events.{Event, Cell, Frame}

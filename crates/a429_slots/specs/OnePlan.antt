@@ -1,4 +1,4 @@
--- A table has one plan, or one fault.
+-- A table has one plan, or one fault (profile: docs/RULES.md, Plans).
 use Rattle.std.specs.Prelude.{◌≡◌, ◌≢◌}
 use Rattle.a429_equipment.specs.TableRecord.{TableRecord}
 use Rattle.a429_slots.specs.declared.planner.PlanFault.{PlanFault}

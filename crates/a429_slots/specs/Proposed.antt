@@ -1,4 +1,4 @@
--- A proposal: the record of a station with the plan of its groups.
+-- A proposal: the record of a station with the plan of its groups (vocabulary of contracts).
 use Rattle.a429_equipment.specs.TableRecord.{TableRecord}
 use Rattle.a429_slots.specs.Tables.{PlanTable}
 

@@ -1,4 +1,4 @@
--- What has to be kept of a group's earlier cells to determine the word that is sent in the next one.
+-- What has to be kept of a group's earlier cells to determine the word that is sent in the next one (vocabulary of contracts).
 use Rattle.std.specs.Prelude.{◌≡◌, ◌==◌, ◌&&◌, ◌+◌, ◌<◌, ◌≤◌, ◌++◌, ◌∷◌, [], ℕ, Bool, List, Option, Some, None, false, not, if◌then◌else◌, nat_lt, nat_le, slice_get, slice_set}
 use Rattle.std.specs.Option.{option_map_or}
 use Rattle.a429_slots.specs.declared.senders.Due.{Due}

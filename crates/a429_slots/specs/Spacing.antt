@@ -1,5 +1,5 @@
--- The cells of outputs by their places in a history, and how far apart a group sends words of one source. A place is how many events come
--- before it.
+-- The cells of outputs by their places in a history, and how far apart a group sends words of one source (profile: docs/RULES.md, Sending). A place
+-- is how many events come before it.
 use Rattle.std.specs.Prelude.{◌≡◌, ◌+◌, ◌<◌, ◌≤◌, ◌^◌, ◌++◌, ◌∷◌, ℕ, IsTrue, List, Some, length, take, slice_get}
 use Rattle.std.specs.List.{AllByRecursion}
 use Rattle.a429_equipment.specs.Sound.{HaveOwnSources}

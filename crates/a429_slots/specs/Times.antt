@@ -1,4 +1,4 @@
--- How long slots last.
+-- How long slots last (profile: docs/RULES.md, The slot grid).
 use Rattle.std.specs.Prelude.{ℕ, ◌+◌, ◌*◌}
 use Rattle.std.specs.Int.{div_ceil}
 use Rattle.a429_grid.specs.Grid.{slot_time}

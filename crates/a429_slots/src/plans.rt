@@ -90,7 +90,7 @@ impl<const N: usize> Plan<N> {
         self.number
     }
 
-    /// The same plan under this number.
+    /// This plan under this number.
     pub fn numbered(self, number: u64) -> Plan<N>
         ensures { result ≡ record self.entry { number = number } }
     {

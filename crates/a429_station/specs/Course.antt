@@ -1,5 +1,5 @@
--- The course of a run of a station: what came to its receivers, what its groups sent by that, and which plans were
--- published during the run.
+-- The course of a run of a station: what came to its receivers, what its groups sent by that, and which plans were published during the run
+-- (vocabulary of contracts).
 use Rattle.std.specs.Prelude.{◌≡◌, ◌≤◌, ◌-◌, ◌^◌, ◌++◌, [], ℕ, Bool, true, List, Option, IsTrue, length, map}
 use Rattle.std.specs.List.{AllByRecursion, range_with_len}
 use Rattle.a429_equipment.specs.TableRecord.{TableRecord}
@@ -36,7 +36,7 @@ pub record Course : Type 0 where
 
 -- ---- receivers
 
--- receiver r, which accepted nothing yet: of a source it accepts as many words as 41 bits count
+-- receiver r, which accepted nothing yet: of a source it accepts as many words as 41 bits count (profile: docs/RULES.md, Limits)
 abbrev pub fresh : ends.Place → ℕ → ends.ReceiverEnd
 fresh at r = record { at = at; number = r; limit = 2 ^ 41 - 1; accepted = [] }
 

@@ -1,4 +1,4 @@
--- Why a station did not run, or not to its end: the faults of its plan and of its workers.
+-- Why a station did not run, or not to its end: the faults of its plan and of its workers (vocabulary of contracts).
 use Rattle.std.specs.Prelude.{◌≡◌, ◌<◌, ◌≤◌, List, [], ◌∷◌, ◌⊎◌, ⊤, ℕ, true, Option, Some, None, Result, Ok, Err, OnOk, length}
 use Rattle.a429_equipment.specs.TableRecord.{TableRecord}
 use Rattle.a429_filter.specs.declared.sources.LineSource as LineSource
@@ -27,7 +27,7 @@ of_receiver receive.Source = live.Source
 of_receiver receive.Gate = live.Gate
 of_receiver (receive.TooMuch raw totals) = live.TooMuch
 
--- the slots of a million frames can be counted, so a group is never refused its next frame
+-- the slots of a million frames can be counted, so a group is never refused its next frame (profile: docs/RULES.md, Limits)
 abbrev pub IsOfGroup : SendFault → LiveFault → Type 0
 IsOfGroup send.Sink fault = fault ≡ live.Sink
 IsOfGroup send.Gate fault = fault ≡ live.Gate
@@ -48,7 +48,7 @@ IsFirstFault (Some why) groups fault = fault ≡ of_receiver why
 IsFirstFault None (Some why) fault = IsOfGroup why fault
 IsFirstFault None None fault = fault ≡ live.NoMemory
 
--- the line gave a word after a million, if that is why its receiver's loop ended
+-- the line gave a word after a million, if that is why its receiver's loop ended (profile: docs/RULES.md, Limits)
 abbrev pub GaveTooMuch : List ℕ → Result ReceiveTotals ReceiveFault → Type 0
 GaveTooMuch words (Err (receive.TooMuch raw totals)) = length words ≡ 1000001
 GaveTooMuch words (Err receive.Source) = ⊤

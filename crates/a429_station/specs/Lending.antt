@@ -1,4 +1,4 @@
--- What is lent to a scope of threads, and given back.
+-- What is lent to a scope of threads, and given back (vocabulary of contracts).
 use Rattle.std.specs.Prelude.{◌≡◌, Bool, IfOk, is_ok}
 use Rattle.a429_station.specs.declared.threads.Lent.{Lent}
 

@@ -1,4 +1,4 @@
--- What is true of the items of lists by their places, which are counted from 0.
+-- What is true of the items of lists by their places, which are counted from 0 (vocabulary of contracts).
 use Rattle.std.specs.Prelude.{ℕ, suc, ⊤, List, [], ◌∷◌}
 
 -- P of each place and the item there

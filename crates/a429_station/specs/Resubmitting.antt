@@ -1,4 +1,5 @@
--- Plans that are published while a station runs: of the tables that are submitted again, those of the same station.
+-- Plans that are published while a station runs: of the tables that are submitted again, those of the same station
+-- (profile: docs/RULES.md, Sending).
 use Rattle.std.specs.Prelude.{◌≡◌, ◌≤◌, ◌+◌, ◌^◌, ◌++◌, ◌∷◌, [], ⊤, ℕ, true, false, List, Ok, Err, length, map}
 use Rattle.std.specs.List.{AllByRecursion}
 use mathlib.Core.List.{IsPrefix}
@@ -34,7 +35,7 @@ pub record Running : Type 0 where
 abbrev pub opening : TableRecord → PlanTable → Opening
 opening t p = record { proposal = record { station = t; plan = p }; first = 0 }
 
--- a frame of each group has at most 8192 slots on a bus
+-- a frame of each group has at most 8192 slots on a bus (profile: docs/RULES.md, Limits)
 abbrev pub HasFewSlots : PlanTable → Type 0
 HasFewSlots p = AllByRecursion (λ t. frame_of t ≤ 8192) (groups_of p)
 

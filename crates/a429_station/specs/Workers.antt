@@ -1,4 +1,4 @@
--- The workers of a station, before their loops and after them.
+-- The workers of a station, before their loops and after them (vocabulary of contracts).
 use Rattle.std.specs.Prelude.{◌≡◌, ℕ, IsTrue, List, Ok, Option, is_ok, map}
 use Rattle.std.specs.List.{AllByRecursion}
 use Rattle.a429_equipment.specs.TableRecord.{TableRecord}

@@ -1,4 +1,4 @@
--- What the workers of a running station do.
+-- What the workers of a running station do (vocabulary of contracts).
 use Rattle.std.specs.Prelude.{◌≡◌, ◌≢◌, ◌<◌, [], ℕ, true, List, Result, Err, OnOk, length, map}
 use Rattle.std.specs.List.{AllByRecursion}
 use mathlib.Core.List.{IsPrefix}

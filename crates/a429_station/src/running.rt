@@ -284,7 +284,8 @@ pub fn live<
     )
 }
 
-/// Runs a station like `live`, by a plan of its equipment that was made before.
+/// Runs a station like `live`, by a plan of its equipment that was made before. The errors are those of `live`, except
+/// that there is no `Plan`.
 pub fn live_planned<
     R: Threads + Wait,
     L: LineSource + Send + Drop,

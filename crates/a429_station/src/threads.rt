@@ -18,6 +18,7 @@ pub trait Work: Send + Drop {
     /// Whether this work can end with this result.
     ghost did: { Self → Self.Done → Type 0 };
 
+    /// Does the work, and gives its result.
     fn work(self) -> Self::Done
         ensures { did self result };
 }
@@ -72,6 +73,7 @@ pub trait Meanwhile<S> {
     /// Whether it and the value can so change; the last argument says whether it ended well.
     ghost did: { Self → S → S → Self → Bool → Type 0 };
 
+    /// Does what the calling thread does to the value while the workers run. Error: an allocation failed.
     fn meanwhile(&mut self, to: &mut S) -> Result<(), AllocError>
         ensures { did self.old to.old to.new self.new (is_ok result) };
 }
@@ -209,8 +211,9 @@ fn run_in_scope<
     )
 }
 
-/// Runs each worker on a thread of its own, all at once, and at the same time the calling thread's own work. If a
-/// thread cannot be started or joined, no worker runs instead. In any case the threads that were started have ended.
+/// Runs each worker on a thread of its own, all at once, and at the same time the calling thread's own work. Error: a
+/// thread could not be started or joined. Then no answer of a worker is given. In any case the threads that were started
+/// have ended.
 pub fn run_at_once<
     R: Threads + Wait,
     W: Work<Done = X>,

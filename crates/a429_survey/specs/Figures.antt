@@ -1,4 +1,4 @@
--- The figures of some words of a recording, oldest first.
+-- The figures of some words of a recording, oldest first (profile: docs/FORMATS.md, Output of `survey`).
 use Rattle.std.specs.Prelude.{ℕ, ◌-◌, ◌*◌, ◌/◌, ◌^◌, List, [], ◌∷◌, Bool, not, fold, if◌then◌else◌, length, map, max, min, nat_lt}
 use Rattle.std.specs.Int.{div_ceil}
 use Rattle.a429_text.specs.Fields.{Field, Number, Tenths, Absent}

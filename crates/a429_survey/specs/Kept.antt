@@ -1,4 +1,4 @@
--- What a survey keeps of the words that were noted.
+-- What a survey keeps of the words that were noted (vocabulary of contracts).
 use Rattle.std.specs.Prelude.{◌≡◌, ℕ, suc, ◌+◌, ◌-◌, ◌*◌, ◌/◌, ◌^◌, ◌==◌, List, [], ◌∷◌, ◌++◌, Bool, true, false, bytes_eq, count_by, filter, flat_map, fold, if◌then◌else◌, length, map, max, min, nat_lt, set, slice_index_or}
 use Rattle.std.specs.Int.{div_ceil}
 use Rattle.std.specs.List.{list_any, range_with_len}

@@ -1,4 +1,4 @@
--- The words that proofs alone read.
+-- The words that proofs alone read (vocabulary of contracts).
 use Rattle.std.specs.Prelude.{List, [], ◌∷◌, ◌++◌, string_bytes}
 use Rattle.a429_survey.specs.declared.past.Past.{Past, Nothing, Then'}
 use Rattle.a429_survey.specs.Figures.{Noted}

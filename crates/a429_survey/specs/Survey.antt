@@ -1,4 +1,4 @@
--- What is on the lines of a recording: the rows of a survey.
+-- What is on the lines of a recording: the rows of a survey (profile: docs/FORMATS.md, Output of `survey`).
 use Rattle.std.specs.Prelude.{ℕ, ◌==◌, ◌&&◌, List, [], ◌∷◌, ◌++◌, bytes_eq, codes, count_by, filter, flat_map, fold, if◌then◌else◌, length, map}
 use Rattle.std.specs.Cmp.Lexicographic.{slice_cmp}
 use Rattle.std.specs.List.{range_with_len}

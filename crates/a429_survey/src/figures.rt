@@ -45,7 +45,7 @@ pub fn place_of(raw: u32) -> usize
 }
 
 impl Figures {
-    /// Those of no word.
+    /// The figures of no word.
     pub fn none() -> Figures
         ensures { result ≡ no_figures }
     {
@@ -86,7 +86,7 @@ impl Figures {
         }
     }
 
-    /// Those after one more word. A count that is 2^64 - 1 stays: a survey has no more words.
+    /// The figures after one more word, with its time. A count that is 2^64 - 1 stays: a survey has no more words.
     pub fn with(&self, time: u64, raw: u32) -> Figures
         ensures { result ≡ figures_with time raw self.now }
     {

@@ -26,7 +26,7 @@ impl Model for Line {
 }
 
 impl Line {
-    /// That of a name with no words. Error: an allocation failed.
+    /// The line of a name, before any word came on it. Error: an allocation failed.
     pub fn new(alloc: Global, name: &str) -> Result<Line, AllocError>
         ensures { IfOk result (λ line. line ≡ line_of name.now []) }
     {

@@ -1,5 +1,5 @@
--- The record of a table says what is written in the document: no value is made up for one that is absent or of another
--- kind.
+-- The record of a table says what is written in the document: no value is made up for one that is absent or of another kind
+-- (profile: equipment table).
 use Rattle.std.specs.Prelude.{codes, ◌≡◌, ℕ, pos, List, [], ◌∷◌, ◌++◌, Option, Some, None, IfSome, slice_get}
 use Rattle.toml.specs.Data.{Data, Items, string, integer, array, get}
 use Rattle.a429_word.specs.Texts.{octal}
@@ -79,6 +79,6 @@ pub record IsAsWritten (root : Data) (t : TableRecord) : Type 0 where
   pub groups : HasRows (codes "group") root (IsGroupOf root t) t.groups
   pub outputs : HasRows (codes "group") root (λ d. HasRows (codes "output") d (IsOutputOf t)) t.outputs
 
--- the bytes are a TOML document, and the record says what is written in it
+-- the bytes are a TOML document, and the record says what is written in it (TOML)
 abbrev pub IsWrittenIn : List ℕ → TableRecord → Type 0
 IsWrittenIn bytes t = (root : Data) × (document bytes ≡ Some root) × IsAsWritten root t

@@ -1,4 +1,4 @@
--- The keys of each table, and the shape of each value.
+-- The keys of each table, and the shape of each value (profile: equipment table).
 use Rattle.std.specs.Prelude.{codes, ℕ, List, [], ◌∷◌, Bool, true, false}
 use Rattle.a429_equipment.specs.declared.version.TableVersion.{TableVersion}
 use Rattle.a429_equipment.specs.declared.version.TableVersion.TheVariants.{One, Two}

@@ -1,4 +1,4 @@
--- The least fault, in the words of kinds and places.
+-- The least fault, in the words of kinds and places (profile: docs/FORMATS.md, Kinds of a table).
 use Rattle.std.specs.Prelude.{◌≡◌, List, ◌∷◌, ◌++◌, true, false}
 use Rattle.std.specs.List.{AllByRecursion}
 use Rattle.toml.specs.Data.{Data}

@@ -1,4 +1,4 @@
--- Names, and the numbers of the tables that they name.
+-- Names, and the numbers of the tables that they name (profile: equipment table).
 use Rattle.std.specs.Prelude.{codes, ℕ, List, Option, Bool, false, nat_lt}
 use Rattle.std.specs.Option.{option_map_or}
 use Rattle.std.specs.List.{position_from}

@@ -1,4 +1,4 @@
--- Maps from names to the numbers of tables.
+-- Maps from names to the numbers of tables (vocabulary of contracts).
 use Rattle.std.specs.Prelude.{◌≡◌, ℕ, List, String, Some, None, if◌then◌else◌}
 use Rattle.std.specs.Option.{option_or}
 use Rattle.std.specs.Str.{bytes_eq}

@@ -1,4 +1,4 @@
--- How faults and places are printed.
+-- How faults and places are printed (profile: docs/FORMATS.md, Kinds of a table).
 use Rattle.std.specs.Prelude.{codes, ℕ, List, ◌++◌}
 use Rattle.std.specs.Fmt.{decimal}
 use Rattle.a429_table.specs.declared.fault.FaultKind.{FaultKind}

@@ -1,4 +1,4 @@
--- What the bytes of an equipment table state: a record, or the least fault.
+-- What the bytes of an equipment table state: a record, or the least fault (profile: equipment table).
 use Rattle.std.specs.Prelude.{◌≡◌, ℕ, true, List, [], ◌∷◌, Option, Some, None, option_map, Result, Ok, Err, if◌then◌else◌}
 use Rattle.std.specs.Str.{is_utf8}
 use Rattle.toml.specs.Data.{Data, table}
@@ -13,7 +13,7 @@ use Rattle.a429_table.specs.Faults.{faults}
 use Rattle.a429_equipment.specs.TableRecord.{TableRecord}
 use Rattle.a429_table.specs.Stated.{stated}
 
--- the root table, if the bytes are UTF-8 and a TOML document
+-- the root table, if the bytes are UTF-8 and a TOML document (TOML)
 unfoldable pub document : List ℕ → Option Data
 document bytes = if is_utf8 bytes then option_map table (parse_document bytes) else None
 

@@ -1,4 +1,4 @@
--- The record that a table without faults states.
+-- The record that a table without faults states (profile: equipment table).
 use Rattle.std.specs.Prelude.{codes, ℕ, ◌^◌, ℤ, pos, negsuc, List, map, Option, Some, None, option_map, unwrap_or, is_none, nat_lt, if◌then◌else◌}
 use Rattle.toml.specs.Data.{Data, get}
 use Rattle.a429_word.specs.Texts.{octal_number}

@@ -121,6 +121,7 @@ fn receiver_row(table: &Value) -> ReceiverRow
     }
 }
 
+/// The row of each receiver of a table, in order: its name and its filters. Error: an allocation failed.
 pub fn receiver_rows(alloc: Global, tables: &[Value]) -> Result<Vec<ReceiverRow>, AllocError>
     requires filters { All (λ d. length (rows_at (codes "filters") (view d)) ≤ 32) tables.now }
     requires names { All (λ d. length (name_of (view d)) ≤ 16) tables.now }
@@ -246,8 +247,8 @@ pub struct WordRows {
     pub outputs: Vec<Vec<OutputRow>>,
 }
 
-/// The rows of the sources and of the outputs of a table. In one with a fault, a value that is missing or wrong is 0, and a
-/// name that is too long is empty.
+/// The rows of the sources and of the outputs of a table. In one with a fault, a value that is missing or wrong is 0, and
+/// a name that is too long is empty. Error: an allocation failed.
 #[tactic(auto, unfolding(crate::specs::Stated::stated))]
 pub fn word_rows(alloc: Global, index: &TableIndex<'_>) -> Result<WordRows, AllocError>
     ensures { IfOk result (AreRowsOf (table_of index.now)) }

@@ -29,7 +29,7 @@ pub fn integer_at(table: &Value, key: &str) -> i64
     }
 }
 
-/// The integer at a key, if there is one.
+/// The integer at a key. `None` if the key is absent or its value is no integer.
 #[tactic(auto, unfolding(crate::specs::Tree::get_integer))]
 pub fn get_integer(table: &Value, key: &str) -> Option<i64>
     ensures { result ≡ get_integer key.now (view table.now) }

@@ -148,7 +148,7 @@ fn is_interval(least: i64, most: i64) -> bool
     is_within(1, 30000000, least) && is_within(1, 30000000, most) && least <= most
 }
 
-/// Whether an interval is out of range, or its minimum is above its maximum.
+/// Whether the interval of an output is wrong: a bound is not 1 to 30,000,000 µs, or its minimum is above its maximum.
 #[tactic(auto, unfolding(crate::specs::Faults::has_bad_interval))]
 pub fn has_bad_interval(stop: &Stop) -> bool
     ensures { result ≡ has_bad_interval stop.now.place (view stop.now.value.now) }

@@ -1,4 +1,4 @@
--- Rows of texts in columns, as people read them.
+-- Rows of texts in columns, as people read them (profile: docs/FORMATS.md, Sheets).
 use Rattle.std.specs.Prelude.{ℕ, ◌+◌, ◌-◌, ◌==◌, ◌||◌, Bool, List, [], ◌∷◌, ◌++◌, codes, count_by, if◌then◌else◌, length, max, map, nat_lt, replicate, slice_index, slice_index_or}
 use Rattle.std.specs.List.{flat_map, fold, range_with_len}
 

@@ -1,4 +1,4 @@
--- Records and a writer of comma-separated lines.
+-- Records and a writer of comma-separated lines (RFC 4180).
 use Rattle.std.specs.Prelude.{◌≡◌, ◌∷◌, ◌++◌, [], ℕ, List, Option, Result, OnOk, false}
 use Rattle.std.specs.Io.KnownBytes.{Appends}
 use Rattle.csv.specs.Records.{Row, fields_of, partial_of}

@@ -1,4 +1,4 @@
--- What a cell of a sheet holds, and how it is written.
+-- What a cell of a sheet holds, and how it is written (profile: docs/FORMATS.md, Sheets).
 use Rattle.std.specs.Prelude.{ℕ, ◌+◌, ◌/◌, ◌%◌, ◌==◌, ◌||◌, List, [], ◌∷◌, ◌++◌, codes, if◌then◌else◌, map, nat_lt}
 use Rattle.std.specs.Fmt.{decimal}
 use Rattle.std.specs.List.{flat_map}

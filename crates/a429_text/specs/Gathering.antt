@@ -1,4 +1,4 @@
--- Items of a list that is gathered.
+-- Items of a list that is gathered (vocabulary of contracts).
 use Rattle.std.specs.Prelude.{List, [], ◌∷◌, ◌++◌, Option, None, Some}
 use Rattle.a429_text.specs.declared.lost.Lost.{Lost, Kept, Then'}
 

@@ -1,4 +1,4 @@
--- Hexadecimal digits, from the last.
+-- Hexadecimal digits, from the last (profile: raw words in texts).
 use Rattle.std.specs.Prelude.{ℕ, zero, suc, List, [], ◌∷◌, ◌++◌, ◌+◌, ◌/◌, ◌%◌, if◌then◌else◌, nat_lt}
 
 -- the digit of a number below 16, in lower case

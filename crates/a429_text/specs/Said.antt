@@ -1,4 +1,4 @@
--- The bytes of a text that proofs alone read whole.
+-- The bytes of a text that proofs alone read whole (vocabulary of contracts).
 use Rattle.std.specs.Prelude.{ℕ, List, [], ◌∷◌, ◌++◌}
 use Rattle.a429_text.specs.declared.said.Said.{Said, Nothing, Then'}
 

@@ -1,4 +1,4 @@
--- Sheets: rows of cells under named columns.
+-- Sheets: rows of cells under named columns (profile: docs/FORMATS.md, Sheets).
 use Rattle.std.specs.Prelude.{ℕ, List, [], Option, None, Some, codes, option_and_then, slice_get}
 use Rattle.std.specs.List.{flat_map}
 use Rattle.csv.specs.Writing.{default_writer, row_text}

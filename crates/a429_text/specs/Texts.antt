@@ -1,4 +1,4 @@
--- What was written of a text.
+-- What was written of a text (vocabulary of contracts).
 use Rattle.std.specs.Prelude.{ℕ, ◌+◌, ◌/◌, ◌%◌, ◌∷◌, [], ◌++◌, List, Option, None, Some, codes}
 use Rattle.std.specs.Fmt.{decimal}
 use Rattle.a429_text.specs.declared.said.Said.{Said}
@@ -15,11 +15,11 @@ filled [] numbers = []
 filled (w ∷ ws) [] = w ++ filled ws []
 filled (w ∷ ws) (n ∷ ns) = w ++ (decimal n ++ filled ws ns)
 
--- a number below 512 in three octal digits
+-- a number below 512 in three octal digits (ARINC 429 Part 1, labels)
 abbrev pub octal : ℕ → List ℕ
 octal value = (48 + value / 64) ∷ (48 + value / 8 % 8) ∷ (48 + value % 8) ∷ []
 
--- a text as a formula of a spreadsheet, whose value is the text
+-- a text as a formula of a spreadsheet, whose value is the text (profile: docs/FORMATS.md, Sheets)
 abbrev pub formula : List ℕ → List ℕ
 formula text = codes "=\"" ++ (text ++ codes "\"")
 

@@ -17,7 +17,8 @@ pub enum Cell<'a> {
     Tenths(u64),
     /// Three octal digits, as labels are written: a text.
     Octal(u8),
-    /// The same as a formula of a spreadsheet, such as `="003"`. Its value is the text, so that a spreadsheet keeps zeros.
+    /// Three octal digits, as labels are written, as a formula of a spreadsheet such as `="003"`. Its value is the text,
+    /// so that a spreadsheet keeps zeros.
     OctalFormula(u8),
     /// There is nothing to say in this column: `-`, as comma-separated values nothing, in JSON `null`.
     Absent,
@@ -106,7 +107,7 @@ impl Row {
         }
     }
 
-    /// Its cells. Error: an allocation failed for one of them.
+    /// The cells of the row. Error: an allocation failed for one of them.
     pub fn cells(&self) -> Result<&[KeptCell], AllocError>
         ensures { IfOk result (λ cells. map kept_field cells.now ≡ self.now) }
     {

@@ -84,7 +84,7 @@ pub fn put_decimal(room: &mut [u8], end: usize, number: u64) -> usize
     write_digits(number, room, end)
 }
 
-/// Appends a line of a short text and a number. If an allocation fails, nothing is appended.
+/// Appends a line of a short text and a number. Error: an allocation failed; then nothing is appended.
 pub fn push_number(text: &mut Vec<u8>, before: &[u8], number: u64) -> Result<(), AllocError>
     requires { length before.now ≤ 32 }
     ensures line { Gains result text.old.items text.new.items (before.now ++ decimal number ++ 10 ∷ []) }
@@ -97,7 +97,7 @@ pub fn push_number(text: &mut Vec<u8>, before: &[u8], number: u64) -> Result<(),
     text.extend_from_slice(&room[at..])
 }
 
-/// Appends a line of a short text and a raw word. If an allocation fails, nothing is appended.
+/// Appends a line of a short text and a raw word. Error: an allocation failed; then nothing is appended.
 #[inline(always)]
 pub fn push_hex(text: &mut Vec<u8>, before: &[u8], raw: u32) -> Result<(), AllocError>
     requires { length before.now ≤ 32 }

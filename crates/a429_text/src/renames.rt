@@ -21,7 +21,7 @@ fn mark_in(text: &[u8]) -> Option<usize>
     None
 }
 
-/// FROM and TO of a text, if it has a `=`.
+/// FROM and TO of a text, which is cut at its last `=`. `None` if it has no `=`.
 #[tactic(auto, unfolding(std::specs::Path::rsplit_once))]
 pub fn halves(text: &[u8]) -> Option<(&[u8], &[u8])>
     ensures { option_map (λ p. (p.0.now, p.1.now)) result ≡ halves text.now }

@@ -29,7 +29,7 @@ fn read_station<R: Abort>(rt: &R, alloc: Global, table: &str) -> Equipment
     equipment
 }
 
-/// Those ends, by the desk of a hub.
+/// The first receiver and the first transmitter, by the desk of a hub.
 fn ends_of<R: Abort, const C: u32>(
     rt: &R,
     alloc: Global,
@@ -49,7 +49,7 @@ fn ends_of<R: Abort, const C: u32>(
     }
 }
 
-/// Those ends of the station of a table, with words counted in C bits.
+/// The first receiver and the first transmitter of the station of a table, with words counted in C bits.
 pub fn open_ends<R: Abort, const C: u32>(rt: &R, alloc: Global, table: &str) -> Ends
     requires { (1 ≤ C) × (C ≤ 41) }
     ensures { result.transmitter.number ≡ 0 }
@@ -64,7 +64,8 @@ pub fn open_ends<R: Abort, const C: u32>(rt: &R, alloc: Global, table: &str) -> 
 }
 
 impl Ends {
-    /// The last accepted word of the first source, with its number among them.
+    /// The word that a load of the first source finds, with its number among those that the source accepted. `None` if it
+    /// finds none.
     pub fn load(&mut self) -> Option<(u64, u32)> {
         let (count, word) = self.transmitter.load_numbered(0)?;
         Some((count, word.raw()))

@@ -29,7 +29,8 @@ output = [
 ]
 "#;
 
-/// The same station, whose group sends both in every slot. Here too a frame has two cells.
+/// Receivers r and q with a source each, of the labels 001 and 002, and a group that sends both in every slot. A frame
+/// has two cells.
 const FAST: &str = r#"version = 1
 rate = 100000
 receiver = [{ name = "r" }, { name = "q" }]

@@ -33,7 +33,8 @@ min_us = 1
 max_us = 360
 "#;
 
-/// The same, whose group sends each of its words twice at most.
+/// One receiver, one source of label 203 and any SDI, and one group that sends it in every slot, each of its words twice
+/// at most.
 pub const HELD: &str = r#"version = 2
 [[receiver]]
 name = "r"
@@ -84,7 +85,8 @@ output = [
 ]
 "#;
 
-/// The same station, whose group sends b twice as often. A frame has four slots of two buses.
+/// One receiver with sources a, b and c of the labels 001, 002 and 003, and one group. It sends b twice as often as the
+/// group of `THREE`. A frame has four slots of two buses.
 pub const THREE_FASTER: &str = r#"version = 1
 rate = 100000
 receiver = [{ name = "r" }]

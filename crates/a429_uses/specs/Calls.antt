@@ -1,4 +1,4 @@
--- What the calls without threads answer.
+-- What the calls without threads answer (vocabulary of contracts).
 use Rattle.std.specs.Prelude.{◌≡◌, ℕ, List, Some}
 use Rattle.a429_line.specs.declared.found.Symbol.{Symbol}
 use Rattle.a429_line.specs.Slots.{slot}

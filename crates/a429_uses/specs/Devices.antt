@@ -1,4 +1,4 @@
--- What the two devices read and print.
+-- What the two devices read and print (vocabulary of contracts).
 use Rattle.std.specs.Prelude.{◌≡◌, ⊤, ◌++◌, ◌∷◌, [], ℕ, List, Option, Some, None, Result, Ok, Err, zero, suc, codes, flat_map}
 use Rattle.std.specs.List.{AllByRecursion}
 use Rattle.std.specs.Fmt.{decimal}

@@ -1,4 +1,4 @@
--- The items of a history.
+-- The items of a history (vocabulary of contracts).
 use Rattle.std.specs.Prelude.{List, [], ◌∷◌, ◌++◌}
 use Rattle.a429_uses.specs.declared.history.History.{History, Nothing, Then'}
 

@@ -1,4 +1,4 @@
--- What a receiver does with a line of any length.
+-- What a receiver does with a line of any length (vocabulary of contracts).
 use Rattle.std.specs.Prelude.{◌≡◌, ◌+◌, ◌-◌, ◌^◌, ◌++◌, ◌∷◌, [], ◌⊎◌, ℕ, Bool, true, false, List, Result, Ok, Err, length, count_by, min, if◌then◌else◌}
 use Rattle.a429_filter.specs.declared.sources.LineSource as LineSource
 use Rattle.a429_filter.specs.declared.sources.SourceFault.{SourceFault}

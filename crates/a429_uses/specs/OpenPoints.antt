@@ -1,4 +1,4 @@
--- A station whose threads are started for it, with a gate that ends no loop.
+-- A station whose threads are started for it, with a gate that ends no loop (vocabulary of contracts).
 use Rattle.std.specs.Prelude.{⊤}
 use Rattle.a429_workers.specs.Gates.{GatePoints}
 

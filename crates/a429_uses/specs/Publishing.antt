@@ -1,4 +1,4 @@
--- A station with the planner of its board.
+-- A station with the planner of its board (vocabulary of contracts).
 use Rattle.std.specs.Prelude.{ℕ, List}
 use Rattle.a429_equipment.specs.TableRecord.{TableRecord}
 use Rattle.a429_board.specs.Lists.{Planning}

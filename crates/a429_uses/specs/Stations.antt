@@ -1,4 +1,4 @@
--- A station of one receiver and one group: its ends, what its threads did, and the origin of the words that it sent.
+-- A station of one receiver and one group: its ends, what its threads did, and the origin of the words that it sent (vocabulary of contracts).
 use Rattle.std.specs.Prelude.{◌≡◌, ℕ, List, [], Option, Some, Contains, IsTrue, length, slice_get}
 use Rattle.std.specs.List.{AllByRecursion}
 use Rattle.a429_equipment.specs.Arrivals.{accepts}

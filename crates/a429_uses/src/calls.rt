@@ -31,8 +31,8 @@ pub fn plan_table(alloc: Global, table: &[u8]) -> Option<Proposal<OUTPUTS>>
     Proposal::of(alloc, equipment).ok()
 }
 
-/// What a station answers to these events, one after another, from slot 0 on. Refused if the slots of its first frames
-/// cannot be counted, or memory for the answers is refused.
+/// What a station answers to these events, one after another, from slot 0 on. Errors: the slots of its first frames
+/// cannot be counted, or an allocation fails.
 pub fn simulate(
     alloc: Global,
     proposal: Proposal<OUTPUTS>,

@@ -60,7 +60,7 @@ pub struct PublishControl<'a> {
 }
 
 impl<'a> PublishControl<'a> {
-    /// Publishes the plan of its table by `publish`.
+    /// Publishes the plan of its table by `publish`. Error: that of `publish`; then no plan is published.
     pub fn run<R: Wait>(
         &self,
         rt: &R,

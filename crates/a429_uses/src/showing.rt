@@ -94,7 +94,8 @@ fn show_slot<R: Print + AllocGlobal>(rt: &R) -> anyhow::Result<()> {
     Ok(())
 }
 
-/// Prints what the calls without threads answer for a table.
+/// Prints what the calls without threads answer for a table. Error: the table has a fault or no plan, an allocation
+/// failed, or standard output failed.
 pub fn show_alone<R: Print + AllocGlobal>(rt: &R, table: &[u8]) -> anyhow::Result<()> {
     show_slot(rt)?;
     let Some(proposal) = plan_table(rt.alloc(), table) else {
@@ -120,7 +121,8 @@ fn show_cells<R: Print>(rt: &R, groups: &[SendTotals]) -> io::Result<()> {
     Ok(())
 }
 
-/// Prints what a station did whose threads were started for it: one word came in, and one frame went out.
+/// Prints what a station did whose threads were started for it: one word came in, and one frame went out. Error: the
+/// station did not run to its end, an allocation failed, or standard output failed.
 pub fn show_started<R: Print + AllocGlobal + Threads + Wait>(
     rt: &R,
     equipment: &Equipment,
@@ -155,7 +157,8 @@ fn show_sent<R: Print>(rt: &R, sent: SendTotals) -> io::Result<()> {
     println!(rt; "cells {cells} words {words} plan {plan}")
 }
 
-/// Prints what the threads of a station answered. The error is that of a thread.
+/// Prints what the threads of a station answered. Error: that of the receiver, otherwise that of the group, or standard
+/// output failed.
 pub fn show_answers<R: Print>(rt: &R, done: StationAnswers) -> anyhow::Result<()> {
     let StationAnswers {
         heard,

@@ -250,9 +250,9 @@ pub fn run_station<
 }
 
 /// Runs a station by `run_station`, whose words come in as text and go out as text. As long as its writer did not fail,
-/// what the bus printed is the lines of cells. Each word in them is one that a source of the table accepts, and that
-/// the line gave. It says so of writers that say what they took, such as a `Vec<u8>`. No clause covers what becomes of
-/// a text on standard output.
+/// what the bus printed is the lines of cells. Each word in them is one that a source of the table accepts, and that the
+/// line gave. It says so of writers that say what they took, such as a `Vec<u8>`. No clause covers what becomes of a text
+/// on standard output. Error: that of `run_station`.
 pub fn run_printing<
     R: Threads + Wait + Sync,
     I: BufRead + Send + Drop,

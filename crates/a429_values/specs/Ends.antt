@@ -1,4 +1,4 @@
--- What contracts see of a hub and its ends.
+-- What contracts see of a hub and its ends (vocabulary of contracts).
 use Rattle.std.specs.Prelude.{◌≡◌, ◌<◌, ◌^◌, ◌∷◌, ◌++◌, ℕ, List, [], length, slice_index, Result, Ok, Err, true, false, if◌then◌else◌, nat_lt}
 use Rattle.a429_equipment.specs.Limits.{count_bits}
 use Rattle.atomic_table.specs.Seated.{TableId}

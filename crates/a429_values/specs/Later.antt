@@ -1,4 +1,4 @@
--- What a meeting leaves for later.
+-- What a meeting leaves for later (vocabulary of contracts).
 use Rattle.std.specs.Prelude.{◌≢◌, ◌≤◌, ℕ, List, ◌++◌, length}
 use Rattle.a429_equipment.specs.declared.loads.Load.{Load}
 use Rattle.a429_equipment.specs.TableRecord.{TableRecord}

@@ -1,4 +1,4 @@
--- The rule of the table: what is true of its words and of all views between any two steps. A view is that of a desk, a
+-- The rule of the table: what is true of its words and of all views between any two steps (vocabulary of contracts). A view is that of a desk, a
 -- receiver, a transmitter, a receiver and transmitter in one, or of a spent seat.
 use Rattle.std.specs.Prelude.{◌≡◌, ◌==◌, ◌↔◌, ℕ, ◌≤◌, List, [], length, slice_get, slice_index, is_some, Option, None, Some, true, false}
 use Rattle.std.specs.List.{list_any}

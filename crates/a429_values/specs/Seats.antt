@@ -1,4 +1,4 @@
--- Seats at a table.
+-- Seats at a table (vocabulary of contracts).
 use Rattle.std.specs.Prelude.{◌≡◌, ◌<◌, ℕ, [], length}
 use Rattle.atomic_table.specs.Seated.{TableId}
 use Rattle.atomic_table.specs.declared.shared.Seat.{Seat}

@@ -1,4 +1,4 @@
--- What a seat of the table knows, by what it is.
+-- What a seat of the table knows, by what it is (vocabulary of contracts).
 use Rattle.std.specs.Prelude.{None, ◌≡◌, ◌==◌, ◌+◌, ◌^◌, ◌<◌, ℕ, [], ◌∷◌, ◌++◌, Some, length, slice_get, true, false}
 use Rattle.std.specs.List.{list_any}
 use Rattle.a429_equipment.specs.Limits.{count_bits}
@@ -83,7 +83,7 @@ CanMeet v w = (v.transmits ≡ true) × (v.receives ≡ false) × (w.receives �
 abbrev pub ReceivesFor : View → TableRecord → Type 0
 ReceivesFor v t = (v.receives ≡ true) × (v.station ≡ t)
 
--- the next word that the source accepts is its `count`th, and 41 bits can count it
+-- the next word that the source accepts is its `count`th, and 41 bits can count it (profile: docs/RULES.md, Limits)
 abbrev pub IsNextCount : View → ℕ → ℕ → Type 0
 IsNextCount v source count = (count ≡ length (words_of source v.accepted) + 1) × (count < 2 ^ count_bits)
 

@@ -1,4 +1,4 @@
--- What all ends of a hub have in common.
+-- What all ends of a hub have in common (vocabulary of contracts).
 use Rattle.a429_values.specs.declared.wired.Wired.{Wired}
 use Rattle.a429_values.specs.Ends.{Place}
 

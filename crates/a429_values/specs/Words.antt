@@ -1,4 +1,5 @@
--- The one number that the table holds for a source: how many words it accepted, and bits 9 to 31 of the last of them.
+-- The one number that the table holds for a source: how many words it accepted, and bits 9 to 31 of the last of them
+-- (profile: docs/RULES.md, Limits).
 use Rattle.std.specs.Prelude.{◌≡◌, ◌+◌, ◌*◌, ◌<◌, ◌^◌, ℕ, Option, Some, None, IsTrue}
 use Rattle.a429_word.specs.Bits.{has_odd_parity, label_of, number_from}
 use Rattle.a429_equipment.specs.declared.loads.Load.{Load}

@@ -109,8 +109,8 @@ fn store(shared_words: &SharedWords, seat: &mut HubSeat, source: usize, count: u
 }
 
 impl Receiver {
-    /// Its number. Each word of its list is of 32 bits and one that its source accepts, and of the words of
-    /// the list it accepts all: no source has more of them than the limit.
+    /// The number of the receiver. Each word of its list is of 32 bits and one that its source accepts, and of the words
+    /// of the list it accepts all: no source has more of them than the limit.
     pub fn number(&self) -> usize
         ensures number { result ≡ self.now.number }
         ensures valid { AreAccepted self.now.at.station self.now.number self.now.accepted }

@@ -89,9 +89,10 @@ impl Transmitter {
         self.wired.equipment.sources().len()
     }
 
-    /// The last accepted word of the source, with its number among the source's accepted words, counted from 1, by one
-    /// load; `None` if no word was accepted. That number is at least that of any earlier load of the source. The call
-    /// allocates no memory and waits for nobody.
+    /// The accepted word that one load of the source finds, with its number among the source's accepted words, counted
+    /// from 1; `None` if it finds none. That number is at least that of any earlier load of the source by this
+    /// transmitter. No clause promises that it is the last accepted word before a `meet` with the receiver; up to then
+    /// this is only tested. The call allocates no memory and waits for nobody.
     pub fn load_numbered(&mut self, source: usize) -> Option<(u64, Word)>
         requires { source < length self.old.at.station.sources }
         ensures load { self.new ≡ with_loads self.old (load_of source result ∷ []) }
@@ -102,9 +103,9 @@ impl Transmitter {
         word_in(label, load_step(&wired.shared_words, seat, source))
     }
 
-    /// The word that one load of the source finds, like `load_numbered`; `None` if it finds no accepted word. It
-    /// was accepted no earlier than that of any earlier load of the source. The call allocates no memory and waits for
-    /// nobody.
+    /// The word that one load of the source finds, like `load_numbered`; `None` if it finds no accepted word. It was
+    /// accepted no earlier than that of any earlier load of the source by this transmitter. The call allocates no memory
+    /// and waits for nobody.
     pub fn load(&mut self, source: usize) -> Option<Word>
         requires { source < length self.old.at.station.sources }
         ensures load { (count : ℕ) × (self.new ≡ with_loads self.old (record { source = source; count = count; word = result } ∷ [])) }

@@ -1,4 +1,4 @@
--- What a call writes at the end of a text or of a list.
+-- What a call writes at the end of a text or of a list (vocabulary of contracts).
 use Rattle.std.specs.Prelude.{◌≡◌, ◌++◌, ℕ, List, Result, String, OnOk, string_bytes}
 
 -- if the call succeeds, these bytes are added at the end of the text

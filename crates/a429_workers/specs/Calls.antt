@@ -1,5 +1,5 @@
--- What a group's transmitter is asked for and answers, call by call, and when that is lawful: in the words in which the answers of the machine
--- are defined, with what was loaded in the place of what was accepted.
+-- What a group's transmitter is asked for and answers, call by call, and when that is lawful: in the words in which the answers of the machine are
+-- defined, with what was loaded in the place of what was accepted (vocabulary of contracts).
 use Rattle.std.specs.Prelude.{◌≡◌, ◌+◌, ◌++◌, ◌∷◌, [], ⊤, ℕ, List, Option, Some, None, slice_get, unwrap_or, flat_map, if◌then◌else◌, nat_lt, option_map, option_and_then, option_to_list}
 use Rattle.std.specs.Option.{option_map_or}
 use mathlib.Core.List.{IsPrefix}

@@ -1,5 +1,5 @@
--- An example of one run: a transmitter sends the word of its only source once and holds it back from then on, also after a change of plan, until
--- the source has another.
+-- An example of one run (vocabulary of contracts). A transmitter sends the word of its only source once, and holds it back from then on until the
+-- source has another, also after a change of plan.
 use Rattle.std.specs.Prelude.{◌∷◌, [], ℕ, zero, suc, List, Option, Some, None}
 use Rattle.a429_equipment.specs.declared.loads.Load.{Load}
 use Rattle.a429_equipment.specs.declared.rows.SourceRow.{SourceRow}

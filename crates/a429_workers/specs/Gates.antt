@@ -1,4 +1,5 @@
--- What the loops of receivers and groups do at their gate: the points that they pass, in order, and the one at which it ended them.
+-- What the loops of receivers and groups do at their gate: the points that they pass, in order, and the one at which it ended them
+-- (vocabulary of contracts).
 use Rattle.std.specs.Prelude.{◌≡◌, ◌+◌, ◌<◌, ◌⊎◌, ◌∷◌, [], ◌++◌, ⊤, ℕ, List, Result, Ok, Err, length, take}
 use Rattle.a429_values.specs.Ends.{ReceiverEnd, accept_answer}
 use Rattle.a429_values.specs.declared.receiver.Accept.{Accept}

@@ -1,4 +1,4 @@
--- What lists of calls with one call more are.
+-- What lists of calls with one call more are (vocabulary of contracts).
 use Rattle.std.specs.Prelude.{◌≡◌, ◌++◌, ◌∷◌, [], ℕ, List}
 use Rattle.a429_slots.specs.Tables.{SlotTable}
 use Rattle.a429_workers.specs.Calls.{Call, GroupState, IsLawful, AreLawful, after, state_after, loads_in, loads_of}

@@ -1,4 +1,4 @@
--- What a receiver does with the raw words that a line gave, one after another.
+-- What a receiver does with the raw words that a line gave, one after another (vocabulary of contracts).
 use Rattle.std.specs.Prelude.{◌≡◌, ◌≤◌, ◌+◌, ◌∷◌, [], ◌++◌, ℕ, Bool, true, false, List, Option, Result, Ok, Err, length, take, count_by, option_map}
 use Rattle.a429_equipment.specs.Receiving.{accepted_after}
 use Rattle.a429_values.specs.Ends.{ReceiverEnd, accept_answer}
@@ -89,7 +89,8 @@ pub record Gives {L : Type 0} (given : L → List ℕ) (left : L → Option (Lis
   pub gave : given after ≡ given before ++ words
   pub kept : left before ≡ option_map (λ more. words ++ more) (left after)
 
--- The line gave a million words and then this one: the receiver took the million, which the totals count, and the last word is handed back.
+-- The line gave a million words and then this one: the receiver took the million, which the totals count, and the last word is handed back
+-- (profile: docs/RULES.md, Limits).
 pub record IsHandedBack (given : List ℕ) (raw : ℕ) (totals : ReceiveTotals) (old new : ReceiverEnd) : Type 0 where
   pub words : List ℕ
   pub million : length words ≡ 1000000

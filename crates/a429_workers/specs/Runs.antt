@@ -1,4 +1,4 @@
--- One run: the events of a station whose cells and frames the machine answers as a group's transmitter did.
+-- One run: the events of a station whose cells and frames the machine answers as a group's transmitter did (vocabulary of contracts).
 use Rattle.std.specs.Prelude.{◌≡◌, ◌+◌, ◌==◌, ◌<◌, ◌≤◌, ◌-◌, ◌^◌, ◌∷◌, [], ℕ, Bool, true, false, List, Option, Some, None, IsTrue, map, filter, filter_map, length, slice_get, take}
 use Rattle.std.specs.List.{AllByRecursion, zip}
 use mathlib.Core.List.{IsPrefix}

@@ -1,4 +1,4 @@
--- What a group's transmitter sent in a stretch of calls, and what its sink took.
+-- What a group's transmitter sent in a stretch of calls, and what its sink took (vocabulary of contracts).
 use Rattle.std.specs.Prelude.{◌≡◌, ◌+◌, ◌<◌, ◌++◌, ◌∷◌, [], ◌⊎◌, ℕ, zero, suc, Bool, true, false, List, Option, Some, None, Result, Ok, Err, IsTrue, is_some, length, count_by, filter_map, option_map}
 use Rattle.std.specs.List.{AllByRecursion}
 use Rattle.a429_slots.specs.Tables.{PlanTable, cells_of}

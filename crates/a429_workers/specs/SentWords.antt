@@ -1,5 +1,5 @@
--- The words that a transmitter sends, by the places of its calls: how far apart they are, and how often one accepted word is sent. A place is
--- how many calls come before it.
+-- The words that a transmitter sends, by the places of its calls: how far apart they are, and how often one accepted word is sent
+-- (profile: docs/RULES.md, Sending). A place is how many calls come before it.
 use Rattle.std.specs.Prelude.{◌≡◌, ◌+◌, ◌<◌, ◌≤◌, [], ℕ, true, List, Option, Some, None, take, slice_get, flat_map, option_and_then}
 use Rattle.std.specs.List.{AllByRecursion}
 use Rattle.a429_equipment.specs.declared.loads.Load.{Load}

@@ -1,4 +1,4 @@
--- What a sink of a bus took.
+-- What a sink of a bus took (vocabulary of contracts).
 use Rattle.std.specs.Prelude.{ℕ, List, [], ◌∷◌, Result, Ok, Err, ◌+◌, ◌-◌, ◌^◌, min}
 use Rattle.a429_workers.specs.declared.cells.Sent.{Sent}
 

@@ -1,4 +1,4 @@
--- A group's transmitter as contracts see it, and the lists of calls that it stands for.
+-- A group's transmitter as contracts see it, and the lists of calls that it stands for (vocabulary of contracts).
 use Rattle.std.specs.Prelude.{◌≡◌, ◌+◌, ◌/◌, ◌^◌, ◌<◌, ◌≤◌, ◌↔◌, ◌++◌, ◌∷◌, [], ℕ, Bool, false, List, Option, Some, None, Result, Ok, Err, IsErrOf, OnOk, if◌then◌else◌, nat_lt, length, drop, option_map, slice_get}
 use Rattle.std.specs.Option.{option_map_or}
 use Rattle.std.specs.List.{AllByRecursion}

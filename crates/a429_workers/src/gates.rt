@@ -44,8 +44,8 @@ pub trait Gate {
     /// this only by giving it these.
     ghost told: { Self → Answer → Totals → Type 0 } = { λ _ _ _. ⊤ };
 
-    /// Lets the loop at this point go on, or ends it. The loop shows what it works on, as it is then: its receiver at
-    /// the points of a word, its sink at those of a cell.
+    /// Lets the loop at this point go on. Error: the gate ends the loop here. The loop shows what it works on, as it is
+    /// then: its receiver at the points of a word, its sink at those of a cell.
     fn pass<S>(&self, point: Point, shown: &S) -> Result<(), GateFault>
         ensures passed { OnOk result (passes self.now point) }
         ensures shut { OnErr result (shuts self.now point) }

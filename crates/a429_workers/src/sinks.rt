@@ -24,7 +24,7 @@ pub trait BusSink {
     /// How many of its calls answered a fault, as far as 64 bits count.
     ghost failed: { Self → ℕ };
 
-    /// Takes the next cell. A call that answers a fault takes nothing.
+    /// Takes the next cell. Error: the sink failed; then it takes nothing.
     fn put(&mut self, sent: &Sent) -> Result<(), SinkFault>
         ensures taken { taken self.new ≡ option_map (λ cells. cells ++ taken_by sent.now result) (taken self.old) }
         ensures counted { counted self.new ≡ option_map (λ n. counted_by n result) (counted self.old) }

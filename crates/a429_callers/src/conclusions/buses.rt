@@ -7,8 +7,8 @@ use a429_equipment::Equipment;
 use a429_slots::{OUTPUTS, plan};
 use std::alloc::Global;
 
-/// The number of buses of a group in its plan, if there is one. No schedule in which each of its outputs recurs within
-/// its grid period has fewer.
+/// The number of buses of a group in its plan. No schedule in which each of its outputs recurs within its grid period has
+/// fewer. `None` if the equipment has no plan or no group of this number, or if an allocation fails.
 pub fn buses_of(alloc: Global, equipment: &Equipment, group: usize) -> Option<u32>
     requires { HaveRoom 128 equipment.now.outputs }
     ensures { IfSome result (AreFewestOfGroup equipment.now group) }

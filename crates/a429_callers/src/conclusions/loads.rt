@@ -24,7 +24,8 @@ pub fn load_between_meetings(
     word
 }
 
-/// Loads a source by two transmitters, each of which meets its receiver: both load the same word.
+/// Loads a source by two transmitters, each of which meets its receiver. Both load the same word, or both answer `None`
+/// since the source has no accepted word.
 pub fn loads_of_both(
     first: &mut Transmitter,
     second: &mut Transmitter,

@@ -7,8 +7,8 @@ use a429_slots::Proposal;
 use a429_table::read_equipment;
 use std::alloc::Global;
 
-/// What the check of the text of a table's own plan answers, if there is a plan: that it shows the fewest buses, or
-/// that an allocation failed.
+/// What the check of the text of a table's own plan answers: that it shows the fewest buses. Error: an allocation failed.
+/// `None` if the table has a fault or no plan, or if there was no memory for its plan or text.
 pub fn own_text_checked(alloc: Global, table: &[u8]) -> Option<Result<Verdict, CheckFault>>
     ensures { IfSome result (λ r. (r ≡ Ok Verdict.Fewest) ⊎ (r ≡ Err CheckFault.NoMemory)) }
 {

@@ -7,8 +7,8 @@ use a429_core::{Answer, Event, StationState};
 use a429_slots::{OUTPUTS, Proposal};
 use std::alloc::{AllocError, Global};
 
-/// A word comes in at a receiver, and then a group's first cell is sent. If the word was refused, the answer to the
-/// cell is the same as if nothing had come in.
+/// A word comes in at a receiver and is refused, and then a group's first cell is sent: the answer to the cell is as if
+/// nothing had come in. It is never an error. `None` if no station was opened, or if the word was not refused.
 pub fn cell_after_refusal(
     alloc: Global,
     proposal: Proposal<OUTPUTS>,

@@ -14,12 +14,13 @@ use std::alloc::Global;
 use std::sync::Wait;
 use std::thread::Threads;
 
-/// Runs a station with a control. Each word that a sink took is one that the line of the receiver of a source gave, and
-/// that the source accepts. It belongs to the source of the output in its cell, by the plan that is in force there: it
-/// has the source's label and SDI, and came in at its receiver in this run. What each group was asked for, the words
-/// that came in and the plans that were published are one run of the machine. In this run each word that the group
-/// sends is the latest that was accepted before for its source. An output may have stayed for a period. Then a word
-/// that its group knows of has gone out, it or a later one of its source, before one period of the output has passed.
+/// Runs a station with a control. `None` if the run has an error of `live`. Each word that a sink took is one that the
+/// line of the receiver of a source gave, and that the source accepts. It belongs to the source of the output in its
+/// cell, by the plan that is in force there: it has the source's label and SDI, and came in at its receiver in this run.
+/// What each group was asked for, the words that came in and the plans that were published are one run of the machine. In
+/// this run each word that the group sends is the latest that was accepted before for its source. An output may have
+/// stayed for a period. Then a word that its group knows of has gone out, it or a later one of its source, before one
+/// period of the output has passed.
 pub fn run_station<
     R: Threads + Wait,
     L: LineSource + Send + Drop,

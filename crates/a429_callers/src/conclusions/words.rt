@@ -6,9 +6,9 @@ use a429_core::{Answer, Event, StationState};
 use a429_slots::{OUTPUTS, Proposal};
 use std::alloc::Global;
 
-/// Two words come in at a receiver, and then the first group's first cell is sent. If both were accepted and the cell
-/// has a word, the answer has the source of each of them, and the word that was sent. If they are of one source, that
-/// is the second one.
+/// Two words come in at a receiver, and then the first group's first cell is sent. If both were accepted and the cell has
+/// a word, the answer has the source of each of them, and the word that was sent. If they are of one source, that is the
+/// second one. `None` if no station was opened, if a word was not accepted, or if the cell is empty.
 pub fn latest_of_two(
     alloc: Global,
     proposal: Proposal<OUTPUTS>,

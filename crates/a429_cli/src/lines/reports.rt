@@ -13,7 +13,7 @@ use a429_text::from_end::{push_hex, push_number};
 use a429_word::Word;
 use std::alloc::AllocError;
 
-/// Appends the line of a report. If an allocation fails, nothing is appended.
+/// Appends the line of a report. Error: an allocation failed; then nothing is appended.
 pub fn push_found(text: &mut Vec<u8>, found: Found) -> Result<(), AllocError>
     ensures line { Gains result text.old.items text.new.items (found_line found) }
     ensures kept { OnErr result (text.new.items ≡ text.old.items) }
@@ -58,8 +58,8 @@ fn push_report(lines: &mut Vec<u8>, filters: &FilterSet, found: Found) -> Result
     }
 }
 
-/// Appends what is printed of a report. The lines are put out when they have become many, and those that are left are
-/// in `lines`. The result is whether memory sufficed; if it did not, nothing is appended.
+/// Appends what is printed of a report. The lines are put out when they have become many, and those that are left are in
+/// `lines`. The result is whether memory sufficed; if it did not, nothing is appended. Error: the output failed.
 pub fn print_report<O: Output>(
     filters: &FilterSet,
     found: Found,
@@ -77,8 +77,8 @@ pub fn print_report<O: Output>(
     Ok(true)
 }
 
-/// Appends the line of a rest of this number of bits, unless there is no rest, or there is a list of filters. If an
-/// allocation fails, nothing is appended.
+/// Appends the line of a rest of this number of bits, unless there is no rest, or there is a list of filters. Error: an
+/// allocation failed; then nothing is appended.
 pub fn push_rest(lines: &mut Vec<u8>, filters: &FilterSet, rest: u32) -> Result<(), AllocError>
     ensures line { OnOk result (lines.new.items ≡ lines.old.items ++ rest_line filters.now rest) }
     ensures kept { OnErr result (lines.new.items ≡ lines.old.items) }

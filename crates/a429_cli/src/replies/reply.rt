@@ -27,7 +27,7 @@ impl Reply {
         }
     }
 
-    /// The same, if it leaves this for a hint.
+    /// This reply, and what was found for a hint.
     pub fn with(self, found: Found) -> Reply
         ensures bytes { result.bytes ≡ self.bytes }
         ensures status { result.status ≡ self.status }

@@ -17,7 +17,7 @@ pub trait LineForm {
     /// What is true of all that a line can state.
     ghost fits: { Self → Self.Entry → Type 0 };
 
-    /// What a line states, which is given without its line feed.
+    /// What a line states, which is given without its line feed. `None` if the line is faulty.
     fn entry(&self, line: &[u8]) -> Option<Self::Entry>
         ensures stated { result ≡ states self.now line.now }
         ensures fits { IfSome result (fits self.now) };

@@ -16,7 +16,7 @@ pub(crate) fn printable_char(c: char) -> char
     if c.is_control() { '?' } else { c }
 }
 
-/// A name as a refusal prints it, in one line.
+/// A name as a refusal prints it, in one line. Error: an allocation failed.
 #[tactic(auto, unfolding(crate::specs::FileReadings::printable_name))]
 pub fn printable_name(alloc: Global, name: &str) -> Result<String, AllocError>
     ensures { IfOk result (λ shown. string_bytes shown ≡ printable_name name.now) }
@@ -85,7 +85,8 @@ fn read_all_up_to<F: FileReader>(
     Ok(all)
 }
 
-/// The bytes of several files, at most 16 MiB each. Error: that of the first file that has one.
+/// The bytes of several files, at most 16 MiB each. Error: the first file that cannot be read or is larger, or an
+/// allocation failed.
 pub fn read_files<F: FileReader>(
     alloc: Global,
     files: &mut F,
@@ -110,7 +111,8 @@ fn log_names<'a>(
     Ok(names)
 }
 
-/// The bytes of a log and of those that follow it, at most 1 GiB each. Error: that of the first that has one.
+/// The bytes of a log and of those that follow it, at most 1 GiB each. Error: the first log that cannot be read or is
+/// larger, or an allocation failed.
 pub fn read_logs<'a, F: FileReader>(
     alloc: Global,
     files: &mut F,

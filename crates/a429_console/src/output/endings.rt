@@ -42,7 +42,7 @@ pub fn put_answer<O: Output>(text: &[u8], status: u8, out: &mut O) -> Result<u8,
     Ok(status)
 }
 
-/// Puts the line that says that an allocation failed. The status is this one.
+/// Puts the line that says that an allocation failed. The status is this one. Error: the output failed.
 pub fn refuse_memory_as<O: Output>(status: u8, out: &mut O) -> Result<u8, OutputFault>
     ensures status { IfOk result (λ answered. answered ≡ status) }
     ensures line { OnOk result (Appends (O.contents out.old) (O.contents out.new) (memory_refused ++ 10 ∷ [])) }
@@ -52,7 +52,7 @@ pub fn refuse_memory_as<O: Output>(status: u8, out: &mut O) -> Result<u8, Output
     put_answer(REFUSED_MEMORY_LINE.as_bytes(), status, out)
 }
 
-/// Puts the line that says that an allocation failed. The status is 1.
+/// Puts the line that says that an allocation failed. The status is 1. Error: the output failed.
 pub fn refuse_memory<O: Output>(out: &mut O) -> Result<u8, OutputFault>
     ensures status { IfOk result (λ status. status ≡ 1) }
     ensures line { OnOk result (Appends (O.contents out.old) (O.contents out.new) (memory_refused ++ 10 ∷ [])) }
@@ -63,7 +63,7 @@ pub fn refuse_memory<O: Output>(out: &mut O) -> Result<u8, OutputFault>
 }
 
 /// Puts the lines that are left, and after them, if memory did not suffice for all, the one that says so. The status is
-/// 0, or 1 if memory did not suffice.
+/// 0, or 1 if memory did not suffice. Error: the output failed.
 pub fn finish<O: Output>(left: &[u8], sufficed: bool, out: &mut O) -> Result<u8, OutputFault>
     ensures status { IfOk result (λ status. status ≡ status_of sufficed) }
     ensures put { OnOk result (Appends (O.contents out.old) (O.contents out.new) (left.now ++ ending sufficed)) }

@@ -49,7 +49,7 @@ impl Evidence {
         }
     }
 
-    /// A refused line of a script or of a file of words. `None`: an allocation failed.
+    /// A refused line of a script or of a file of words; nothing if `line` is `None`, since an allocation failed.
     pub fn of_line(line: Option<LineEvidence>) -> Evidence {
         match line {
             Some(line) => Evidence::Line(line),
@@ -65,7 +65,7 @@ impl Evidence {
         }
     }
 
-    /// A refused line of a log. `None`: an allocation failed.
+    /// A refused line of a log; nothing if `line` is `None`, since an allocation failed.
     pub fn of_log(line: Option<LineEvidence>, log: LogEvidence) -> Evidence {
         match line {
             Some(line) => Evidence::Log { line, log },
@@ -73,7 +73,7 @@ impl Evidence {
         }
     }
 
-    /// The same of the second of two tables.
+    /// This evidence, as that of the second of two tables if it is of a table.
     pub fn of_second_table(self) -> Evidence {
         match self {
             Evidence::Table { table, .. } => Evidence::Table {
@@ -84,7 +84,7 @@ impl Evidence {
         }
     }
 
-    /// The same, with this plan if it is nothing.
+    /// This evidence, or this plan if there is none.
     pub fn or_plan(self, proposal: Proposal<OUTPUTS>) -> Evidence {
         match self {
             Evidence::Nothing => Evidence::Proposal(proposal),
@@ -92,7 +92,7 @@ impl Evidence {
         }
     }
 
-    /// The same of a log after this number of other logs.
+    /// This evidence; if it is of a log, then of one that comes after this number of other logs.
     pub fn after_logs(self, before: usize) -> Evidence {
         match self {
             Evidence::Log { line, log } => Evidence::Log {
@@ -234,7 +234,7 @@ pub enum TableLook {
 }
 
 impl TableLook {
-    /// By the first words of the text, or its last line.
+    /// What a refused text looks like, by its first words or its last line.
     pub fn of(text: &[u8]) -> TableLook {
         if text.starts_with(b"plan ") {
             TableLook::PlanText

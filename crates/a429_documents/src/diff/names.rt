@@ -48,7 +48,7 @@ pub fn number_named<T: Named>(list: &[T], name: &str) -> Option<usize>
     list.iter().position(|item| item.name() == name)
 }
 
-/// The same number, as rows write it.
+/// The number of the row with this name, as rows write it. `None` if there is none.
 fn place_of<T: Named>(list: &[T], name: &str) -> Option<u64>
     ensures { result ≡ number_named T.name_of list.now name.now }
 {

@@ -98,7 +98,7 @@ pub fn same_number(first: Option<u64>, second: Option<u64>) -> bool
     }
 }
 
-/// A number, as rows write it.
+/// A number of 32 bits, as rows write it; `None` stays `None`.
 pub fn wide(number: Option<u32>) -> Option<u64>
     ensures { result ≡ number }
 {

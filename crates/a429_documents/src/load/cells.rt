@@ -17,7 +17,7 @@ pub fn cells_on(table: &GroupPlan<OUTPUTS>, bus: u32) -> u32
     cells
 }
 
-/// The same of each bus of a group, followed by zeros.
+/// How many cells of a frame have an output, for each bus of a group. Zeros follow for the buses that the group has not.
 pub fn loads(table: &GroupPlan<OUTPUTS>) -> [u32; BUSES]
     ensures { take (buses_of table.now) result ≡ loads_of table.now }
 {

@@ -23,7 +23,8 @@ fn is_above(limit: u32, frame: u32, loads: &[u32]) -> bool
     false
 }
 
-/// Whether a bus of a group is above the limit, if there is one.
+/// Whether a bus of a group has a greater load than a limit, in per cent of the slots of a frame. `false` if there is no
+/// limit.
 pub fn has_above(limit: Option<u32>, table: &GroupPlan<OUTPUTS>, loads: &[u32]) -> bool
     requires loads { loads.now ≡ loads_of table.now }
     ensures { result ≡ has_above limit table.now }

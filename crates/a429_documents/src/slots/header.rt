@@ -267,9 +267,10 @@ fn put_head(text: &mut Text)
 }
 
 /// The slot tables of a proposal's plan as a header of C (C99), of one group or of all in table order. Each group has a
-/// comment that numbers its outputs from 0. Macros have its name, its bit rate in bit/s, and the numbers of slots of a frame,
-/// buses and outputs. An array has its cells. The element of a cell is at the number of its bus times the slots of a frame, plus its slot.
-/// It is the number of the output in that cell; 0xFFFF if the cell is empty. The names have the number of the group.
+/// comment that numbers its outputs from 0. Macros have its name, its bit rate in bit/s, and the numbers of slots of a
+/// frame, buses and outputs. An array has its cells. The element of a cell is at the number of its bus times the slots of
+/// a frame, plus its slot. It is the number of the output in that cell; 0xFFFF if the cell is empty. The names have the
+/// number of the group.
 pub fn slot_header(alloc: Global, proposal: &Proposal<OUTPUTS>, group: Option<usize>) -> Text
     requires known { IfSome group (λ group. group < length (groups_of proposal.now.plan)) }
     ensures { result ≡ header_text proposal.now.station proposal.now.plan group }

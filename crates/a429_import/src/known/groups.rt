@@ -49,7 +49,7 @@ fn count(outputs: &mut Vec<u8>, place: usize)
 }
 
 impl KnownGroups {
-    /// Before the first row. Error: an allocation failed.
+    /// What is known of groups before the first row. Error: an allocation failed.
     pub fn new(alloc: Global, chains: usize) -> Result<KnownGroups, AllocError>
         ensures { IfOk result (λ known. KnowsGroups known []) }
     {
@@ -71,7 +71,7 @@ impl KnownGroups {
         }
     }
 
-    /// The first row that a row contradicts about its group.
+    /// The first row that a row contradicts about its group, with the column. `None` if it contradicts none.
     pub fn clash(&self, row: &RowFields<'_>) -> Option<RowClash>
         requires { (rows : List ImportRow) × KnowsGroups self.now rows }
         ensures { (rows : List ImportRow) → Agree rows → KnowsGroups self.now rows
@@ -110,7 +110,7 @@ impl KnownGroups {
         count_flags(&self.flags)
     }
 
-    /// The first group with a wrong bit rate.
+    /// The number of the first group with a wrong bit rate. `None` if there is none.
     pub fn wrong_rate(&self) -> Option<usize>
         ensures { (rows : List ImportRow) → KnowsGroups self.now rows
             → result ≡ position_from has_wrong_rate 0 (groups_of rows) }
@@ -118,7 +118,7 @@ impl KnownGroups {
         first_wrong_rate(&self.flags, &self.rates)
     }
 
-    /// The first group with too many outputs.
+    /// The number of the first group with too many outputs. `None` if there is none.
     pub fn too_many_outputs(&self) -> Option<usize>
         ensures { (rows : List ImportRow) → KnowsGroups self.now rows
             → result ≡ position_from (has_too_many_outputs rows) 0 (groups_of rows) }

@@ -31,7 +31,7 @@ pub struct KnownReceivers {
 }
 
 impl KnownReceivers {
-    /// Before the first row. Error: an allocation failed.
+    /// What is known of receivers before the first row. Error: an allocation failed.
     pub fn new(alloc: Global, chains: usize) -> Result<KnownReceivers, AllocError>
         ensures { IfOk result (λ known. KnowsReceivers known []) }
     {
@@ -62,7 +62,7 @@ impl KnownReceivers {
         }
     }
 
-    /// The first row that a row contradicts about its receiver.
+    /// The first row that a row contradicts about its receiver, with the column. `None` if it contradicts none.
     pub fn clash(&self, row: &RowFields<'_>) -> Option<RowClash>
         requires { (rows : List ImportRow) × KnowsReceivers self.now rows }
         ensures { (rows : List ImportRow) → Agree rows → KnowsReceivers self.now rows
@@ -114,7 +114,7 @@ impl KnownReceivers {
         }
     }
 
-    /// The first receiver with too many filters.
+    /// The number of the first receiver with too many filters. `None` if there is none.
     pub fn too_many_filters(&self) -> Option<usize>
         ensures { (rows : List ImportRow) → KnowsReceivers self.now rows
             → result ≡ position_from has_too_many_filters 0 (firsts part.Receivers rows) }

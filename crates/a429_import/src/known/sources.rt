@@ -39,7 +39,7 @@ fn is_number(found: Option<usize>, number: usize) -> bool
 }
 
 impl KnownSources {
-    /// Before the first row. Error: an allocation failed.
+    /// What is known of sources before the first row. Error: an allocation failed.
     pub fn new(alloc: Global, chains: usize) -> Result<KnownSources, AllocError>
         ensures { IfOk result (λ known. KnowsSources known []) }
     {
@@ -89,7 +89,8 @@ impl KnownSources {
         }
     }
 
-    /// The first row that a row contradicts about its source. The row's receiver is given by the number of its first row.
+    /// The first row that a row contradicts about its source, with the column. The row's receiver is given by the number
+    /// of its first row. `None` if it contradicts none.
     pub fn clash(&self, receiver: Option<usize>, row: &RowFields<'_>) -> Option<RowClash>
         requires { (rows : List ImportRow) × KnowsSources self.now rows }
         ensures { (rows : List ImportRow) → Agree rows → KnowsSources self.now rows

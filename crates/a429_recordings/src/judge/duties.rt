@@ -152,7 +152,7 @@ pub fn duty_of(
     }
 }
 
-/// The outputs of a group, in table order.
+/// The outputs of a group, in table order. Error: an allocation failed.
 pub fn duties_of(
     alloc: Global,
     proposal: &Proposal<OUTPUTS>,

@@ -172,8 +172,8 @@ impl WordKeeper for PlaceWords<'_> {
 }
 
 /// Reads logs, one after another as if they were one, with channels taken as names. Error: the number of the first faulty
-/// line, from 1 in its log. A line is faulty as the reader of logs says, or if there is no place of its name, or its word is
-/// at 10^14 us or later.
+/// line, from 1 in its log, or an allocation failed. A line is faulty as the reader of logs says, or if there is no place
+/// of its name, or its word is at 10^14 us or later.
 pub fn read_words<'a>(
     alloc: Global,
     names: &Names,

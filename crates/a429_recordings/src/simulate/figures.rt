@@ -186,7 +186,7 @@ impl Summary {
         }
     }
 
-    /// What is kept of what a group sent of a source.
+    /// The figures of the words that a group sent of a source. They are the empty figures if nothing is kept of them.
     pub fn at(&self, group: usize, source: usize) -> OutputFigures
         ensures { result ≡ kept_at self.now group source }
     {

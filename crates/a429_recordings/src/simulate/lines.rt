@@ -90,7 +90,7 @@ fn put_separator(room: &mut [u8], end: usize, style: LineStyle) -> usize
     }
 }
 
-/// The same between the group and the bus.
+/// Writes what separates the group and the bus of a line before the bytes that begin at `end`, and gives its start.
 fn put_bus_separator(room: &mut [u8], end: usize, style: LineStyle) -> usize
     requires { (1 ≤ end) × (end ≤ length room.old) }
     ensures start { result + 1 ≡ end }
@@ -307,7 +307,8 @@ impl Setting {
         text.extend_from_slice(&room[at..])
     }
 
-    /// The same with commas between the fields.
+    /// Appends the line of a refused word with commas between the fields. Error: an allocation failed; then nothing is
+    /// appended.
     fn push_refused_row(
         &self,
         text: &mut Vec<u8>,
@@ -354,7 +355,7 @@ impl Setting {
         }
     }
 
-    /// Appends the line of what happens, if there is one. If an allocation fails, nothing is appended.
+    /// Appends the line of what happens, if there is one. Error: an allocation failed; then nothing is appended.
     #[inline(always)]
     pub fn push(&self, lines: &mut PendingLines, happening: Happening) -> Result<(), AllocError>
         requires names { HasStationNames self.now.names self.now.proposal }

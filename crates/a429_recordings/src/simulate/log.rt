@@ -59,9 +59,9 @@ impl WordKeeper for ReceiverWords<'_> {
     }
 }
 
-/// Reads logs, one after another as if they were one, for the receivers of these names, with channels taken as names. Error:
-/// the number of the first faulty line, from 1 in its log. A line is faulty as the reader of logs says, or if its word is at
-/// no receiver, or at 10^14 us or later.
+/// Reads logs, one after another as if they were one, for the receivers of these names, with channels taken as names.
+/// Error: the number of the first faulty line, from 1 in its log, or an allocation failed. A line is faulty as the reader
+/// of logs says, or if its word is at no receiver, or at 10^14 us or later.
 pub fn read_words<'a>(
     alloc: Global,
     names: &Names,

@@ -83,7 +83,7 @@ impl Run {
         }
     }
 
-    /// A word comes in. It happens that it is refused, or nothing.
+    /// A word comes in. If it is refused, that happens; `None` if it is accepted.
     pub fn arrive(&mut self, word: LogWord) -> Option<Happening>
         ensures step { (q : Proposed) → TakesStep q (Comes word) self.old self.new result }
         ensures known { (q : Proposed) → IfSome result (IsKnown q) }
@@ -99,7 +99,7 @@ impl Run {
         }
     }
 
-    /// A group is asked for its next cell, in this slot. It happens that it sends a word, or nothing.
+    /// A group is asked for its next cell, in this slot. If it sends a word, that happens; `None` if the cell is empty.
     #[inline(always)]
     pub fn send(&mut self, group: usize, slot: u64) -> Option<Happening>
         ensures step { (q : Proposed) → HasPlannedGroup q group → TakesStep q (Asks group slot) self.old self.new result }

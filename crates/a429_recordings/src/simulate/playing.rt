@@ -30,8 +30,9 @@ pub struct Player {
 }
 
 impl Player {
-    /// A station to which nothing has happened, with these words before it, and slots up to this time or to that which the words
-    /// ask for. The slots before the first word have passed: no group sends in them. Error: a group would send too much.
+    /// A station to which nothing has happened, with these words before it, and slots up to this time or to that which
+    /// the words ask for. The slots before the first word have passed: no group sends in them. Error: a group would send
+    /// too much, or an allocation failed.
     pub fn open(
         alloc: Global,
         proposal: &Proposal<OUTPUTS>,

@@ -209,7 +209,8 @@ fn silent_until(words: &[LogWord], last: u64) -> u64
 }
 
 /// Each group before its first slot that does not begin before the first of these words, with slots that begin up to the
-/// last time in microseconds. Error: a group would send more than a million frames from the first word on.
+/// last time in microseconds. Error: a group would send more than a million frames from the first word on, or an
+/// allocation failed.
 pub fn tracks_of(
     alloc: Global,
     proposal: &Proposal<OUTPUTS>,
