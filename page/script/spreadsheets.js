@@ -164,5 +164,5 @@ function columnForm(spreadsheet, changed) {
     } }, choices([["us", "µs"], ["ms", "ms"]], key.slice(-2)));
     return element("label", { class: chosen === NO_HEADING && "lacks" }, element("span", {}, column), heading, unit || null);
   };
-  return element("fieldset", {}, element("legend", {}, "Columns of the spreadsheet"), COLUMNS.map(row));
+  return element("fieldset", {}, element("legend", {}, "Columns"), COLUMNS.map(row));
 }

@@ -1,5 +1,5 @@
 //! A command over passed files, and what it writes.
-ghost use Rattle.std.specs.Prelude.{◌≡◌, IfOk, length};
+ghost use Rattle.std.specs.Prelude.{◌≡◌, ◌≢◌, Err, IfOk, length};
 ghost use Rattle.a429_arguments.specs.Texts.{texts_of};
 ghost use Rattle.a429_page.specs.Calls.{IsAnswered};
 ghost use Rattle.a429_page.specs.Parts.{file_in};

@@ -1,6 +1,6 @@
 //! The call that the page makes.
-ghost use Rattle.std.specs.Prelude.{◌≡◌, ◌≤◌};
-ghost use Rattle.a429_page.specs.Calls.{IsGiven, IsLeft, IsTooMuch, IsUnstated};
+ghost use Rattle.std.specs.Prelude.{◌≡◌, ◌≢◌, ◌≤◌, Err, IfOk};
+ghost use Rattle.a429_page.specs.Calls.{IsAnswerTo, IsGiven, IsTooMuch, IsUnstated};
 
 use crate::answering::{Answered, run_command};
 use crate::files::PassedFiles;
@@ -59,7 +59,7 @@ pub extern "C" fn a429_command(
 ) -> u32
     ensures few { result ≤ 3 }
     ensures given { result ≡ 0 → IsGiven words sizes.now bytes.now room.old room.new answer.new }
-    ensures too_much { result ≡ 2 → IsTooMuch words sizes.now bytes.now room.old room.new answer.new }
+    ensures too_much { result ≡ 2 → IsTooMuch words sizes.now bytes.now room.old answer.new }
     ensures unstated { result ≡ 3 → IsUnstated words sizes.now bytes.now }
     ensures left { result ≢ 0 → room.new ≡ room.old }
     ensures answer_left { result ≢ 0 → result ≢ 2 → answer.new ≡ answer.old }

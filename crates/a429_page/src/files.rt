@@ -1,5 +1,6 @@
 //! Files as the page passes them.
-ghost use Rattle.std.specs.Prelude.{◌≡◌, option_map};
+ghost use Rattle.std.specs.Prelude.{◌≡◌, option_map, position};
+ghost use Rattle.std.specs.Str.{bytes_eq};
 ghost use Rattle.a429_arguments.specs.Texts.{texts_of};
 ghost use Rattle.a429_page.specs.Parts.{file_in};
 
@@ -49,10 +50,17 @@ impl FileReader for PassedFiles<'_, '_> {
     }
 }
 
+/// The place of the first of these names that is this one.
+fn place_of(names: &[&[u8]], name: &[u8]) -> Option<usize>
+    ensures { result ≡ position (λ other. bytes_eq other name.now) (texts_of names.now) }
+{
+    names.iter().position(|other| *other == name)
+}
+
 /// The bytes of the file of this name.
-fn find_file<'b>(names: &[&'b [u8]], files: &[&'b [u8]], name: &str) -> Option<&'b [u8]>
+fn find_file<'b>(names: &[&[u8]], files: &[&'b [u8]], name: &str) -> Option<&'b [u8]>
     ensures { option_map (λ bytes. bytes.now) result ≡ file_in (texts_of names.now) (texts_of files.now) name.now }
 {
-    let place = names.iter().position(|other| *other == name.as_bytes())?;
+    let place = place_of(names, name.as_bytes())?;
     files.get(place).copied()
 }

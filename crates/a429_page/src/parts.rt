@@ -1,5 +1,5 @@
 //! The parts of a call, and the arguments among them.
-ghost use Rattle.std.specs.Prelude.{◌≡◌, Err, IfOk};
+ghost use Rattle.std.specs.Prelude.{◌≡◌, false, Err, IfOk, None, Some};
 ghost use Rattle.a429_arguments.specs.Texts.{texts_of};
 ghost use Rattle.a429_page.specs.Parts.{are_texts, parts_of};
 
