@@ -2,16 +2,18 @@
 // Runs commands on the module, each on an instance and a memory of its own: nothing is left of a call.
 
 let compiled, mostPages;
-const bytesOf = new Map(); // of files, by their keys
+const bytesOf = new Map(); // of long files, by their keys
 const encoder = new TextEncoder();
+const LONG_FILE = 1 << 20;
 
 // What a429_command answers.
 const GIVEN = 0, NO_MEMORY = 1, TOO_MUCH = 2;
 
 class OutOfMemory extends Error {}
 
-// The bytes of a file, which are read once. `tell` is told how many are read.
+// The bytes of a file. A long one is read once, until the page forgets it; `tell` is told how many bytes are read.
 async function read(file, tell) {
+  if (file.blob.size < LONG_FILE) return new Uint8Array(await file.blob.arrayBuffer());
   if (!bytesOf.has(file.key)) {
     const bytes = new Uint8Array(file.blob.size), reader = file.blob.stream().getReader();
     let at = 0;
@@ -55,12 +57,13 @@ class Call {
 
   // Does the command of these arguments over these files, which are pairs of a name and bytes.
   command(words, files) {
-    const parts = [...words.map((word) => encoder.encode(word)), ...files.map(([name]) => encoder.encode(name)), ...files.map(([, bytes]) => bytes)];
+    const parts = [...[...words, ...files.map(([name]) => name)].map((text) => encoder.encode(text)), ...files.map(([, bytes]) => bytes)];
     const sizes = this.put([new Uint8Array(new BigUint64Array(parts.map((part) => BigInt(part.length))).buffer)]);
     const bytes = this.put(parts), length = parts.reduce((sum, part) => sum + part.length, 0), answer = this.room(24);
     for (let size = 1 << 16; ;) {
       const room = this.room(size);
-      const code = this.exports.a429_command(sizes, BigInt(parts.length), bytes, BigInt(length), BigInt(words.length), room, BigInt(size), answer);
+      const code = this.exports.a429_command(sizes, BigInt(parts.length), bytes, BigInt(length), BigInt(words.length), room, BigInt(size),
+        answer);
       if (code === NO_MEMORY) throw new OutOfMemory();
       const [status, out, err] = Array.from(new BigUint64Array(this.memory.buffer, Number(answer), 3), Number);
       if (code === GIVEN) {
@@ -76,7 +79,10 @@ class Call {
 
 async function run({ id, words, files }) {
   const given = [];
-  for (const file of files) given.push([file.name, await read(file, (done) => postMessage({ id, name: file.name, done, size: file.blob.size }))]);
+  for (const file of files) {
+    const tell = (done) => postMessage({ id, name: file.name, done, size: file.blob.size });
+    given.push([file.name, await read(file, tell)]);
+  }
   postMessage({ id, begun: true });
   const began = performance.now();
   let call;
@@ -94,6 +100,7 @@ async function run({ id, words, files }) {
 
 let last = Promise.resolve();
 onmessage = ({ data }) => {
+  if (data.forget) return void bytesOf.delete(data.forget);
   last = last.then(async () => {
     try {
       if (data.module) {

@@ -2,7 +2,8 @@
 
 // Each kind of change, in words.
 const CHANGES = {
-  version: "version of the table", rate: "bit rate, bit/s", receiver: "number of the receiver", filters: "number of filters", source: "number of the source",
+  version: "version of the table", rate: "bit rate, bit/s", receiver: "number of the receiver", filters: "number of filters",
+  source: "number of the source",
   "source-receiver": "receiver of the source", label: "label", sdi: "SDI", group: "number of the group", buses: "buses", frame: "frame, slots",
   min_us: "minimum interval, µs", max_us: "maximum interval, µs", period: "period, slots", hold: "hold", bus: "bus", slot: "first slot",
   output: "output: its period, slots", moved: "outputs that only change their slots",

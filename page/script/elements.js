@@ -60,8 +60,6 @@ function csvText(rows, columns, text) {
 
 // ---- Tables
 
-const NUMBER = /^-?\d[\d.,]*$|^–$/;
-
 function cellText(row, column) {
   const value = row[column];
   return value == null ? "–" : typeof value === "number" ? value.toLocaleString("en", { maximumFractionDigits: 1 }) : String(value);
@@ -69,18 +67,19 @@ function cellText(row, column) {
 
 // A table of objects, with its caption and a button that saves it. `titles` are texts for columns, `cell` gives what a cell shows if it
 // is not just its value, and `mark` the class of a row. Of more than `most` rows the first ones are shown.
-function sheet(rows, { name, caption, columns, titles = {}, cell, mark, most = 400, wide = [], text } = {}) {
+function sheet(rows, { name, caption, columns, titles = {}, cell, mark, most = 400, text } = {}) {
   const shown = columns ?? Object.keys(rows[0] ?? {});
   const numeric = new Set(shown.filter((c) => rows.some((row) => typeof row[c] === "number")));
-  const head = element("tr", {}, shown.map((c) => element("th", { scope: "col", class: numeric.has(c) && "number" }, titles[c] ?? c.replace(/_/g, " "))));
+  const title = (c) => element("th", { scope: "col", class: numeric.has(c) && "number" }, titles[c] ?? c.replace(/_/g, " "));
+  const head = element("tr", {}, shown.map(title));
   const line = (row) => element("tr", { class: mark?.(row) }, shown.map((c) => {
     const content = cell?.(row, c) ?? cellText(row, c);
-    const isNumber = numeric.has(c) || typeof content === "string" && NUMBER.test(content) && row[c] !== undefined && c !== "label";
-    return element("td", { class: wide.includes(c) ? "wide" : isNumber && "number" }, content);
+    return element("td", { class: numeric.has(c) && "number" }, content);
   }));
   const body = element("tbody", {}, rows.slice(0, most).map(line));
-  const box = element("div", { class: rows.length > 25 ? "scroll tall" : "scroll", role: "region", tabindex: "0", "aria-label": caption ?? name },
-    element("table", {}, element("caption", {}, caption ?? ""), element("thead", {}, head), body));
+  const table = element("table", {}, element("caption", {}, caption ?? ""), element("thead", {}, head), body);
+  const box = element("div", { class: rows.length > 25 ? "scroll tall" : "scroll", role: "region", tabindex: "0",
+    "aria-label": caption ?? name }, table);
   const save = name && saveButton(name + ".csv", () => csvText(rows, shown, text), "text/csv");
   const more = rows.length > most && element("button", { type: "button", onclick: (event) => {
     body.append(...rows.slice(most).map(line));

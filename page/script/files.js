@@ -1,8 +1,8 @@
 // The files that were dropped or chosen, and what each of them is.
 
 const ROLES = {
-  sheet: "spreadsheet to plan", table: "equipment table to plan", otherSheet: "spreadsheet to compare", otherTable: "table to compare",
-  came: "recording of what came in", sent: "recording of what was sent", unused: "not used",
+  sheet: "spreadsheet", table: "equipment table", otherSheet: "other spreadsheet", otherTable: "other table", came: "what came in",
+  sent: "what was sent", unused: "not used",
 };
 const LARGEST_TABLE = 16 * 1024 * 1024, LARGEST_LOG = 1024 * 1024 * 1024;
 const isTable = (file) => file.role === "table" || file.role === "sheet";
@@ -117,6 +117,7 @@ function setRole(file, role) {
 function removeFile(file) {
   files = files.filter((other) => other !== file);
   spreadsheets.delete(file);
+  worker.postMessage({ forget: file.key });
   listFiles();
   analyse();
   byId("pick").focus();

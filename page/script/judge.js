@@ -49,11 +49,12 @@ function logForm(unknown) {
     recordings.isFromFirst = event.target.checked;
     analyse();
   } });
-  return byId("logs").replaceChildren(element("fieldset", {}, element("legend", {}, "Recordings"), row("times in", unit), row("tolerance, µs", tolerance),
-    row("from the first", first), unknown.map(([name, known]) => row(name, element("select", { onchange: (event) => {
-      recordings.channels.set(name, event.target.value);
-      analyse();
-    } }, choices([["", "– not in the table –"], ...known.map((to) => [to, to])], recordings.channels.get(name) ?? ""))))));
+  const channel = ([name, known]) => row(name, element("select", { onchange: (event) => {
+    recordings.channels.set(name, event.target.value);
+    analyse();
+  } }, choices([["", "– not in the table –"], ...known.map((to) => [to, to])], recordings.channels.get(name) ?? "")));
+  return byId("logs").replaceChildren(element("fieldset", {}, element("legend", {}, "Recordings"), row("times in", unit),
+    row("tolerance, µs", tolerance), row("from first word", first), unknown.map(channel)));
 }
 
 // The lines of a recording around a fault, if it is not too long to show.
@@ -72,23 +73,28 @@ async function logRefusal(answer) {
 }
 
 const JUDGE_TITLES = { least_us: "least, µs", greatest_us: "greatest, µs", late_us: "latest, µs", tolerance_us: "tolerance, µs" };
+const SURVEY_TITLES = { ...JUDGE_TITLES, mean_us: "mean, µs", first_us: "first, µs", last_us: "last, µs", load: "load, %" };
 
 function judgedSheet(rows, name, caption) {
-  return sheet(rows, { name, caption, titles: JUDGE_TITLES, mark: (row) => row.verdict === "bad" ? "fault" : row.verdict === "ok" ? null : "dim",
+  const mark = (row) => row.verdict === "bad" ? "fault" : row.verdict === "ok" ? null : "dim";
+  return sheet(rows, { name, caption, titles: JUDGE_TITLES, mark,
     cell: (row, column) => FINDINGS[column] && row[column] > 0 ? element("b", {}, String(row[column]))
       : column === "verdict" ? VERDICTS[row.verdict] ?? row.verdict : undefined });
 }
 
 function showJudged(judged, events) {
   const bad = judged.filter((row) => row.verdict === "bad"), rest = judged.filter((row) => row.verdict !== "bad");
-  const kinds = Object.keys(FINDINGS).map((kind) => [kind, events.filter((event) => event.finding === kind).length]).filter(([, number]) => number);
+  const kinds = Object.keys(FINDINGS).map((kind) => [kind, events.filter((event) => event.finding === kind).length])
+    .filter(([, number]) => number);
+  const meaning = ([kind, number]) => element("li", {}, element("b", {}, `${number} ${kind}`), `: ${FINDINGS[kind]}`);
   const parts = [note(bad.length ? "bad" : "good", element("b", {}, bad.length
     ? `${count(events.length, "finding")} in ${bad.length} of ${count(judged.length, "row")}.` : "Nothing is wrong in what was sent."),
-  kinds.length ? element("ul", {}, kinds.map(([kind, number]) => element("li", {}, element("b", {}, `${number} ${kind}`), `: ${FINDINGS[kind]}`))) : null)];
+  ...kinds.length ? [element("ul", {}, kinds.map(meaning))] : [])];
   if (bad.length) parts.push(judgedSheet(bad, "judge-bad", "Rows with a finding"));
   if (events.length) {
-    parts.push(element("h2", {}, "When to look"), sheet(events.map((event) => ({ moment: momentText(event.time_us), ...event, means: FINDINGS[event.finding] })),
-      { name: "findings", caption: "Each finding, with its time in the recordings", titles: { moment: "min:s", time_us: "time, µs", means: "what it means" } }));
+    const found = events.map((event) => ({ moment: momentText(event.time_us), ...event, means: FINDINGS[event.finding] }));
+    parts.push(element("h2", {}, "When to look"), sheet(found, { name: "findings", caption: "Each finding, with its time in the recordings",
+      titles: { moment: "min:s", time_us: "time, µs", means: "what it means" } }));
   }
   if (rest.length) {
     const table = judgedSheet(rest, "judge", "Rows without a finding");
@@ -99,8 +105,8 @@ function showJudged(judged, events) {
 
 async function judge({ table }, came, sent) {
   const all = [table, ...came, ...sent];
-  const words = ["judge", table.name, came[0].name, ...sent.map((file) => file.name), ...came.slice(1).flatMap((file) => ["--in", file.name]), ...logOptions(),
-    ...recordings.tolerance ? ["--tolerance", recordings.tolerance] : []];
+  const words = ["judge", table.name, came[0].name, ...sent.map((file) => file.name), ...came.slice(1).flatMap((file) => ["--in", file.name]),
+    ...logOptions(), ...recordings.tolerance ? ["--tolerance", recordings.tolerance] : []];
   const judged = await run([...words, "--json"], all);
   if (judged.status > 1) {
     setCount("judge", "!");
@@ -117,17 +123,18 @@ async function simulated({ table }, came) {
   const words = ["simulate", table.name, ...came.map((file) => file.name), ...logOptions()], all = [table, ...came];
   const answer = await run([...words, "--summary", "--json"], all);
   if (answer.status !== 0) return [note("bad", "The recording cannot be simulated."), await logRefusal(answer)];
-  return [element("p", {}, "This is what a concentrator with this plan sends for what came in. To judge a box, drop a recording of what it sent, on the same clock."),
-    bar(saveCommandButton("sent.log", [...words, "--sent"], all), saveCommandButton("simulated.csv", [...words, "--csv"], all, "text/csv")),
-    sheet(answer.rows, { name: "simulated", caption: "Words that are sent, by output", titles: { ...JUDGE_TITLES, bound_us: "bound, µs" },
-      mark: (row) => row.late_us > row.bound_us ? "fault" : null })];
+  return [element("p", {}, "This is what a concentrator with this plan sends for what came in. To judge a box, drop a recording of what it "
+    + "sent, on the same clock."),
+  bar(saveCommandButton("sent.log", [...words, "--sent"], all), saveCommandButton("simulated.csv", [...words, "--csv"], all, "text/csv")),
+  sheet(answer.rows, { name: "simulated", caption: "Words that are sent, by output", titles: { ...JUDGE_TITLES, bound_us: "bound, µs" },
+    mark: (row) => row.late_us > row.bound_us ? "fault" : null })];
 }
 
 async function surveyed(file) {
   const words = ["survey", file.name, ...logOptions()], answer = await run([...words, "--json"], [file]);
   if (answer.status !== 0) return element("div", {}, element("h2", {}, file.name), await logRefusal(answer));
   return element("details", { open: files.filter(isLog).length < 2 }, element("summary", {}, `What is on ${file.name} (survey)`),
-    sheet(answer.rows, { name: "survey", caption: file.name, titles: { ...JUDGE_TITLES, mean_us: "mean, µs", first_us: "first, µs", last_us: "last, µs", load: "load, %" } }),
+    sheet(answer.rows, { name: "survey", caption: file.name, titles: SURVEY_TITLES }),
     bar(saveCommandButton("rows.csv", [...words, "--rows"], [file], "text/csv")));
 }
 
@@ -137,12 +144,15 @@ async function showJudge(planned) {
   setCount("judge", "");
   logForm(planned ? unknownNames(planned.icd, planned.groups) : []);
   if (!came.length && !sent.length) {
-    return panel("judge", element("p", { class: "dim" }, "Drop a recording of what came in, and one of what your box sent. Both need one clock. "
-      + "A line is a time, a name and a word: 47000 adc e4b100c1. Files of bus analysers with a heading are taken too."));
+    return panel("judge", element("p", { class: "dim" }, "Drop a recording of what came in, and one of what your box sent. Both need one "
+      + "clock. A line is a time, a name and a word: 47000 adc e4b100c1. Files of bus analysers with a heading are taken too."));
   }
   if (planned && came.length && sent.length) parts.push(...await judge(planned, came, sent));
   else if (planned && came.length) parts.push(...await simulated(planned, came));
-  else parts.push(element("p", { class: "dim" }, planned ? "Drop a recording of what came in, too." : "Drop a spreadsheet or a table to judge the recordings."));
+  else {
+    parts.push(element("p", { class: "dim" }, planned ? "Drop a recording of what came in, too."
+      : "Drop a spreadsheet or a table to judge the recordings."));
+  }
   for (const file of [...came, ...sent]) parts.push(await surveyed(file));
   return panel("judge", ...parts);
 }

@@ -12,17 +12,18 @@ function loadBar(percent) {
 }
 
 // How many more outputs a bus takes, by their period in slots.
+const roomsOf = (row) => Object.entries(row).filter(([name, value]) => name.startsWith("room_") && value != null);
+
 function roomList(row) {
-  const rooms = Object.entries(row).filter(([name, value]) => name.startsWith("room_") && value != null);
-  return element("span", { class: "rooms" }, rooms.map(([name, value]) => element("span", { class: value ? null : "none" },
+  return element("span", { class: "rooms" }, roomsOf(row).map(([name, value]) => element("span", { class: value ? null : "none" },
     element("i", {}, `P${name.slice(5)} `), value.toLocaleString("en"))));
 }
 
 function busesSheet(group, rows) {
   return sheet(rows, { name: `load-${group}`, caption: `Buses of ${group}`, columns: ["bus", "percent", "load", "cells", "free", "words_s", "room"],
     titles: { percent: "load, %", load: "", words_s: "words/s", room: "room for more outputs with period P (slots)" },
-    text: (row, column) => column === "room" ? Object.entries(row).filter(([n, v]) => n.startsWith("room_") && v != null).map(([n, v]) => `${n}=${v}`).join(" ") : "",
-    cell: (row, column) => column === "load" ? loadBar(row.percent) : column === "room" ? roomList(row) : undefined });
+    text: (row, column) => column === "room" ? roomsOf(row).map(([name, value]) => `${name}=${value}`).join(" ") : "",
+    cell: (row, column) => ({ percent: () => row.percent.toFixed(1), load: () => loadBar(row.percent), room: () => roomList(row) })[column]?.() });
 }
 
 // What saves a bus: the outputs whose maximum interval would have to be longer.
@@ -33,7 +34,8 @@ function savingsOf(group, margin) {
     const rows = chosen.map((row) => ({ source: row.source, period: row.period, next: row.next, less: row.less, max_us: row.max_us }));
     return element("details", {}, element("summary", {}, `To save a bus, free ${count(whole.excess, "cell")}: `
       + `lengthen the maximum interval of ${count(chosen.length, "output")}`),
-    sheet(rows, { name: `margin-${group}`, caption: "Outputs that would be sent half as often", titles: { next: "next period", less: "cells less", max_us: "max, µs" } }));
+    sheet(rows, { name: `margin-${group}`, caption: "Outputs that would be sent half as often",
+      titles: { next: "next period", less: "cells less", max_us: "max, µs" } }));
   }
   return choices.length ? element("p", { class: "dim" }, "If each output is sent at most half as often, no bus is saved.") : null;
 }
@@ -45,7 +47,8 @@ async function showLoads({ table, margin }) {
     if (answer.status > 1) return place.replaceChildren(refusal(answer, table.name));
     const rows = answer.rows;
     place.replaceChildren(...[...new Set(rows.map((row) => row.group))].flatMap((group) => {
-      const own = rows.filter((row) => row.group === group), whole = own.find((row) => row.bus == null), buses = own.filter((row) => row.bus != null);
+      const own = rows.filter((row) => row.group === group), whole = own.find((row) => row.bus == null);
+      const buses = own.filter((row) => row.bus != null);
       const needed = whole.needed == null ? null : element("p", { class: "bad-text" }, whole.needed === "none"
         ? `One output alone takes more than ${loadLimit} per cent of a bus.`
         : `A bus is above ${loadLimit} per cent. ${count(whole.needed, "bus", "buses")} can keep to it, if outputs are spread evenly.`);
@@ -60,7 +63,8 @@ async function showLoads({ table, margin }) {
     event.target.value = loadLimit || "";
     show();
   } });
-  panel("loads", bar(element("label", {}, "Limit, per cent (1 to 100)", limit), saveCommandButton("load.csv", ["load", table.name, "--csv"], [table], "text/csv"),
+  panel("loads", bar(element("label", {}, "Limit, per cent (1 to 100)", limit),
+    saveCommandButton("load.csv", ["load", table.name, "--csv"], [table], "text/csv"),
     saveCommandButton("margin.csv", ["margin", table.name, "--csv"], [table], "text/csv")), place);
   await show();
 }

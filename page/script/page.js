@@ -1,7 +1,7 @@
 // The page: its tabs, and what is done when a file comes or goes.
 
-const TABS = [["plan", "Plan"], ["picture", "Picture"], ["icd", "ICD"], ["loads", "Loads"], ["slots", "Slots"], ["changes", "Changes"], ["judge", "Judge"],
-  ["words", "Words"]];
+const TABS = [["plan", "Plan"], ["picture", "Picture"], ["icd", "ICD"], ["loads", "Loads"], ["slots", "Slots"], ["changes", "Changes"],
+  ["judge", "Judge"], ["words", "Words"]];
 const NO_FILE = "Drop a spreadsheet of labels or an equipment table to see its plan.";
 let analysis = 0; // the number of the last one
 
@@ -14,8 +14,8 @@ class Outdated extends Error {}
 
 function makeTabs() {
   for (const [name, title] of TABS) {
-    byId("tabs").append(element("button", { type: "button", role: "tab", id: `tab-${name}`, "aria-controls": name, onclick: () => openTab(name) }, title,
-      element("span", { class: "count", hidden: true })));
+    byId("tabs").append(element("button", { type: "button", role: "tab", id: `tab-${name}`, "aria-controls": name,
+      onclick: () => openTab(name) }, title, element("span", { class: "count", hidden: true })));
     byId("panels").append(element("section", { role: "tabpanel", id: name, "aria-labelledby": `tab-${name}`, hidden: true }));
   }
   byId("tabs").addEventListener("keydown", (event) => {
@@ -42,10 +42,11 @@ function panel(name, ...content) {
 }
 
 // A number next to the title of a tab.
-function setCount(name, number) {
+function setCount(name, number, kind = "") {
   const place = byId(`tab-${name}`).querySelector(".count");
   place.hidden = number === "";
   place.textContent = number;
+  place.className = `count ${kind}`;
 }
 
 // A further sentence of the verdict, which leads to a tab.
@@ -75,8 +76,8 @@ async function tableOf(given) {
 
 // If two rows give one source different labels, sources can be named for their receiver and label.
 function namesOffer(spreadsheet, imported) {
-  const isOffered = !spreadsheet.isMade && / differs$/m.test(imported.text) && spreadsheet.columns.get("receiver") >= 0 && spreadsheet.columns.get("label") >= 0;
-  if (!isOffered) return null;
+  const hasColumns = spreadsheet.columns.get("receiver") >= 0 && spreadsheet.columns.get("label") >= 0;
+  if (spreadsheet.isMade || !hasColumns || !/ differs$/m.test(imported.text)) return null;
   return element("p", {}, "Two labels may have one name in this sheet. ", element("button", { type: "button", onclick: () => {
     spreadsheet.columns.set("source", MADE);
     analyse();
@@ -108,10 +109,10 @@ async function showTable(given, look) {
   const icd = (await ask("icd", table.name, "--json")).rows, lint = await ask("lint", table.name, "--json"), groups = groupsOf(plan.text, icd);
   const planned = { ...read, given, plan, icd, lint, groups, margin: (await ask("margin", table.name, "--json")).rows };
   const buses = groups.reduce((sum, group) => sum + group.buses, 0);
-  setVerdict("good", element("b", {}, `${given.name}: ${count(buses, "bus", "buses")} `), `for ${count(icd.length, "output")} in ${count(groups.length, "group")}. `
-    + "For these periods fewer buses are not enough.");
+  setVerdict("good", element("b", {}, `${given.name}: ${count(buses, "bus", "buses")} `),
+    `for ${count(icd.length, "output")} in ${count(groups.length, "group")}. For these periods fewer buses are not enough.`);
   showPlan(planned);
-  setCount("plan", lint.rows.length || "");
+  setCount("plan", lint.rows.length || "", "warn");
   await showPicture(planned);
   showIcd(planned);
   await showLoads(planned);
@@ -153,8 +154,9 @@ async function analyse() {
 }
 
 function listCommands() {
-  byId("runs").querySelector("div").replaceChildren(sheet(commandsRun.map((answer) => ({ command: ["a429", ...answer.words].join(" "), status: answer.status,
-    ms: Math.round(answer.milliseconds * 10) / 10, MiB: Math.round(answer.memory / 104857.6) / 10 })), { name: "commands", caption: "Commands that ran, with their time and memory" }));
+  const rows = commandsRun.map((answer) => ({ command: ["a429", ...answer.words].join(" "), status: answer.status,
+    ms: Math.round(answer.milliseconds * 10) / 10, MiB: Math.round(answer.memory / 104857.6) / 10 }));
+  byId("runs").querySelector("div").replaceChildren(sheet(rows, { name: "commands", caption: "Commands that ran, with their time and memory" }));
 }
 
 const EXAMPLE = `group,rate,source,receiver,label,sdi,min_us,max_us,remark

@@ -6,7 +6,8 @@ function groupsOf(planText, icd) {
   for (const line of planText.split("\n")) {
     const words = line.split(" "), after = (name) => Number(words[words.indexOf(name) + 1]);
     if (words[0] === "group") {
-      groups.push({ name: words[1], rate: after("rate"), frame: after("frame"), buses: after("buses"), rows: icd.filter((row) => row.group === words[1]) });
+      const rows = icd.filter((row) => row.group === words[1]);
+      groups.push({ name: words[1], rate: after("rate"), frame: after("frame"), buses: after("buses"), rows });
     } else if (words[0] === "bound") Object.assign(groups.at(-1), { cells: Number(words[1]), fewer: Number(words[3]) });
   }
   return groups;
@@ -15,7 +16,10 @@ function groupsOf(planText, icd) {
 // Why fewer buses are not enough.
 function proofOf({ cells, fewer, frame, buses }) {
   if (!buses) return "The group has no outputs, and needs no bus.";
-  if (!fewer) return `The outputs fill ${count(cells, "cell")} of a frame, so one bus is needed. It has ${frame.toLocaleString("en")} cells.`;
+  if (!fewer) {
+    return `The outputs fill ${cells.toLocaleString("en")} of the ${count(frame, "cell")} of a frame. One bus is enough, and without a bus `
+      + "nothing is sent.";
+  }
   const room = (fewer * frame).toLocaleString("en");
   return `The outputs fill ${cells.toLocaleString("en")} cells of a frame. ${count(fewer, "bus", "buses")} of ${frame.toLocaleString("en")} slots `
     + `${fewer === 1 ? "has" : "have"} only ${room} cells, so ${buses} are the fewest for these periods.`;
@@ -95,8 +99,8 @@ function showPicture({ table, groups }) {
 function showIcd({ table, icd, texts }) {
   const rows = hasTexts(texts)
     ? icd.map(({ group, rate, source, ...rest }) => ({ group, rate, source, parameter: texts.get(source) ?? "", ...rest })) : icd;
-  panel("icd", element("p", { class: "dim" }, "The data of each output for an interface control document. latency_us counts from the acceptance of a "
-    + "word to the end of the slot that sends it, or a newer one."),
+  panel("icd", element("p", { class: "dim" }, "The data of each output for an interface control document. latency_us counts from the "
+    + "acceptance of a word to the end of the slot that sends it, or a newer one."),
     bar(saveCommandButton("icd.csv", ["icd", table.name, "--csv", "--text"], [table], "text/csv"),
       saveCommandButton("icd.json", ["icd", table.name, "--json"], [table], "application/json"),
       saveCommandButton("buses.csv", ["buses", table.name, "--csv"], [table], "text/csv")),

@@ -70,7 +70,8 @@ function guessColumns(headings) {
   const fitting = (column) => headings.map((_, i) => i).filter((i) => !taken.has(i) && HEADINGS[column].test(plainHeading(headings[i])));
   const give = (column, i) => { if (i >= 0) { found.set(column, i); taken.add(i); } };
   // Sheets of equipment often name the LRU "Source" and the label "Parameter".
-  const sender = headings.findIndex((h) => isColumn("source", h)), parameter = headings.findIndex((h) => /^(parameter|signal)/.test(plainHeading(h)));
+  const sender = headings.findIndex((h) => isColumn("source", h));
+  const parameter = headings.findIndex((h) => /^(parameter|signal)/.test(plainHeading(h)));
   if (!headings.some((h) => isColumn("receiver", h)) && sender >= 0 && parameter >= 0) {
     give("source", parameter);
     give("receiver", sender);
@@ -155,8 +156,12 @@ function columnForm(spreadsheet, changed) {
     const isTime = column === "min" || column === "max";
     const key = !isTime ? column : columns.has(column + "_ms") ? column + "_ms" : column + "_us";
     const chosen = columns.get(key) ?? NO_HEADING;
-    const options = [[NO_HEADING, "– choose –"], ...column === "source" ? [[MADE, "(receiver)-(label)"]] : [], ...headings.map((h, i) => [i, h.trim()])];
-    const heading = element("select", { onchange: (event) => { columns.set(key, Number(event.target.value)); changed(); } }, choices(options, chosen));
+    const made = column === "source" ? [[MADE, "(receiver)-(label)"]] : [];
+    const options = [[NO_HEADING, "– choose –"], ...made, ...headings.map((h, i) => [i, h.trim()])];
+    const heading = element("select", { onchange: (event) => {
+      columns.set(key, Number(event.target.value));
+      changed();
+    } }, choices(options, chosen));
     const unit = isTime && element("select", { "aria-label": `Unit of ${column}`, onchange: (event) => {
       columns.delete(key);
       columns.set(`${column}_${event.target.value}`, chosen);

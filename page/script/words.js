@@ -37,8 +37,9 @@ function encodePart() {
   const kind = element("select", {}, choices([["bnr", "BNR, a whole number"], ["bcd", "BCD, five digits"], ["data", "19 bits, hexadecimal"]], "bnr"));
   const sdi = element("select", {}, choices(["0", "1", "2", "3"].map((n) => [n, n]), "0"));
   const ssm = element("select", {}, choices([["", "as usual"], ...["0", "1", "2", "3"].map((n) => [n, n])], ""));
-  const words = () => ["encode", label.value.trim(), `--${kind.value}=${value.value.trim()}`, ...kind.value === "bnr" && bits.value.trim() ? ["--bits", bits.value.trim()] : [],
-    "--sdi", sdi.value, ...ssm.value ? ["--ssm", ssm.value] : []];
+  const options = () => [...kind.value === "bnr" && bits.value.trim() ? ["--bits", bits.value.trim()] : [], "--sdi", sdi.value,
+    ...ssm.value ? ["--ssm", ssm.value] : []];
+  const words = () => ["encode", label.value.trim(), `--${kind.value}=${value.value.trim()}`, ...options()];
   const make = async () => {
     const answer = await run(words());
     if (answer.status !== 0) return place.replaceChildren(refusal(answer));
@@ -47,8 +48,9 @@ function encodePart() {
     return showWord(fields, answer.text.trim());
   };
   const form = element("form", { onsubmit: (event) => { event.preventDefault(); make(); } },
-    element("div", { class: "fields" }, field("label, octal", label), field("data as", kind), field("value", value), field("bits of BNR below the sign", bits),
-      field("SDI", sdi), field("SSM", ssm)), element("button", { type: "submit", class: "first" }, "Make the word"));
+    element("div", { class: "fields" }, field("label, octal", label), field("data as", kind), field("value", value),
+      field("bits of BNR below the sign", bits), field("SDI", sdi), field("SSM", ssm)),
+    element("button", { type: "submit", class: "first" }, "Make the word"));
   ready.then(make, () => {});
   return element("section", {}, element("h2", {}, "Which word has these fields?"), form, place);
 }

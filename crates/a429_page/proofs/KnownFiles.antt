@@ -1,5 +1,5 @@
 -- What is true of all files that give what a reader answered is true of the files that it has.
-use Rattle.std.proofs.Common.{◌≡◌, ◌∷◌, [], ℕ, List, Option, Result, ap, subst, sym, tt}
+use Rattle.std.proofs.Common.{◌≡◌, ◌∷◌, [], ℕ, List, Option, Result, ap, subst, sym}
 use Rattle.std.specs.List.{AllByRecursion}
 use Rattle.a429_console.specs.declared.files.FileFault.{FileFault}
 use Rattle.a429_console.specs.Readings.{AreAnswered, AreAnswersOf, HasReadFrom, IsAnswerOf, Reading}
