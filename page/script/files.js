@@ -40,6 +40,7 @@ async function takeFiles(list) {
 }
 
 async function addFiles(list) {
+  let isChanged = false;
   for (const file of list) {
     const trouble = await troubleOf(file).catch(() => `${file.name} cannot be read. If it is a folder, drop the files that are in it.`);
     if (trouble) {
@@ -54,7 +55,9 @@ async function addFiles(list) {
       taken.role = "unused";
     }
     files.push(taken);
+    isChanged = true;
   }
+  if (!isChanged) return;
   listFiles();
   await analyse();
 }
