@@ -13,7 +13,7 @@ joined got part (Some parts) = ap Some (sym (append_assoc got (part ∷ []) part
 -- the parts from a size on, if the bytes are enough for it
 pub parts_of-taken : (got : List (List ℕ)) (sizes : List ℕ) (i : ℕ) (rest : List ℕ) → i < length sizes → get_or sizes i 0 ≤ length rest
     → option_map (λ (more : List (List ℕ)). (got ++ take (get_or sizes i 0) rest ∷ []) ++ more) (parts_of (drop (i + 1) sizes) (drop (get_or sizes i 0) rest))
-        ≡ option_map (λ (more : List (List ℕ)). got ++ more) (parts_of (drop i sizes) rest)
+    ≡ option_map (λ (more : List (List ℕ)). got ++ more) (parts_of (drop i sizes) rest)
 unfolding parts_of
 parts_of-taken got sizes i rest more enough =
     let left = parts_of (drop (i + 1) sizes) (drop (get_or sizes i 0) rest) in

@@ -44,7 +44,11 @@ impl Answered {
 
 /// Does the command of these arguments over these files. Error: an allocation failed, and one of the two outputs is cut
 /// short.
-pub(crate) fn run_command(alloc: Global, words: &[&str], files: &mut PassedFiles<'_, '_>) -> Result<Answered, Refusal>
+pub(crate) fn run_command(
+    alloc: Global,
+    words: &[&str],
+    files: &mut PassedFiles<'_, '_>,
+) -> Result<Answered, Refusal>
     ensures answered { IfOk result (λ a. IsAnswered (texts_of words.now)
         (file_in (texts_of files.old.names.now) (texts_of files.old.files.now)) a.status a.out.items a.err.items) }
     ensures stated { result ≢ Err Refusal.Unstated }

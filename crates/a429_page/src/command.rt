@@ -79,7 +79,12 @@ pub extern "C" fn a429_command(
 }
 
 /// The answer of the command that the bytes state.
-fn stated_answer(alloc: Global, sizes: &[usize], bytes: &[u8], words: usize) -> Result<Answered, Refusal>
+fn stated_answer(
+    alloc: Global,
+    sizes: &[usize],
+    bytes: &[u8],
+    words: usize,
+) -> Result<Answered, Refusal>
     ensures answered { IfOk result (λ a. IsAnswerTo words sizes.now bytes.now a.status a.out.items a.err.items) }
     ensures unstated { result ≡ Err Refusal.Unstated → IsUnstated words sizes.now bytes.now }
 {

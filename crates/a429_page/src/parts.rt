@@ -8,7 +8,11 @@ use std::alloc::Global;
 use std::str::from_utf8;
 
 /// The bytes, cut into parts of these sizes. Error: there are too few bytes, or an allocation failed.
-pub(crate) fn parts<'a>(alloc: Global, sizes: &[usize], bytes: &'a [u8]) -> Result<Vec<&'a [u8]>, Refusal>
+pub(crate) fn parts<'a>(
+    alloc: Global,
+    sizes: &[usize],
+    bytes: &'a [u8],
+) -> Result<Vec<&'a [u8]>, Refusal>
     ensures parts { IfOk result (λ parts. parts_of sizes.now bytes.now ≡ Some (texts_of parts.items)) }
     ensures unstated { result ≡ Err Refusal.Unstated → parts_of sizes.now bytes.now ≡ None }
 {

@@ -51,7 +51,7 @@ group_later test number group groups None is some =
     place_in_more test (group_stops (number, group)) (flat_map group_stops (enumerate_from (number + 1) groups)) ∙ rw (← is) refl
 group_later test number group groups (Some p) is some = cc
 
--- no stop fails a test just if all pass it
+-- no stop fails a test if and only if all pass it
 pub none_fails : (test : Stop → Bool) (stops : List Stop) → not (is_some (place_in (λ s. not (test s)) stops)) ≡ list_all test stops
 none_fails test [] = refl
 none_fails test (s ∷ stops) = go (test s) refl (none_fails test stops)
