@@ -202,7 +202,7 @@ fn text_fault(
 /// a comment above each group, source and receiver whose text differs from its name. Two texts of a column that become
 /// one name are refused: the fault is the first line whose text differs from the text of an earlier line with the same
 /// name. This comes before any other fault except three: a row with too many fields, a field that does not end as a field in
-/// quotes does, and a row of data above the heading.
+/// quotes does, and a row of data above the heading. Without a heading no names are made.
 pub fn import_table(
     alloc: Global,
     maps: &[&str],
