@@ -4,7 +4,7 @@
 //! `Hub::open` makes the shared table of an equipment, and a `Desk`, which gives out each receiver and each transmitter once.
 //! `Receiver::accept` takes a raw word. `Transmitter::load` has an accepted word of a source; tests say that it is the last
 //! one. Its clauses promise only that the count of accepted words does not fall, until `Transmitter::meet` shows that what
-//! was loaded is what the receiver accepted. All wait for nobody and allocate no memory, on any threads.
+//! was loaded is what the receiver accepted. The three wait for nobody and allocate no memory, on any threads.
 //!
 //! ```text
 //! let (hub, mut desk) = Hub::<SOURCES, COUNT_BITS>::open(alloc, equipment)?;
