@@ -73,7 +73,9 @@ pub fn refusal_of(
     }
 }
 
-/// Judges a plan text by an equipment: the verdict is `Fewest`, or `No` with what `refusal_of` answers. Errors: the same.
+/// Judges a plan text by an equipment: the verdict is `Fewest`, or `No` with what `refusal_of` answers. Errors:
+/// `Unfit`, the first output in table order whose interval allows no grid period at the bit rate of its group; `NoMemory`,
+/// an allocation failed.
 pub fn judge(alloc: Global, equipment: &Equipment, text: &[u8]) -> Result<Verdict, NoVerdict>
     // The first line that fails, with its first reason.
     ensures answer { IfOk result (λ v. (t : Due) × IsDue equipment.now t × (v ≡ verdict t text.now)) }

@@ -1,13 +1,10 @@
 //! The current value of each source, shared by threads: receivers accept words, and transmitters load the last
 //! accepted one, each by one step on one word of a table.
 //!
-//! `Hub::open` makes the shared table of an equipment, and a `Desk`, which gives out each receiver and each transmitter
-//! once. `Receiver::accept` takes a raw word. `Transmitter::load` has an accepted word of a source, or `None`. Both wait
-//! for nobody and allocate no memory, on any threads.
-//!
-//! The clauses of `load` promise only that the word was accepted no earlier than that of any earlier load of the source
-//! by this transmitter. That it is the last accepted word is tested. `Transmitter::meet` proves it afterwards: then the
-//! loads agree with what the receiver accepted.
+//! `Hub::open` makes the shared table of an equipment, and a `Desk`, which gives out each receiver and each transmitter once.
+//! `Receiver::accept` takes a raw word. `Transmitter::load` has an accepted word of a source; tests say that it is the last
+//! one. Its clauses promise only that the count of accepted words does not fall, until `Transmitter::meet` shows that what
+//! was loaded is what the receiver accepted. The three wait for nobody and allocate no memory, on any threads.
 //!
 //! ```text
 //! let (hub, mut desk) = Hub::<SOURCES, COUNT_BITS>::open(alloc, equipment)?;

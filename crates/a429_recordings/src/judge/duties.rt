@@ -192,14 +192,14 @@ fn is_wide(duty: &Duty) -> bool
     product(SLOT_TIME, facts.period) < 2 * product(facts.tolerance, facts.rate)
 }
 
-/// Whether it is at one of these.
+/// Whether the tolerance of one of these outputs is more than half its period.
 fn is_wide_at(duties: &[Duty]) -> bool
     ensures { result ≡ list_any is_wide duties.now }
 {
     duties.iter().any(|duty| is_wide(duty))
 }
 
-/// Whether it is at an output of the plan. Error: an allocation failed.
+/// Whether the tolerance of an output of the plan is more than half its period. Error: an allocation failed.
 pub fn is_any_wide(
     alloc: Global,
     proposal: &Proposal<OUTPUTS>,
