@@ -1,4 +1,4 @@
--- The faults that a row shows by itself, which are sought first: without them a table has few rows (profile: docs/FORMATS.md, the kinds of `refused table`).
+-- The faults that a row shows by itself, which are sought first: without them a table has few rows (profile: docs/FORMATS.md, Equipment table).
 use Rattle.std.specs.Prelude.{Bool, false, not, List, [], ◌∷◌}
 use Rattle.a429_equipment.specs.declared.version.TableVersion.{TableVersion}
 use Rattle.a429_table.specs.declared.early.Sought.{Sought}

@@ -1,4 +1,4 @@
--- The faults of a table: which kind is at which place.
+-- The faults of a table: which kind is at which place (profile: docs/FORMATS.md, Equipment table).
 use Rattle.std.specs.Prelude.{codes, ℕ, List, [], ◌∷◌, length, map, filter, ℤ, pos, negsuc, Bool, true, false, not, ◌&&◌, ◌||◌, Option, Some, None, is_none, slice_get, nat_lt, nat_le, int_le, ◌==◌}
 use Rattle.std.specs.Option.{option_map_or, option_and_then}
 use Rattle.std.specs.Ordering.{int_eq}

@@ -1,5 +1,5 @@
 -- How repeats are found among the rows of the record. A row repeats an earlier one here if the format says so, provided
--- that the table has no fault of an earlier kind.
+-- that the table has no fault of an earlier kind (profile: docs/FORMATS.md, Equipment table).
 use Rattle.std.specs.Prelude.{◌≡◌, ◌==◌, ◌+◌, ◌*◌, ◌^◌, ℕ, min, List, [], ◌∷◌, map, filter, replicate, Bool, false, not, Option, slice_get, slice_index, slice_index_or, slice_set, bit_and, bit_or}
 use Rattle.std.specs.Option.{option_map_or}
 use Rattle.toml.specs.Data.{Data}

@@ -1,4 +1,4 @@
--- The root and the places of a walk, as the code holds them.
+-- The root and the places of a walk, as the code holds them (vocabulary of contracts).
 use Rattle.toml.specs.Data.{Data}
 use Rattle.toml.specs.View.{view}
 use Rattle.a429_table.specs.declared.table_index.TableIndex.{TableIndex}

@@ -1,4 +1,4 @@
--- The places of a table in walk order, each with its value.
+-- The places of a table in walk order, each with its value (profile: docs/FORMATS.md, Equipment table).
 use Rattle.std.specs.Prelude.{codes, ℕ, List, [], ◌∷◌, ◌++◌, map, take, Option, Some, None, slice_get}
 use Rattle.std.specs.List.{enumerate_from, flat_map}
 use Rattle.toml.specs.Data.{Data}
