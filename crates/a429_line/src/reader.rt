@@ -84,8 +84,8 @@ impl LineReader {
     }
 
     /// Takes the symbols of the bytes from a place on, up to the next report, and gives that report; bytes without a
-    /// symbol are skipped. The place is then the one after the bytes that were taken. Without a report all bytes were
-    /// taken.
+    /// symbol are skipped. The place is then the one after the bytes that were taken. `None` if no report is due; then
+    /// all bytes were taken.
     // The reader then stands for each line that it stood for, followed by the symbols of the bytes taken. The report is
     // the one that the longer line has and the shorter one lacks.
     pub fn next(&mut self, bytes: &[u8], from: &mut usize) -> Option<Found>
