@@ -22,9 +22,9 @@ use a429_equipment::{Equipment, StationRows};
 use std::alloc::{AllocError, Global};
 use toml::Value;
 
-/// Reads an equipment table, as TOML (profile: equipment table, versions 1 and 2). The fault is the first by kind, and
-/// of its kind the first in walk order: root, receivers, sources, then each group followed by its outputs. `NoMemory`:
-/// memory ran out, which is answered only for bytes that are UTF-8; for other bytes the fault is `NotToml`.
+/// Reads an equipment table, as TOML (profile: equipment table, versions 1 and 2). Error: the first fault by kind, and of its
+/// kind the first in walk order: root, receivers, sources, then each group followed by its outputs. Or `NoMemory`: memory ran
+/// out, which is answered only for bytes that are UTF-8; for other bytes the fault is `NotToml`.
 pub fn read_equipment(alloc: Global, bytes: &[u8]) -> Result<Equipment, TableFault>
     ensures { GivesUnlessMemory (λ e. e) bytes.now result (reading bytes.now) }
 {
@@ -32,8 +32,8 @@ pub fn read_equipment(alloc: Global, bytes: &[u8]) -> Result<Equipment, TableFau
     read_or_keep(alloc, bytes, &mut unused)
 }
 
-/// Reads an equipment table as `read_equipment` does. If the table is refused, `kept` gets what it was read as, for a hint
-/// to a person.
+/// Reads an equipment table. If the table is refused, `kept` gets what it was read as, for a hint to a person. Error: that of
+/// `read_equipment`.
 #[tactic(auto, using(crate::proofs::Documents::judged_gives))]
 pub fn read_or_keep(
     alloc: Global,

@@ -112,7 +112,8 @@ fn first_fault(
     Ok(first_of_kinds(index, repeats, &stops, &LATE_KINDS))
 }
 
-/// The first fault of a table with these rows, if no row shows one by itself. Error: an allocation failed.
+/// The first fault of a table with these rows, if no row shows one by itself. `None` if it has no fault. Error: an allocation
+/// failed.
 pub fn fault_of(
     alloc: Global,
     index: &TableIndex<'_>,
