@@ -75,7 +75,7 @@ fn propose_second(alloc: Global, table: &[u8]) -> Result<Proposal<OUTPUTS>, Refu
     }
 }
 
-/// What changes from one plan to another. Error: an allocation failed.
+/// What changes from one plan to another. Its rows are left for a hint. Error: an allocation failed.
 fn diff_of(
     alloc: Global,
     first: &Proposal<OUTPUTS>,
@@ -86,7 +86,8 @@ fn diff_of(
     ensures { IfOk result (λ reply. IsFound form diff_columns (diff_rows first.now second.now all) reply.status reply.bytes.items) }
 {
     let sheet = diff_sheet(alloc, first, second, all);
-    found_reply(alloc, &sheet, form)
+    let reply = found_reply(alloc, &sheet, form)?;
+    Ok(reply.with(Found::Rows(sheet)))
 }
 
 /// What changes from the plan of a table to that of another. The first table is refused first, then its plan, then the

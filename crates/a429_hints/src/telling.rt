@@ -5,7 +5,7 @@ use crate::clocks::{tell_apart, tell_clocks};
 use crate::differences::tell_difference;
 use crate::faults::tell_table_fault;
 use crate::files::{REFUSED_OUTPUT, UTF_16, tell_trouble};
-use crate::findings::tell_findings;
+use crate::findings::{tell_changes, tell_findings};
 use crate::hint::HintText;
 use crate::imports::{tell_rows, tell_short_intervals};
 use crate::logs::{tell_close_words, tell_log_line, tell_too_long};
@@ -90,12 +90,19 @@ fn tell_answered(asked: &Asked, answered: &Answered, hint: &HintText) {
 
 /// Says what to do about what was found.
 fn tell_found(asked: &Asked, found: &Sheet, hint: &HintText) {
-    if asked.verb == Verb::Judge {
-        hint.turn_to(asked.third);
-        tell_clocks(asked.second, asked.options.time, found, hint);
-    } else {
-        hint.turn_to(table_name(asked));
-        tell_findings(&found.rows, hint);
+    match asked.verb {
+        Verb::Judge => {
+            hint.turn_to(asked.third);
+            tell_clocks(asked.second, asked.options.time, found, hint);
+        }
+        Verb::Diff => {
+            hint.turn_to(asked.second);
+            tell_changes(&found.rows, hint);
+        }
+        _ => {
+            hint.turn_to(table_name(asked));
+            tell_findings(&found.rows, hint);
+        }
     }
 }
 
