@@ -25,17 +25,17 @@ returns-clause-answered c =
     let no_err : c.new-err.result.writer.items ≡ [] = ap (λ (v : Vec ℕ Global). v.items) c.new-err.ensures.writer ∙ c.new-2.ensures.items in
     record {
       replied = λ r other asks. all_is_put (IsReplyOrMemory file r) status c.new-out.result.writer.items c.command-status.new.out.writer.items no_out
-        (c.command-status.ensures.replied r other asks refl whole);
+          (c.command-status.ensures.replied r other asks refl whole);
       asked = λ r other asks. c.command-status.ensures.asked r other asks;
       quiet = λ r other asks silent zero.
-        let same : c.command-status.new.err ≡ c.new-err.result =
-        known_files (λ p name. file_in (texts_of p.names.now) (texts_of p.files.now) name) (λ of. IsSilent of r → status ≡ 0 → c.command-status.new.err ≡ c.new-err.result)
-        c.args.files.now (c.command-status.ensures.quiet r other asks) silent zero in
-        rw same no_err;
+          let same : c.command-status.new.err ≡ c.new-err.result =
+          known_files (λ p name. file_in (texts_of p.names.now) (texts_of p.files.now) name) (λ of. IsSilent of r → status ≡ 0 → c.command-status.new.err ≡ c.new-err.result)
+          c.args.files.now (c.command-status.ensures.quiet r other asks) silent zero in
+          rw same no_err;
       few = c.command-status.ensures.ends.few;
       helped = λ help. all_is_put (OrNoMemory IsHelpReply) status c.new-out.result.writer.items c.command-status.new.out.writer.items no_out
-        (c.command-status.ensures.ends.helped help whole);
+          (c.command-status.ensures.ends.helped help whole);
       mistaken = λ mistake. mistake_without_failure old_err new_err whole_err status c.command-status.new.out.writer.items
-        (all_is_put (OrNoMemory (IsUsageReply old_err new_err)) status c.new-out.result.writer.items c.command-status.new.out.writer.items no_out
-        (c.command-status.ensures.ends.mistaken mistake whole));
+          (all_is_put (OrNoMemory (IsUsageReply old_err new_err)) status c.new-out.result.writer.items c.command-status.new.out.writer.items no_out
+          (c.command-status.ensures.ends.mistaken mistake whole));
     }
