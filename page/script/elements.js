@@ -49,7 +49,7 @@ function saveCommandButton(name, words, files, type) {
 }
 
 function bar(...children) {
-  return element("div", { class: "bar-of-buttons" }, ...children);
+  return element("div", { class: "bar-of-buttons" }, ...children.filter(Boolean));
 }
 
 function csvText(rows, columns, text) {

@@ -41,6 +41,7 @@ async function takeFiles(list) {
 
 async function addFiles(list) {
   let isChanged = false;
+  setBusy(true);
   for (const file of list) {
     const trouble = await troubleOf(file).catch(() => `${file.name} cannot be read. If it is a folder, drop the files that are in it.`);
     if (trouble) {
@@ -57,9 +58,9 @@ async function addFiles(list) {
     files.push(taken);
     isChanged = true;
   }
-  if (!isChanged) return;
   listFiles();
-  await analyse();
+  if (isChanged) await analyse();
+  else setBusy(false);
 }
 
 // Guesses what a file is by its first lines. The second table is compared with the first one.

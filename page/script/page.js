@@ -55,6 +55,11 @@ function addVerdict(tab, text, isBad) {
   byId("verdict").append(" ", element("a", { href: `#${tab}`, onclick: (event) => { event.preventDefault(); openTab(tab); } }, text));
 }
 
+// Whether results are still to come, for screen readers.
+function setBusy(isBusy) {
+  document.querySelector("main").setAttribute("aria-busy", String(isBusy));
+}
+
 // ---- From files to results
 
 // The table of a spreadsheet or of a file, and what is needed to show a refusal of it. Undefined if the spreadsheet is refused.
@@ -137,6 +142,7 @@ function clear() {
 async function analyse() {
   const mine = ++analysis, look = () => { if (mine !== analysis) throw new Outdated(); };
   const given = files.find(isTable);
+  setBusy(true);
   clear();
   setVerdict("", given ? `Planning ${given.name}` : NO_FILE);
   try {
@@ -144,13 +150,13 @@ async function analyse() {
     look();
     await showJudge(planned);
   } catch (error) {
-    if (error instanceof Outdated) return;
-    if (error instanceof Stopped) return setVerdict("bad", "The run was stopped. Change a file or an option to run again.");
-    setVerdict("bad", element("b", {}, "The run broke off. "), `${error.message}. The page is ready again: a smaller file may do.`);
-    console.warn(error.message);
+    if (error instanceof Outdated || mine !== analysis) return;
+    if (error instanceof Stopped) setVerdict("bad", "The run was stopped. Change a file or an option to run again.");
+    else setVerdict("bad", element("b", {}, "The run broke off. "), `${error.message}. The page is ready again: a smaller file may do.`);
   }
-  if (mine === analysis) listCommands();
-  return undefined;
+  if (mine !== analysis) return;
+  listCommands();
+  setBusy(false);
 }
 
 function listCommands() {

@@ -60,9 +60,10 @@ function findings(lint, lines, name) {
 function showPlan({ table, plan, icd, lint, groups, texts, lines, isImported, warnings }) {
   const header = saveCommandButton("slots.h", ["slots", table.name, "--c"], [table], "text/x-c");
   panel("plan", warnings.length ? note("warn", element("ul", {}, warnings.map((hint) => element("li", {}, hint.text)))) : null,
-    bar(saveButton("table.plan", plan.out), isImported ? saveButton("table.toml", table.blob) : null, header),
-    findings(lint, lines, table.name),
-    groups.flatMap((group) => [groupTitle(group), element("p", { class: "proof" }, proofOf(group)), outputsSheet(group, texts)]));
+    bar(saveButton("table.plan", plan.out), isImported ? saveButton("table.toml", table.blob) : null, header,
+      lint.rows.length ? element("a", { href: "#findings" }, `${count(lint.rows.length, "likely mistake")}, below`) : null),
+    groups.flatMap((group) => [groupTitle(group), element("p", { class: "proof" }, proofOf(group)), outputsSheet(group, texts)]),
+    element("div", { id: "findings" }, findings(lint, lines, table.name)));
 }
 
 // ---- Picture

@@ -27,9 +27,11 @@ impl FileReader for PassedFiles<'_, '_> {
 
     ghost file = { λ p name. file_in (texts_of p.names.now) (texts_of p.files.now) name };
 
-    ghost answers = { λ p name answer q. (q ≡ p) × IsAnswerOf (file_in (texts_of p.names.now) (texts_of p.files.now)) name answer };
+    ghost answers = { λ p name answer q. (q ≡ p)
+        × IsAnswerOf (file_in (texts_of p.names.now) (texts_of p.files.now)) name answer };
 
-    ghost known = { λ p q name answer _ is. (is.1, (λ other. ap (λ k. file_in (texts_of k.names.now) (texts_of k.files.now) other) is.0), refl) };
+    ghost known = { λ p q name answer _ is.
+        (is.1, (λ other. ap (λ k. file_in (texts_of k.names.now) (texts_of k.files.now) other) is.0), refl) };
 
     fn read(&mut self, name: &str, _most: usize) -> Result<Vec<u8>, FileFault> {
         match find_file(self.names, self.files, name) {
