@@ -100,10 +100,7 @@ fn tell_owners(form: &CommandForm, name: &str, hint: &HintText) {
 
 /// Says which option is nearest to one that is none. Its two hyphens are left out of the comparison.
 fn tell_nearest_option(name: &str, hint: &HintText) {
-    let mut nearest = Nearest::after(2, name);
-    for form in commands() {
-        nearest = or_options(hint.alloc, nearest, form.options);
-    }
+    let nearest = or_all_options(hint.alloc, Nearest::after(2, name), commands());
     let nearest = nearest.or(hint.alloc, "help").or(hint.alloc, "version");
     if let Some(other) = nearest.other_name() {
         hint.line_two(
@@ -112,6 +109,19 @@ fn tell_nearest_option(name: &str, hint: &HintText) {
             other,
         );
     }
+}
+
+/// Compares the names of the options of all commands too.
+fn or_all_options<'a>(
+    alloc: Global,
+    nearest: Nearest<'a>,
+    forms: &'a [CommandForm],
+) -> Nearest<'a> {
+    let mut nearest = nearest;
+    for form in forms {
+        nearest = or_options(alloc, nearest, form.options);
+    }
+    nearest
 }
 
 /// Compares the names of options too.
