@@ -1,4 +1,0 @@
-pub mod KnownFiles
-pub mod PartLists
-pub mod Places
-pub mod WrittenAnswers
