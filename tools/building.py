@@ -309,13 +309,17 @@ class Target:
         say("proving what is left, and building")
         os.makedirs(os.path.dirname(self.made), exist_ok=True)
         with tempfile.TemporaryDirectory(dir=os.path.dirname(self.made)) as room:
-            made = os.path.join(room, "made")
-            kind = [] if self.crate.is_program else ["--crate-type", "staticlib"]
-            words = [*kind, "--toolchain", kit() + "/toolchain", "--backend", self.compiler, "-o", made]
-            build(self.name, min(2, processors()), words)
-            os.replace(link(made) if self.crate.is_program else made, self.made)
+            os.replace(self.make(room), self.made)
         if kept.is_untouched(self.name):
             self.keep(kept)
+
+    def make(self, room):
+        """Proves the crate and makes the file in this folder; libraries below it are proved. Its path."""
+        made = os.path.join(room, "made")
+        kind = [] if self.crate.is_program else ["--crate-type", "staticlib"]
+        words = [*kind, "--toolchain", kit() + "/toolchain", "--backend", self.compiler, "-o", made]
+        build(self.name, min(2, processors()), words)
+        return link(made) if self.crate.is_program else made
 
 
 def link(compiled):
@@ -329,9 +333,13 @@ def link(compiled):
 
 
 def build_if_due(name):
-    """Builds the program or the archive of a crate if it is due. A second build waits for the first one, and then has little to
-    do. If it fails, its errors are printed, and the process ends with status 1."""
-    target = Target(name)
+    """Builds the program or the archive of a crate if it is due."""
+    build_target_if_due(Target(name))
+
+
+def build_target_if_due(target):
+    """Builds a target if it is due. A second build waits for the first one, and then has little to do. If it fails, its errors are
+    printed, and the process ends with status 1."""
     if not is_anew() and not target.is_due():
         return
     signal.signal(signal.SIGTERM, lambda *_: sys.exit(1))

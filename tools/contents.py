@@ -12,11 +12,13 @@ from typing import NamedTuple
 
 import building
 import libraries
+import pages
 import repository
 from repository import ROOT, below, crates, kit_line, tracked
 
 # The crates that something is built of.
-TARGETS = ("a429", "a429_c")
+TARGETS = ("a429", "a429_c", "a429_page")
+PAGE = "a429.html"
 DOCUMENTS = "share/doc/a429"
 PYTHON = "lib/python3/dist-packages"
 
@@ -81,15 +83,19 @@ def build(*commands):
         libraries.build()
     except (OSError, subprocess.CalledProcessError) as failed:
         raise Refused(f"the libraries are not built: {last_line(str(failed))}") from None
+    try:
+        pages.build()
+    except building.Failed as failed:
+        raise Refused(f"the page is not made: {last_line(str(failed))}") from None
 
 
 def refuse_changes():
     """Refuses sources that were changed since `build` looked at them: PROVED-BY would have the sums of others than were proved."""
     repository.stamp.cache_clear()
-    for name in TARGETS:
-        fault = building.Target(name).fault()
+    for target in (building.Target("a429"), building.Target("a429_c"), pages.PageModule()):
+        fault = target.fault()
         if fault:
-            raise Refused(f"crates/{name} was changed at the same time: {fault}")
+            raise Refused(f"crates/{target.name} was changed at the same time: {fault}")
 
 
 def stripped(file):
@@ -128,7 +134,7 @@ def proved_by(built):
 def documents():
     """The pages and the examples. A page is where the other pages say that it is."""
     for path in ["README.md", "CONTRIBUTING.md", "CHANGELOG.md", *tracked("docs"), *tracked("examples")]:
-        if path.endswith(".md") or path.startswith("examples/"):
+        if path.endswith((".md", ".png")) or path.startswith("examples/"):
             yield Entry(f"{DOCUMENTS}/{path}", read(path))
     for path in tracked("c/examples"):
         yield Entry(f"{DOCUMENTS}/examples/c/{os.path.basename(path)}", read(path))
@@ -139,7 +145,8 @@ def contents(prefix="${pcfiledir}/../..", lib="lib"):
     without one it uses its own place, so that the folder of all files can be moved."""
     built = [Entry("bin/a429", stripped(building.Target("a429").made), 0o755),
              Entry(f"{lib}/{libraries.ARCHIVE}", read("out", libraries.ARCHIVE)),
-             Entry(f"{lib}/{libraries.SHARED}", read("out", libraries.SHARED))]
+             Entry(f"{lib}/{libraries.SHARED}", read("out", libraries.SHARED)),
+             Entry(f"{DOCUMENTS}/{PAGE}", read("out", PAGE))]
     found = [*built,
              Entry(f"{lib}/{libraries.LINK}", link=libraries.SHARED),
              Entry(f"{lib}/pkgconfig/a429.pc", libraries.pkg_config(prefix, lib, "include").encode()),

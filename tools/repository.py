@@ -128,7 +128,7 @@ def commit():
     """The commit of the checkout, and whether a file of these folders differs from it: what is built and installed, and how.
     Raises an OSError or a CalledProcessError if git knows none."""
     name, seconds, author = git("log", "-1", "--format=%H%n%ct%n%an <%ae>").splitlines()
-    parts = ("crates.txt", "crates", "c", "docs", "examples", "tools", "README.md", "CONTRIBUTING.md", "CHANGELOG.md")
+    parts = ("crates.txt", "crates", "c", "page", "docs", "examples", "tools", "README.md", "CONTRIBUTING.md", "CHANGELOG.md")
     return Commit(name, int(seconds), author, bool(git("status", "--porcelain", "--", *parts)))
 
 

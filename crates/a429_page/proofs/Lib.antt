@@ -1,0 +1,4 @@
+pub mod KnownFiles
+pub mod PartLists
+pub mod Places
+pub mod WrittenAnswers

@@ -1,0 +1,70 @@
+// The tab Loads.
+
+let loadLimit = 80;
+
+// A bar with the load of a bus, and a mark at the limit.
+function loadBar(percent) {
+  const filled = element("i"), mark = element("b");
+  filled.style.width = `${Math.min(percent, 100)}%`;
+  mark.style.left = `${loadLimit}%`;
+  return element("div", { class: percent > loadLimit ? "load above" : "load", role: "img", "aria-label": `${percent} per cent, limit ${loadLimit}` },
+    filled, loadLimit ? mark : null);
+}
+
+// How many more outputs a bus takes, by their period in slots.
+const roomsOf = (row) => Object.entries(row).filter(([name, value]) => name.startsWith("room_") && value != null);
+
+function roomList(row) {
+  return element("span", { class: "rooms" }, roomsOf(row).map(([name, value]) => element("span", { class: value ? null : "none" },
+    element("i", {}, `P${name.slice(5)} `), value.toLocaleString("en"))));
+}
+
+function busesSheet(group, rows) {
+  return sheet(rows, { name: `load-${group}`, caption: `Buses of ${group}`, columns: ["bus", "percent", "load", "cells", "free", "words_s", "room"],
+    titles: { percent: "load, %", load: "", words_s: "words/s", room: "room for more outputs with period P (slots)" },
+    text: (row, column) => column === "room" ? roomsOf(row).map(([name, value]) => `${name}=${value}`).join(" ") : "",
+    cell: (row, column) => ({ percent: () => row.percent.toFixed(1), load: () => loadBar(row.percent), room: () => roomList(row) })[column]?.() });
+}
+
+// What saves a bus: the outputs whose maximum interval would have to be longer.
+function savingsOf(group, margin) {
+  const whole = margin.find((row) => row.group === group && row.source == null);
+  const choices = margin.filter((row) => row.group === group && row.source != null), chosen = choices.filter((row) => row.choose === "yes");
+  if (chosen.length) {
+    const rows = chosen.map((row) => ({ source: row.source, period: row.period, next: row.next, less: row.less, max_us: row.max_us }));
+    return element("details", {}, element("summary", {}, `To save a bus, free ${count(whole.excess, "cell")}: `
+      + `lengthen the maximum interval of ${count(chosen.length, "output")}`),
+    sheet(rows, { name: `margin-${group}`, caption: "Outputs that would be sent half as often",
+      titles: { next: "next period", less: "cells less", max_us: "max, µs" } }));
+  }
+  return choices.length ? element("p", { class: "dim" }, "If each output is sent at most half as often, no bus is saved.") : null;
+}
+
+async function showLoads({ table, margin }) {
+  const place = element("div");
+  const show = async () => {
+    const answer = await run(["load", table.name, "--json", ...loadLimit ? ["--limit", String(loadLimit)] : []], [table]);
+    if (answer.status > 1) return place.replaceChildren(refusal(answer, table.name));
+    const rows = answer.rows;
+    place.replaceChildren(...[...new Set(rows.map((row) => row.group))].flatMap((group) => {
+      const own = rows.filter((row) => row.group === group), whole = own.find((row) => row.bus == null);
+      const buses = own.filter((row) => row.bus != null);
+      const needed = whole.needed == null ? null : element("p", { class: "bad-text" }, whole.needed === "none"
+        ? `One output alone takes more than ${loadLimit} per cent of a bus.`
+        : `A bus is above ${loadLimit} per cent. ${count(whole.needed, "bus", "buses")} can keep to it, if outputs are spread evenly.`);
+      return [element("h2", {}, group, element("small", {}, `${whole.percent} % of ${count(buses.length, "bus", "buses")} · `
+        + `${whole.free.toLocaleString("en")} of ${(whole.cells + whole.free).toLocaleString("en")} cells free`)),
+      needed, busesSheet(group, buses), savingsOf(group, margin)].filter(Boolean);
+    }));
+  };
+  const limit = element("input", { type: "text", inputmode: "numeric", size: "4", value: loadLimit || "", onchange: (event) => {
+    const wanted = Number(event.target.value);
+    loadLimit = Number.isInteger(wanted) && wanted >= 1 && wanted <= 100 ? wanted : 0;
+    event.target.value = loadLimit || "";
+    show();
+  } });
+  panel("loads", bar(element("label", {}, "Limit, per cent (1 to 100)", limit),
+    saveCommandButton("load.csv", ["load", table.name, "--csv"], [table], "text/csv"),
+    saveCommandButton("margin.csv", ["margin", table.name, "--csv"], [table], "text/csv")), place);
+  await show();
+}
