@@ -404,7 +404,8 @@ fn margin_text(table: &Table) -> Result<String, Fault> {
         let numbers = [plan.frame, plan.buses, excess, bound];
         let mut row = vec![group.name.clone()];
         row.extend(numbers.map(|number| number.to_string()));
-        row.resize(MARGIN_COLUMNS.len(), String::new());
+        row.resize(MARGIN_COLUMNS.len() - 1, String::new());
+        row.push(if plan.buses < 2 { "" } else if chosen.is_some() { "yes" } else { "no" }.into());
         rows.push(row);
         for placed in plan.placed.iter().filter(|placed| plan.buses > 1 && placed.period < plan.frame) {
             let (from, to) = (placed.period, 2 * placed.period);

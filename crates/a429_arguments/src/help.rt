@@ -164,7 +164,8 @@ each output that could have a longer period:
   source, period  an output, and its period in slots
   next, less      the next longer period, and how many cells that would free
   max_us          the maximum transmit interval that it needs for that
-  choose          if all outputs with `yes` get their max_us, a bus is saved
+  choose          if all outputs with `yes` get their max_us, a bus is saved;
+                  in the row of the group: whether any choice saves one
 
 Example:
   a429 margin examples/air_data_and_inertial/station.toml";

@@ -1,5 +1,5 @@
 -- What would save a bus in each group: the rows of `margin` (profile: margin).
-use Rattle.std.specs.Prelude.{ℕ, ◌-◌, ◌*◌, ◌/◌, ◌^◌, ◌≤◌, ◌≡◌, ◌⊎◌, List, [], ◌∷◌, ◌++◌, Bool, true, false, Option, None, OnOk, Result, Some, codes, if◌then◌else◌, length, map, nat_lt, replicate, slice_index_or, sum}
+use Rattle.std.specs.Prelude.{ℕ, ◌-◌, ◌*◌, ◌/◌, ◌^◌, ◌≤◌, ◌≡◌, ◌⊎◌, List, [], ◌∷◌, ◌++◌, Bool, true, false, Option, None, OnOk, Result, Some, codes, if◌then◌else◌, is_some, length, map, nat_lt, replicate, slice_index_or, sum}
 use Rattle.std.specs.List.{flat_map, range_with_len}
 use Rattle.a429_text.specs.Fields.{Field, Text, Number, Absent}
 use Rattle.a429_equipment.specs.TableRecord.{TableRecord}
@@ -44,19 +44,24 @@ margin_columns =
 abbrev pub nothing : ℕ → List Field
 nothing count = replicate count Absent
 
--- The row of a group: its frame in slots, and its buses. Then the cells that are too many for one bus less: those for which the other buses have no
--- room. Last the number of buses that any schedule needs at least for the intervals themselves.
-abbrev pub group_row_of : GroupRow → SlotTable → ℕ → List Field
-group_row_of g t bound =
-    Text g.name ∷ Number (frame_of t) ∷ Number (buses_of t)
-    ∷ Number (sum (demands_of t) - (buses_of t - 1) * frame_of t) ∷ Number bound ∷ nothing 6
-
-abbrev pub group_row : GroupRow → List OutputRow → SlotTable → List Field
-group_row g rows t = group_row_of g t (raw_bound (map (window_of g.rate) rows))
-
 abbrev pub yes_or_no : Bool → Field
 yes_or_no true = Text (codes "yes")
 yes_or_no false = Text (codes "no")
+
+-- whether a choice saves a bus; nothing, if the group has one bus
+abbrev pub saves : ℕ → Option (List Bool) → Field
+saves buses chosen = if nat_lt buses 2 then Absent else yes_or_no (is_some chosen)
+
+-- The row of a group: its frame in slots, and its buses. Then the cells that are too many for one bus less: those for which the other buses have no
+-- room. Then the number of buses that any schedule needs at least for the intervals themselves. Last whether a choice saves a bus.
+abbrev pub group_row_of : GroupRow → SlotTable → ℕ → Option (List Bool) → List Field
+group_row_of g t bound chosen =
+    Text g.name ∷ Number (frame_of t) ∷ Number (buses_of t)
+    ∷ Number (sum (demands_of t) - (buses_of t - 1) * frame_of t) ∷ Number bound ∷ nothing 5
+    ++ (saves (buses_of t) chosen ∷ [])
+
+abbrev pub group_row : GroupRow → List OutputRow → SlotTable → Option (List Bool) → List Field
+group_row g rows t chosen = group_row_of g t (raw_bound (map (window_of g.rate) rows)) chosen
 
 -- The row of an output with the next longer period: both periods in slots, the number of its cells in this frame that become free (half of them), the
 -- maximum interval that it needs, and whether it is chosen.
@@ -79,13 +84,10 @@ outputs_margin sources g t chosen = flat_map (output_margin sources g t chosen) 
 abbrev pub choice_rows : List SourceRow → GroupRow → SlotTable → Option (List Bool) → List (List Field)
 choice_rows sources g t chosen = if nat_lt (buses_of t) 2 then [] else outputs_margin sources g t chosen
 
--- these rows with a right choice
-abbrev pub AreChoiceRows : List SourceRow → GroupRow → SlotTable → List (List Field) → Type 0
-AreChoiceRows sources g t rows = (chosen : Option (List Bool)) × IsChoice (periods_of t) (buses_of t) chosen × (rows ≡ choice_rows sources g t chosen)
-
--- a group, and the outputs that could free cells
+-- a group with a right choice, and the outputs that could free cells
 abbrev pub IsGroupMargin : List SourceRow → GroupRow → List OutputRow → SlotTable → List (List Field) → Type 0
-IsGroupMargin sources g rows t all = (choice : List (List Field)) × AreChoiceRows sources g t choice × (all ≡ group_row g rows t ∷ choice)
+IsGroupMargin sources g rows t all = (chosen : Option (List Bool)) × IsChoice (periods_of t) (buses_of t) chosen
+    × (all ≡ group_row g rows t chosen ∷ choice_rows sources g t chosen)
 
 -- the rows of each group, in table order
 abbrev pub AreMargins : List SourceRow → List GroupRow → List (List OutputRow) → List SlotTable → List (List Field) → Type 0

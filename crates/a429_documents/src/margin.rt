@@ -8,7 +8,7 @@ ghost use Rattle.a429_pack.specs.Demanded.{IsBusCount};
 ghost use Rattle.a429_pack.specs.Windows.{raw_bound};
 ghost use Rattle.a429_slots.specs.Planned.{HaveSources, IsPlannedFor};
 ghost use Rattle.a429_slots.specs.Tables.{buses_of, demands_of, frame_of, outputs_of, source_of};
-ghost use Rattle.a429_documents.specs.Margins.{AddsSuch, AreChoiceRows, IsChoice, IsGroupMargin, IsMargin, group_row_of, is_chosen, margin_columns, output_margin, outputs_margin, periods_of, wider_row, window_of, yes_or_no};
+ghost use Rattle.a429_documents.specs.Margins.{AddsSuch, IsChoice, IsGroupMargin, IsMargin, choice_rows, group_row_of, is_chosen, margin_columns, output_margin, outputs_margin, periods_of, saves, wider_row, window_of, yes_or_no};
 ghost use Rattle.a429_cert.specs.PlanText.{HasSources};
 
 use crate::document::number;
@@ -161,30 +161,6 @@ fn add_outputs(
     }
 }
 
-/// Adds the rows of the outputs that could free cells, if the group has more than one bus.
-fn add_choice(
-    alloc: Global,
-    rows: &mut Rows,
-    sources: &[SourceRow],
-    group: &GroupRow,
-    table: &GroupPlan<OUTPUTS>,
-) -> Result<(), AllocError>
-    requires rate { 1 ≤ group.now.rate }
-    requires known { HasSources sources.now table.now }
-    requires count { IsBusCount (periods_of table.now) (buses_of table.now) }
-    ensures { AddsSuch result rows.old rows.new (AreChoiceRows sources.now group.now table.now) }
-{
-    let buses = table.buses();
-    if buses < 2 {
-        return Ok(());
-    }
-    let periods = periods(alloc, table)?;
-    let mut marks = Vec::from_elem(alloc, false, table.outputs())?;
-    let chosen = choice(&periods, buses, &mut marks);
-    add_outputs(rows, sources, group, table, chosen);
-    Ok(())
-}
-
 /// The number of buses that any schedule within the intervals of these outputs needs at least.
 fn bound_of(alloc: Global, rate: u32, outputs: &[OutputRow]) -> Result<usize, AllocError>
     requires rate { rate ≤ 100000 }
@@ -196,10 +172,27 @@ fn bound_of(alloc: Global, rate: u32, outputs: &[OutputRow]) -> Result<usize, Al
     Ok(raw_bound(&windows))
 }
 
-/// Adds the row of a group, with this raw bound.
-fn add_group_row(rows: &mut Rows, group: &GroupRow, table: &GroupPlan<OUTPUTS>, bound: usize)
+/// Whether a choice saves a bus. Nothing, if the group has one bus.
+fn saves(buses: u32, chosen: Option<&[bool]>) -> Cell<'static>
+    ensures { field_of result ≡ saves buses (option_copied chosen.entry) }
+{
+    if buses < 2 {
+        Cell::Absent
+    } else {
+        yes_or_no(chosen.is_some())
+    }
+}
+
+/// Adds the row of a group, with this raw bound and this choice.
+fn add_group_row(
+    rows: &mut Rows,
+    group: &GroupRow,
+    table: &GroupPlan<OUTPUTS>,
+    bound: usize,
+    chosen: Option<&[bool]>,
+)
     requires { (buses_of table.now - 1) * frame_of table.now ≤ sum (demands_of table.now) }
-    ensures { rows.new ≡ rows.old ++ group_row_of group.now table.now bound ∷ [] }
+    ensures { rows.new ≡ rows.old ++ group_row_of group.now table.now bound (option_copied chosen.entry) ∷ [] }
 {
     let frame = table.frame();
     let buses = table.buses();
@@ -215,8 +208,25 @@ fn add_group_row(rows: &mut Rows, group: &GroupRow, table: &GroupPlan<OUTPUTS>, 
         Cell::Absent,
         Cell::Absent,
         Cell::Absent,
-        Cell::Absent,
+        saves(buses, chosen),
     ]);
+}
+
+/// Adds the rows of the outputs that could free cells, if the group has more than one bus.
+fn add_choice(
+    rows: &mut Rows,
+    sources: &[SourceRow],
+    group: &GroupRow,
+    table: &GroupPlan<OUTPUTS>,
+    chosen: Option<&[bool]>,
+)
+    requires rate { 1 ≤ group.now.rate }
+    requires known { HasSources sources.now table.now }
+    ensures { rows.new ≡ rows.old ++ choice_rows sources.now group.now table.now (option_copied chosen.entry) }
+{
+    if table.buses() >= 2 {
+        add_outputs(rows, sources, group, table, chosen);
+    }
 }
 
 /// Adds the rows of a group.
@@ -237,8 +247,12 @@ fn add_group(
 {
     fewest_by_demand();
     let bound = bound_of(alloc, group.rate, outputs)?;
-    add_group_row(rows, group, table, bound);
-    add_choice(alloc, rows, sources, group, table)
+    let periods = periods(alloc, table)?;
+    let mut marks = Vec::from_elem(alloc, false, table.outputs())?;
+    let chosen = choice(&periods, table.buses(), &mut marks);
+    add_group_row(rows, group, table, bound, chosen);
+    add_choice(rows, sources, group, table, chosen);
+    Ok(())
 }
 
 /// Adds the rows of each group, in table order.
@@ -262,9 +276,9 @@ fn add_groups(
 }
 
 /// What would save a bus in each group of a proposal's plan, in table order (profile: margin). The row of a group has its
-/// frame in slots, its buses, its excess cells for one bus less, and the raw bound. If the group
-/// has more than one bus, a row follows for each output whose maximum interval could be longer. The chosen outputs save a
-/// bus and free the fewest cells. Error: an allocation failed.
+/// frame in slots, its buses, its excess cells for one bus less, and the raw bound. If the group has more than one bus,
+/// its row says whether a choice of outputs saves a bus, and a row follows for each output whose maximum interval could be
+/// longer. The chosen outputs save a bus and free the fewest cells. Error: an allocation failed.
 pub fn margin_sheet(alloc: Global, proposal: &Proposal<OUTPUTS>) -> Result<Sheet, AllocError>
     ensures columns { IfOk result (λ sheet. map (λ name. name.now) sheet.columns.now ≡ margin_columns) }
     ensures rows { IfOk result (λ sheet. IsMargin proposal.now.station proposal.now.plan sheet.rows) }

@@ -4,7 +4,7 @@ ghost use Rattle.a429_page.specs.Calls.{IsAnswerTo, IsGiven, IsTooMuch, IsUnstat
 
 use crate::answering::{Answered, run_command};
 use crate::files::PassedFiles;
-use crate::parts::{parts, texts};
+use crate::parts::{divide, parts, texts};
 use crate::room::put;
 use std::alloc::Global;
 
@@ -89,13 +89,12 @@ fn stated_answer(
     ensures unstated { result ≡ Err Refusal.Unstated → IsUnstated words sizes.now bytes.now }
 {
     let parts = parts(alloc, sizes, bytes)?;
-    let (words, rest) = parts.split_at(words.min(parts.len()));
-    let (names, files) = rest.split_at(rest.len() / 2);
+    let divided = divide(&parts, words);
+    let words = texts(alloc, divided.words)?;
     let mut files = PassedFiles {
         alloc,
-        names,
-        files,
+        names: divided.names,
+        files: divided.files,
     };
-    let words = texts(alloc, words)?;
     run_command(alloc, &words, &mut files)
 }

@@ -1,7 +1,7 @@
 //! The parts of a call, and the arguments among them.
 ghost use Rattle.std.specs.Prelude.{◌≡◌, false, Err, IfOk, None, Some};
 ghost use Rattle.a429_arguments.specs.Texts.{texts_of};
-ghost use Rattle.a429_page.specs.Parts.{are_texts, parts_of};
+ghost use Rattle.a429_page.specs.Parts.{are_texts, files_in, names_in, parts_of, words_in};
 
 use crate::command::Refusal;
 use std::alloc::Global;
@@ -46,4 +46,31 @@ pub(crate) fn texts<'a>(alloc: Global, words: &[&'a [u8]]) -> Result<Vec<&'a str
         }
     }
     Ok(texts)
+}
+
+/// What the parts of a call are.
+#[derive(Clone, Copy)]
+pub(crate) struct Divided<'a, 'b> {
+    /// The arguments.
+    pub(crate) words: &'a [&'b [u8]],
+    /// The names of the files.
+    pub(crate) names: &'a [&'b [u8]],
+    /// The bytes of these files.
+    pub(crate) files: &'a [&'b [u8]],
+}
+
+/// Divides the parts: the first are the arguments, as many as `words` says; half of the others are names, and the rest are
+/// files.
+pub(crate) fn divide<'a, 'b>(parts: &'a [&'b [u8]], words: usize) -> Divided<'a, 'b>
+    ensures words { texts_of result.words.now ≡ words_in words (texts_of parts.now) }
+    ensures names { texts_of result.names.now ≡ names_in words (texts_of parts.now) }
+    ensures files { texts_of result.files.now ≡ files_in words (texts_of parts.now) }
+{
+    let (words, rest) = parts.split_at(words.min(parts.len()));
+    let (names, files) = rest.split_at(rest.len() / 2);
+    Divided {
+        words,
+        names,
+        files,
+    }
 }
