@@ -277,8 +277,8 @@ fn add_groups(
 
 /// What would save a bus in each group of a proposal's plan, in table order (profile: margin). The row of a group has its
 /// frame in slots, its buses, its excess cells for one bus less, and the raw bound. If the group has more than one bus,
-/// its row says whether a choice of outputs saves a bus, and a row follows for each output whose maximum interval could be
-/// longer. The chosen outputs save a bus and free the fewest cells. Error: an allocation failed.
+/// its row says whether a choice of outputs saves a bus. Then a row follows for each output whose maximum interval could
+/// be longer. The chosen outputs save a bus and free the fewest cells. Error: an allocation failed.
 pub fn margin_sheet(alloc: Global, proposal: &Proposal<OUTPUTS>) -> Result<Sheet, AllocError>
     ensures columns { IfOk result (λ sheet. map (λ name. name.now) sheet.columns.now ≡ margin_columns) }
     ensures rows { IfOk result (λ sheet. IsMargin proposal.now.station proposal.now.plan sheet.rows) }
