@@ -122,7 +122,7 @@ reversed_small n (suc count) raw =
     subst (λ (p : ℕ). bit n raw * 2 ^ count + reversed_from (n + 1) count raw < p) (sym (power_next count))
     (bit_cases (bit n raw) (2 ^ count) (reversed_from (n + 1) count raw) one (reversed_small (n + 1) count raw))
 
-place_small : (raw : ℕ) → place_of raw < 1024
+pub place_small : (raw : ℕ) → place_of raw < 1024
 place_small raw = omega (arith, reversed_small 1 8 raw, number_is 8 2 raw)
 
 same_line : (name : List ℕ) (a b : Figures) (c d : List Figures) → a ≡ b → c ≡ d → ◌≡◌ {A = LineKept} record { name = name; all = a; each = c } record { name = name; all = b; each = d }

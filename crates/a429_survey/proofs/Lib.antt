@@ -3,6 +3,7 @@ pub mod Kept
 pub mod LineFigures
 pub mod NamesMore
 pub mod Order
+pub mod Pairs
 pub mod Places
 pub mod RowsMore
 pub mod SheetRows

@@ -1,13 +1,13 @@
 -- The places of names.
-use Rattle.std.proofs.Common.{◌≡◌, ℕ, zero, suc, ◌+◌, ◌<◌, ◌≤◌, List, [], ◌∷◌, Bool, true, false, length, get_or, refl, sym, ap, subst, ◌∙◌, inl, inr, arith}
-use Rattle.std.specs.Prelude.{Some, bytes_eq, insert, option_map, slice_get}
+use Rattle.std.proofs.Common.{◌≡◌, ℕ, zero, suc, ◌+◌, ◌<◌, ◌≤◌, List, [], ◌∷◌, Bool, true, false, length, get_or, set, refl, sym, ap, subst, ◌∙◌, inl, inr, arith}
+use Rattle.std.specs.Prelude.{Some, bytes_eq, insert, option_map, slice_get, slice_index_or}
 use Rattle.std.specs.Ordering.{is_eq}
 use Rattle.std.proofs.lemmas.Bool.{cases_Bool}
 use Rattle.std.proofs.lemmas.Option.{none-some, same_Some, slice_get-get_or, slice_get-map, slice_get_within}
 use Rattle.std.proofs.lemmas.List.{length-map}
 use Rattle.std.proofs.lemmas.Slice.Eq.{bytes_eq-Decides}
 use Rattle.a429_word.proofs.Lists.{clash}
-use Rattle.a429_survey.specs.Kept.{Ascend, IsBeforeAll, LineKept, is_before, line_of, names_in, no_figures, place_for, with_line}
+use Rattle.a429_survey.specs.Kept.{Ascend, IsBeforeAll, LineKept, is_before, line_of, line_with, names_in, no_figures, place_for, with_line}
 use Rattle.a429_survey.proofs.Order.{before_on, before_self, by_bytes, equal_is, equal_self}
 
 -- a line that no name has
@@ -129,3 +129,42 @@ name_after name lines looked new place line looked_is within line_is new_is =
 pub found_after : (name : List ℕ) (lines seen : List LineKept) (place : ℕ) → Ascend (names_in lines) → seen ≡ lines → slice_get (names_in seen) place ≡ Some name → lines ≡ with_line name lines
 found_after name lines seen place order seen_is there =
     sym (found_line name lines place order (ap (λ (ls : List LineKept). slice_get (names_in ls) place) (sym seen_is) ∙ there))
+
+-- what is done when a name has a line: it takes the word
+pub noted_found : (time raw : ℕ) (name : List ℕ) (lines seen new : List LineKept) (place : ℕ) → Ascend (names_in lines) → seen ≡ lines → slice_get (names_in seen) place ≡ Some name
+    → ((d : LineKept) → new ≡ set lines place (line_with time raw (slice_index_or lines place d)))
+    → (d : LineKept) → new ≡ set (with_line name lines) place (line_with time raw (slice_index_or (with_line name lines) place d))
+noted_found time raw name lines seen new place order seen_is there new_is d =
+    let same : lines ≡ with_line name lines = found_after name lines seen place order seen_is there in
+    new_is d ∙ ap (λ (ls : List LineKept). set ls place (line_with time raw (slice_index_or ls place d))) same
+
+pub named_found : (name : List ℕ) (lines seen : List LineKept) (place : ℕ) → Ascend (names_in lines) → seen ≡ lines → slice_get (names_in seen) place ≡ Some name
+    → slice_get (names_in (with_line name lines)) place ≡ Some name
+named_found name lines seen place order seen_is there =
+    ap (λ (ls : List LineKept). slice_get (names_in ls) place) (sym (found_after name lines seen place order seen_is there) ∙ sym seen_is) ∙ there
+
+set_insert : (lines : List LineKept) (place : ℕ) (line : LineKept) (f : LineKept → LineKept) (d : LineKept) → place ≤ length lines
+    → set (insert lines place line) place (f (slice_index_or (insert lines place line) place d)) ≡ insert lines place (f line)
+set_insert lines zero line f d within = refl
+set_insert [] (suc place) line f d within = absurd (omega arith)
+set_insert (first ∷ lines) (suc place) line f d within = ap (λ (ls : List LineKept). first ∷ ls) (set_insert lines place line f d (omega arith))
+
+-- what is done when a name has none: its line comes with the word
+pub noted_new : (time raw : ℕ) (name : List ℕ) (lines seen looked new : List LineKept) (place : ℕ) (line : LineKept) → looked ≡ lines → seen ≡ lines → place ≡ place_for name (names_in looked)
+    → (slice_get (names_in seen) place ≡ Some name → ⊥) → line ≡ line_with time raw (line_of name []) → new ≡ insert lines place line
+    → (d : LineKept) → new ≡ set (with_line name lines) place (line_with time raw (slice_index_or (with_line name lines) place d))
+noted_new time raw name lines seen looked new place line looked_is seen_is place_is differs line_is new_is d =
+    let at : place ≡ place_for name (names_in lines) = place_is ∙ ap (λ (ls : List LineKept). place_for name (names_in ls)) looked_is in
+    let within : place ≤ length lines = omega (arith, at, place_within name (names_in lines), length-map lines (λ (l : LineKept). l.name)) in
+    let with_it : with_line name lines ≡ insert lines place (line_of name []) =
+    sym (lines_after name lines seen looked (insert lines place (line_of name [])) place (line_of name []) looked_is seen_is place_is differs refl refl) in
+    new_is ∙ ap (insert lines place) line_is ∙ sym (set_insert lines place (line_of name []) (line_with time raw) d within)
+    ∙ ap (λ (ls : List LineKept). set ls place (line_with time raw (slice_index_or ls place d))) (sym with_it)
+
+pub named_new : (name : List ℕ) (lines seen looked : List LineKept) (place : ℕ) → looked ≡ lines → seen ≡ lines → place ≡ place_for name (names_in looked) → place ≤ length looked
+    → (slice_get (names_in seen) place ≡ Some name → ⊥) → slice_get (names_in (with_line name lines)) place ≡ Some name
+named_new name lines seen looked place looked_is seen_is place_is within differs =
+    let with_it : insert lines place (line_of name []) ≡ with_line name lines =
+    lines_after name lines seen looked (insert lines place (line_of name [])) place (line_of name []) looked_is seen_is place_is differs refl refl in
+    ap (λ (ls : List LineKept). slice_get (names_in ls) place) (sym with_it)
+    ∙ name_after name lines looked (insert lines place (line_of name [])) place (line_of name []) looked_is within refl refl

@@ -1,5 +1,6 @@
 pub mod Figures
 pub mod Kept
+pub mod Pairs
 pub mod Past
 pub mod Survey
 pub mod Starts

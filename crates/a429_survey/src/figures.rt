@@ -22,9 +22,6 @@ pub struct Figures {
     pub last_word: u32,
 }
 
-/// The number of the labels with their SDIs.
-pub const PLACES: usize = 1024;
-
 /// Whether an odd number of the bits are ones.
 #[tactic(auto, using(a429_word::proofs::Ones::ones_are))]
 fn is_odd(raw: u32) -> bool

@@ -1,5 +1,5 @@
 //! The lines of a survey, in the order of their names.
-ghost use Rattle.std.specs.Prelude.{◌≡◌, ◌<◌, ◌≤◌, false, true, if◌then◌else◌, is_ok, length, set, slice_get, slice_index_or, IfOk, None, Some};
+ghost use Rattle.std.specs.Prelude.{◌≡◌, ◌<◌, ◌≤◌, false, true, length, set, slice_get, slice_index_or, IfOk, OnErr, OnOk, Some};
 ghost use Rattle.a429_survey.specs.Kept.{Ascend, LineKept, is_before, line_with, names_in, place_for, with_line};
 
 use crate::lines::Line;
@@ -46,35 +46,43 @@ fn place_for(lines: &[Line], name: &str) -> usize
     low
 }
 
-/// The place of the line of a name, which is made if there is none. The name's line may be at the place `last`, which is
-/// looked at first. Error: an allocation failed.
-pub fn line_for(
+/// Takes one more word into the line at a place. Error: an allocation failed.
+fn note_at(lines: &mut Vec<Line>, place: usize, time: u64, raw: u32) -> Result<(), AllocError>
+    requires { place < length lines.old.items }
+    ensures noted { OnOk result ((d : LineKept)
+        → lines.new.items ≡ set lines.old.items place (line_with time raw (slice_index_or lines.old.items place d))) }
+    ensures kept { OnErr result (lines.new.items ≡ lines.old.items) }
+{
+    let line = &mut lines[place];
+    line.note(time, raw)
+}
+
+/// Takes one more word into the line of a name, which is made if there is none. The place of the line. The name's line may
+/// be at the place `last`, which is looked at first. Error: an allocation failed.
+pub fn note_word(
     alloc: Global,
     lines: &mut Vec<Line>,
     last: usize,
     name: &str,
+    time: u64,
+    raw: u32,
 ) -> Result<usize, AllocError>
     requires { Ascend (names_in lines.old.items) }
-    ensures lines { lines.new.items ≡ (if is_ok result then with_line name.now lines.old.items else lines.old.items) }
-    ensures named { IfOk result (λ place. slice_get (names_in lines.new.items) place ≡ Some name.now) }
+    ensures noted { IfOk result (λ place. (d : LineKept) → lines.new.items ≡ set (with_line name.now lines.old.items) place
+        (line_with time raw (slice_index_or (with_line name.now lines.old.items) place d))) }
+    ensures named { IfOk result (λ place. slice_get (names_in (with_line name.now lines.old.items)) place ≡ Some name.now) }
+    ensures kept { OnErr result (lines.new.items ≡ lines.old.items) }
 {
     if is_at(lines, last, name) {
+        note_at(lines, last, time, raw)?;
         return Ok(last);
     }
     let place = place_for(lines, name);
     if is_at(lines, place, name) {
+        note_at(lines, place, time, raw)?;
         return Ok(place);
     }
-    let line = Line::new(alloc, name)?;
+    let line = Line::of_word(alloc, name, time, raw)?;
     lines.insert(place, line)?;
     Ok(place)
-}
-
-/// Takes one more word into the line at a place.
-pub fn note_at(lines: &mut Vec<Line>, place: usize, time: u64, raw: u32)
-    requires { place < length lines.old.items }
-    ensures { (d : LineKept) → lines.new.items ≡ set lines.old.items place (line_with time raw (slice_index_or lines.old.items place d)) }
-{
-    let line = &mut lines[place];
-    line.note(time, raw);
 }

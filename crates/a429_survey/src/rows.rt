@@ -76,7 +76,7 @@ fn add_pair(
         line.name().as_str(),
         label,
         sdi,
-        figures,
+        &figures,
     )
 }
 

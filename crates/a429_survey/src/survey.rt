@@ -4,7 +4,7 @@ ghost use Rattle.a429_survey.specs.Starts.{start_columns, start_rows};
 ghost use Rattle.a429_survey.specs.Survey.{survey_columns, survey_rows};
 
 use crate::lines::Line;
-use crate::names::{line_for, note_at};
+use crate::names::note_word;
 use crate::past::Past;
 use crate::rows::{RowKind, rows_of};
 use a429_text::Sheet;
@@ -36,7 +36,7 @@ const START_COLUMNS: &[&str] = &[
 /// Why a word was not noted. Then the survey is as before.
 #[derive(Clone, Copy, Debug, PartialEq, Eq, Error)]
 pub enum NoteFault {
-    /// An allocation failed. Only the first word of a name allocates memory.
+    /// An allocation failed. Only the first word of a name, or of a label and an SDI of it, allocates memory.
     #[error("out of memory")]
     NoMemory,
     /// The survey has 2^64 - 1 words.
@@ -45,7 +45,7 @@ pub enum NoteFault {
 }
 
 /// What is on the lines of a recording. Clauses see all words that were noted, oldest first. A program keeps figures: it
-/// needs some 57 KB for each name, and nothing for a word.
+/// needs some 200 bytes for each name and 100 for each label and SDI of it, and nothing for a word.
 #[derive(Drop)]
 pub struct Survey {
     alloc: Global,
@@ -97,10 +97,9 @@ impl Survey {
         if self.count == u64::MAX {
             return Err(NoteFault::TooManyWords);
         }
-        let Ok(place) = line_for(self.alloc, &mut self.lines, self.last, name) else {
+        let Ok(place) = note_word(self.alloc, &mut self.lines, self.last, name, time, raw) else {
             return Err(NoteFault::NoMemory);
         };
-        note_at(&mut self.lines, place, time, raw);
         let line = &self.lines[place];
         self.past.add(line.name(), time, raw);
         self.count += 1;

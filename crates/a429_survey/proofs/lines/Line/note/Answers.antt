@@ -1,10 +1,12 @@
-use Rattle.std.proofs.Common.{subst, ◌<◌, ℕ, sym}
-use Rattle.a429_survey.proofs.LineFigures.{noted_line}
+use Rattle.a429_survey.proofs.FiguresMore.{place_small}
+use Rattle.a429_survey.proofs.LineFigures.{kept_line, noted_line, on_err}
 use Rattle.a429_survey.proofs.lines.Line.note.Goals as goal
 
-pub returns : goal.returns
-returns c =
-    noted_line c.args.time c.args.raw c.place_of-place.result _ c.self.inside.all c.with-self-inside.result c.index.result.now c.with.result c.self.inside.each.items c.args.self.now
-    c.self.view_is c.with-self-inside.ensures c.place_of-place.ensures.value
-    (subst (λ (n : ℕ). c.place_of-place.result < n) (sym c.self.invariant) c.place_of-place.ensures.within)
-    c.index.ensures c.with.ensures
+pub returns-in_err-note_pair-clause-kept : goal.returns-in_err-note_pair-clause-kept
+returns-in_err-note_pair-clause-kept c =
+    on_err c.from_residual.result (kept_line _ c.self.inside.all c.self.inside.pairs.items c.note_pair.new.pairs.items c.args.self.now c.self.view_is c.in_err-note_pair.ensures.kept)
+
+pub returns-clause-noted : goal.returns-clause-noted
+returns-clause-noted c =
+    noted_line c.args.time c.args.raw _ c.self.inside.all c.with-self-inside.result c.self.inside.pairs.items c.note_pair.new.pairs.items c.args.self.now c.self.view_is
+    c.with-self-inside.ensures (place_small c.args.raw) c.in_ok-note_pair.ensures.noted
