@@ -10,5 +10,7 @@ add_group_row-requires c = above_others c.args.group.now.rate c.args.sources.now
 pub add_choice-requires-clause-known : goal.add_choice-requires-clause-known
 add_choice-requires-clause-known c = known_sources c.args.group.now.rate c.args.sources.now c.args.outputs.now c.args.table.now c.requires.planned c.requires.known
 
-pub choice-requires-clause-count : goal.choice-requires-clause-count
-choice-requires-clause-count c = search rules
+pub choice-chosen-requires-clause-count : goal.choice-chosen-requires-clause-count
+choice-chosen-requires-clause-count c =
+    rw (c.deref.ensures.value, c.in_ok-periods.ensures, c.buses.ensures.value)
+    (buses_count c.args.group.now.rate c.args.sources.now c.args.outputs.now c.args.table.now c.requires.planned c.fewest_by_demand.ensures.only c.requires.some)
