@@ -37,7 +37,9 @@ function savingsOf(group, margin) {
     sheet(rows, { name: `margin-${group}`, caption: "Outputs that would be sent half as often",
       titles: { next: "next period", less: "cells less", max_us: "max, µs" } }));
   }
-  return choices.length ? element("p", { class: "dim" }, "If each output is sent at most half as often, no bus is saved.") : null;
+  if (whole.choose !== "no") return null;
+  const fewer = `The intervals could do with ${count(whole.bound, "bus", "buses")}, but not with periods that are powers of two.`;
+  return element("p", { class: "dim" }, "No longer period of an output saves a bus. ", whole.bound < whole.buses ? fewer : "");
 }
 
 async function showLoads({ table, margin }) {
