@@ -131,7 +131,7 @@ module _ (r : AskedBytes) (us : List (Rule × Text)) (f : Facts r.verb us) (has 
   flag_field name (text ∷ more ∷ texts) kind flag is can = absurd can
 
   by_kind : (name : OptionName) (kind : OptionKind) → kind_of name ≡ kind → given_by kind (id_of name) end_rows ≡ r.given name
-  by_kind name given.Flag is = flag_field name (r.given name) given.Flag refl refl (rw is at has.options name)
+  by_kind name given.Flag is = flag_field name (r.given name) given.Flag refl refl (subst (λ (k : OptionKind). CanBeGiven k (r.given name)) is (has.options name))
   by_kind name (given.Text form) is = value_field name (r.given name) (ap is_switch is) refl (has.options name)
   by_kind name (given.Texts form) is = value_field name (r.given name) (ap is_switch is) refl (has.options name)
   by_kind name (given.Number least most) is = value_field name (r.given name) (ap is_switch is) refl (has.options name)

@@ -85,7 +85,7 @@ AreFound c (name ∷ names) = (arg_by_long c (id_of name) ≡ Some (built_option
 pub are_found : (c : List Rule) (names : List OptionName) → map (λ (name : OptionName). arg_by_long c (id_of name)) names ≡ map (λ (name : OptionName). Some (built_option name)) names
     → map (λ (name : OptionName). arg_by_id c (id_of name)) names ≡ map (λ (name : OptionName). Some (built_option name)) names → AreFound c names
 are_found c [] long by = tt
-are_found c (name ∷ names) long by =
+are_found c (first_name ∷ names) long by =
     let first = λ (xs : List (Option Rule)). slice_get xs 0 in
     let rest = λ (xs : List (Option Rule)). drop 1 xs in
     (same_Some _ _ (ap first long), same_Some _ _ (ap first by), are_found c names (ap rest long) (ap rest by))

@@ -33,22 +33,6 @@ number_rule number = record (required_rule number.0) { parser = Some (reads.Unsi
 abbrev pub many_rule : Text → Rule
 many_rule id = record (new_rule id) { action = Some Append }
 
--- an option of this name, which has no value
-abbrev pub flag_rule : Text → Rule
-flag_rule name = record (new_rule name) { long = Some name; action = Some SetTrue }
-
--- an option of this name, which has one value
-abbrev pub value_rule : Text → Rule
-value_rule name = record (new_rule name) { long = Some name; value_names = 1 }
-
--- as many values as it is given
-abbrev pub values_rule : Text → Rule
-values_rule name = record (value_rule name) { action = Some Append }
-
--- and whose value is a whole number from the least to the most
-abbrev pub number_value_rule : Text → ℕ → ℕ → Rule
-number_value_rule name least most = record (value_rule name) { parser = Some (reads.Unsigned least most) }
-
 -- how many frames a group can send in one run of `live` (profile: docs/RULES.md, Limits)
 abbrev pub most_frames : ℕ
 most_frames = 1000000
@@ -84,11 +68,19 @@ is_switch _ = false
 abbrev pub is_flag : OptionName → Bool
 is_flag name = is_switch (kind_of name)
 
+-- a value that is given with an option
+abbrev value_rule : Rule
+value_rule = record (new_rule []) { value_names = 1 }
+
+-- the rule of an option of this kind, apart from its name
+abbrev unnamed_rule : OptionKind → Rule
+unnamed_rule given.Flag = record (new_rule []) { action = Some SetTrue }
+unnamed_rule (given.Text form) = value_rule
+unnamed_rule (given.Texts form) = record value_rule { action = Some Append }
+unnamed_rule (given.Number least most) = record value_rule { parser = Some (reads.Unsigned least most) }
+
 abbrev pub kind_rule : Text → OptionKind → Rule
-kind_rule id given.Flag = flag_rule id
-kind_rule id (given.Text form) = value_rule id
-kind_rule id (given.Texts form) = values_rule id
-kind_rule id (given.Number least most) = number_value_rule id least most
+kind_rule id kind = record (unnamed_rule kind) { id = id; long = Some id }
 
 abbrev pub option_rule : OptionName → Rule
 option_rule name = kind_rule (id_of name) (kind_of name)

@@ -115,16 +115,22 @@ impl<'a> Asked<'a> {
 
 /// The number that a text states. `None` if it states no whole number below 2^32.
 fn number_in(text: &str) -> Option<u32>
-    ensures { result ≡ number_up_to u32.MAX text.now }
+    ensures { result ≡ number_up_to 4294967295 text.now }
 {
-    text.parse::<u32>().ok()
+    match text.parse::<u32>() {
+        Ok(number) => Some(number),
+        Err(_) => None,
+    }
 }
 
 /// The number that a text states. `None` if it states no whole number below 2^64.
 fn long_number_in(text: &str) -> Option<u64>
-    ensures { result ≡ number_up_to u64.MAX text.now }
+    ensures { result ≡ number_up_to 18446744073709551615 text.now }
 {
-    text.parse::<u64>().ok()
+    match text.parse::<u64>() {
+        Ok(number) => Some(number),
+        Err(_) => None,
+    }
 }
 
 /// Reads the arguments, without the program's name. Error: the arguments are no request, or an allocation failed (kind

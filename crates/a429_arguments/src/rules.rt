@@ -190,6 +190,13 @@ fn is_for(scope: Option<Verb>, verb: Verb) -> bool
     }
 }
 
+/// Whether a rule is for this command, and what was found breaks it.
+fn is_refusing(row: &(Rule, Option<Verb>), verb: Verb, found: &ArgMatches<'_>) -> bool
+    ensures { result ≡ is_refusing verb (given_in (rows_of (found_of found.now))) row.now }
+{
+    is_for(row.1, verb) && is_broken(row.0, found)
+}
+
 /// What is wrong by the first of these rules that is broken.
 fn fault_by(
     rules: &[(Rule, Option<Verb>)],
@@ -198,9 +205,9 @@ fn fault_by(
 ) -> Option<&'static str>
     ensures { is_some result ≡ list_any (is_refusing verb (given_in (rows_of (found_of found.now)))) rules.now }
 {
-    for (rule, scope) in rules {
-        if is_for(*scope, verb) && is_broken(*rule, found) {
-            return Some(message(*rule));
+    for row in rules {
+        if is_refusing(row, verb, found) {
+            return Some(message(row.0));
         }
     }
     None
