@@ -1,8 +1,7 @@
 -- Of each command: what the rules of the command line have for its row. All of it is computed.
-use Rattle.std.proofs.Common.{◌≡◌, ◌∙◌, ap, refl, sym, true, false, ℕ, List, [], ◌∷◌, ◌++◌, ◌+◌, map, inl, inr}
-use Rattle.std.specs.Prelude.{Option, Some, None, Bool, ◌&&◌, ◌||◌, if◌then◌else◌, min, not, ⊤}
+use Rattle.std.proofs.Common.{◌≡◌, ◌∙◌, ap, refl, sym, true, false, ℕ, List, [], ◌∷◌, ◌++◌, ◌+◌, map}
+use Rattle.std.specs.Prelude.{Option, Some, None, Bool, ◌&&◌, ◌||◌, min, not, ⊤}
 use Rattle.std.specs.List.{AllByRecursion, list_all}
-use Rattle.std.specs.Str.{bytes_eq}
 use Rattle.std.proofs.lemmas.Bool.{and_parts}
 use Rattle.std.proofs.lemmas.Option.{same_Some}
 use Rattle.clap.specs.Lexer.{usize_max}
@@ -11,7 +10,7 @@ use Rattle.clap.specs.Simple.{filled, with_index}
 use Rattle.clap.specs.Takes.{default_passes}
 use Rattle.clap.specs.Walk.{arg_by_id, arg_by_index, arg_by_long}
 use Rattle.clap.proofs.OnLiterals.{clap_on_literals}
-use Rattle.a429_arguments.specs.CommandLine.{command_line, id_of, many_rule, number_rule, options_of, required_rule, row_app, row_of, verbs}
+use Rattle.a429_arguments.specs.CommandLine.{command_line, id_of, many_rule, number_rule, options_of, required_rule, row_app, row_of}
 use Rattle.a429_arguments.specs.Usage.{verb_named}
 use Rattle.a429_arguments.specs.declared.forms.OptionName.{OptionName}
 use Rattle.a429_arguments.specs.declared.forms.Verb.{Verb}

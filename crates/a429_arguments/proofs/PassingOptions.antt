@@ -1,5 +1,5 @@
 -- What is given of options passes the rules of the command line.
-use Rattle.std.proofs.Common.{◌≡◌, refl, true, codes, List, [], ◌∷◌}
+use Rattle.std.proofs.Common.{◌≡◌, refl, true, List, [], ◌∷◌}
 use Rattle.std.specs.Prelude.{IfSome, slice_get}
 use Rattle.clap.specs.Simple.{filled}
 use Rattle.clap.specs.Takes.{value_passes}
