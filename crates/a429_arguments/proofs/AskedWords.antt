@@ -8,7 +8,7 @@ use Rattle.std.proofs.lemmas.Option.{same_Some}
 use Rattle.clap.specs.ValueTests.{is_unsigned_in}
 use Rattle.clap.specs.Words.{Row, Rule, Text, first_of, one_of}
 use Rattle.clap.specs.Walk.{Held, finished, nothing_held, walk_from}
-use Rattle.a429_arguments.specs.CommandLine.{CommandRow, most_frames, options_of, row_of}
+use Rattle.a429_arguments.specs.CommandLine.{CommandRow, id_of, most_frames, options_of, row_of}
 use Rattle.a429_arguments.specs.Requests.{AskedBytes, HasWords, IsName, words_if, words_of, words_of_options, words_with}
 use Rattle.a429_arguments.specs.RequestRows.{AsksFor, IsAskedBy}
 use Rattle.a429_arguments.specs.Numbers.{number_of}
@@ -18,13 +18,13 @@ use Rattle.a429_arguments.proofs.CommandFacts.{Facts, new, plain_leaf, required,
 use Rattle.a429_arguments.proofs.CommandWords.{asks_for, ends_well}
 use Rattle.a429_arguments.proofs.Decimals.{decimal_is_name, number_of_decimal}
 use Rattle.a429_arguments.proofs.FoundRows.{required_given, use_row, with_defaults}
-use Rattle.a429_arguments.proofs.OptionWords.{id_of, rows_of_options}
+use Rattle.a429_arguments.proofs.OptionWords.{rows_of_options}
 use Rattle.a429_arguments.proofs.PassingOptions.{words_pass}
 use Rattle.a429_arguments.proofs.PlainWords.{name_is_plain}
 use Rattle.a429_arguments.proofs.SettledWords.{Reads, all_settles}
 use Rattle.a429_arguments.proofs.UsedRows.{row_at}
 use Rattle.a429_arguments.proofs.WordRows.{ArePlain, IsNameIf, IsNumberIf, all_append, all_parts, more_read, new_after, rows_after, rows_are, rows_if, uses_read, within_uses, word_of}
-use Rattle.a429_arguments.proofs.FoundOptions.{all_rows, channels_are_read, end_rows, inputs_are_read, maps_are_read, more_field, options_are_read, tolerances_are_read, uses_read_again}
+use Rattle.a429_arguments.proofs.FoundOptions.{all_rows, end_rows, more_field, options_are_read, uses_read_again}
 
 -- the text of the number is one that is read as it
 abbrev NumberText : Option (Text × ℕ) → Text → ℕ → Type 0
@@ -85,14 +85,14 @@ module _ (r : AskedBytes) (text : Text) (has : HasWords r) (number_is : NumberTe
   abbrev found_rows : List Row
   found_rows = end_rows r us f has
 
-  all_read : Reads (shape r.verb) (walk_from nothing_held) (map word_of us ++ (r.more ++ words_of_options r.options (options_of r.verb))) rows
+  all_read : Reads (shape r.verb) (walk_from nothing_held) (map word_of us ++ (r.more ++ words_of_options r.given (options_of r.verb))) rows
   all_read =
-      subst (λ (named : List Row). Reads (shape r.verb) (walk_from nothing_held) (map word_of us ++ (r.more ++ words_of_options r.options (options_of r.verb)))
-      ((named ++ rows_if row_here.more r.more) ++ rows_of_options r.options (options_of r.verb))) (rows_are us [])
+      subst (λ (named : List Row). Reads (shape r.verb) (walk_from nothing_held) (map word_of us ++ (r.more ++ words_of_options r.given (options_of r.verb)))
+      ((named ++ rows_if row_here.more r.more) ++ rows_of_options r.given (options_of r.verb))) (rows_are us [])
       (uses_read (shape r.verb) us 1 [] (ids_if row_here.more ++ map id_of (options_of r.verb)) nothing_held []
-      ((rows_after [] us ++ rows_if row_here.more r.more) ++ rows_of_options r.options (options_of r.verb)) (r.more ++ words_of_options r.options (options_of r.verb)) f.at plain (new f)
+      ((rows_after [] us ++ rows_if row_here.more r.more) ++ rows_of_options r.given (options_of r.verb)) (r.more ++ words_of_options r.given (options_of r.verb)) f.at plain (new f)
       (λ id none. refl) (all_settles (shape r.verb) [])
-      (λ g settled. more_read (shape r.verb) r.options (options_of r.verb) row_here.more r.more (position_after 1 us) (ids_after [] us) g (rows_after [] us) (words_pass r.options has.options) f.options f.more
+      (λ g settled. more_read (shape r.verb) r.given (options_of r.verb) row_here.more r.more (position_after 1 us) (ids_after [] us) g (rows_after [] us) has.options (words_pass r.given has.options) f.options f.more
       has.more (new_after us [] (ids_if row_here.more ++ map id_of (options_of r.verb)) (new f)) (within_uses us [] [] (λ id none. refl)) settled))
 
   comes : finished (shape r.verb).rules all_read.to.held ≡ found_rows
@@ -138,11 +138,8 @@ module _ (r : AskedBytes) (text : Text) (has : HasWords r) (number_is : NumberTe
     third = third_field row_here.third has.third rest_there.0;
     number = number_field row_here.number has.number number_is rest_there.1;
     more = more_field r us f has row_here.more refl has.more;
-    inputs = inputs_are_read r us f has;
-    channels = channels_are_read r us f has;
-    maps = maps_are_read r us f has;
-    tolerances = tolerances_are_read r us f has;
     options = options_are_read r us f has;
+    taken = has.rules;
   }
 
   words_after : (third : Option Text) (number : Option (Text × ℕ)) (more : List Text)
@@ -160,7 +157,7 @@ module _ (r : AskedBytes) (text : Text) (has : HasWords r) (number_is : NumberTe
 
   pub asks_with : AsksFor (words_with text r) r
   asks_with =
-      let rest = r.more ++ words_of_options r.options (options_of r.verb) in
+      let rest = r.more ++ words_of_options r.given (options_of r.verb) in
       subst (λ (words : List Text). AsksFor (row_here.name ∷ r.first ∷ words) r) (words_are row_here.second row_here.third row_here.number rest)
       (asks_for row_here.name (shape r.verb) (map word_of us ++ rest) all_read.to r f.named refl all_read.walks well (subst (λ (found : List Row). IsAskedBy found r) (sym comes) asked))
 

@@ -1,22 +1,23 @@
 -- Of each command: what the rules of the command line have for its row. All of it is computed.
-use Rattle.std.proofs.Common.{◌≡◌, ◌∙◌, ap, refl, sym, true, false, ℕ, List, [], ◌∷◌, ◌++◌, ◌+◌, map, inl, inr}
-use Rattle.std.specs.Prelude.{Option, Some, None, Bool, ◌&&◌, ◌||◌, if◌then◌else◌, min, not, ⊤}
+use Rattle.std.proofs.Common.{◌≡◌, ◌∙◌, ap, refl, sym, true, false, ℕ, List, [], ◌∷◌, ◌++◌, ◌+◌, map}
+use Rattle.std.specs.Prelude.{Option, Some, None, Bool, ◌&&◌, ◌||◌, min, not, ⊤}
 use Rattle.std.specs.List.{AllByRecursion, list_all}
-use Rattle.std.specs.Str.{bytes_eq}
 use Rattle.std.proofs.lemmas.Bool.{and_parts}
 use Rattle.std.proofs.lemmas.Option.{same_Some}
 use Rattle.clap.specs.Lexer.{usize_max}
 use Rattle.clap.specs.Words.{Rule, Shape, Text}
 use Rattle.clap.specs.Simple.{filled, with_index}
 use Rattle.clap.specs.Takes.{default_passes}
-use Rattle.clap.specs.Walk.{arg_by_id, arg_by_index}
+use Rattle.clap.specs.Walk.{arg_by_id, arg_by_index, arg_by_long}
 use Rattle.clap.proofs.OnLiterals.{clap_on_literals}
-use Rattle.a429_arguments.specs.CommandLine.{All, AsText, Code, Csv, Events, Html, Json, MakesNames, Rows, Sent, Summary, command_line, many_rule, number_rule, options_of, required_rule, row_app, row_of, verbs}
+use Rattle.a429_arguments.specs.CommandLine.{command_line, id_of, many_rule, number_rule, options_of, required_rule, row_app, row_of}
+use Rattle.a429_arguments.specs.Usage.{verb_named}
+use Rattle.a429_arguments.specs.declared.forms.OptionName.{OptionName}
 use Rattle.a429_arguments.specs.declared.forms.Verb.{Verb}
 use Rattle.a429_arguments.specs.declared.forms.Verb.TheVariants as verb
 use Rattle.a429_arguments.proofs.CommandWords.{IsNamed, leaf}
-use Rattle.a429_arguments.proofs.FoundRows.{HasPlainDefault, use_id}
-use Rattle.a429_arguments.proofs.OptionWords.{AreFound, all_options, id_of}
+use Rattle.a429_arguments.proofs.FoundRows.{HasPlainDefault, has_plain_default, plain_defaults, use_id}
+use Rattle.a429_arguments.proofs.OptionWords.{AreFound, all_options, are_found, built_option}
 use Rattle.a429_arguments.proofs.SettledWords.{IsMany, IsSingle}
 use Rattle.a429_arguments.proofs.UsedRows.{all_new, has_id, not_so}
 
@@ -159,43 +160,42 @@ module _ {v : Verb} {us : List (Rule × Text)} (f : Facts v us) where
 
 -- the facts, by what computes
 known : {v : Verb} {us : List (Rule × Text)} → IsNamed (row_of v).name (shape v) → AreAt (shape v).rules 1 us → IsAtIf (shape v).rules (position_after 1 us) (row_of v).more
-    → AreFound (shape v).rules (options_of v) → AllByRecursion HasPlainDefault (shape v).rules → is_checked v us ≡ true → Facts v us
-known named at more options plain checked = record { named = named; at = at; more = more; options = options; plain = plain; checked = checked }
+    → map (λ (name : OptionName). arg_by_long (shape v).rules (id_of name)) (options_of v) ≡ map (λ (name : OptionName). Some (built_option name)) (options_of v)
+    → map (λ (name : OptionName). arg_by_id (shape v).rules (id_of name)) (options_of v) ≡ map (λ (name : OptionName). Some (built_option name)) (options_of v)
+    → list_all has_plain_default (shape v).rules ≡ true → is_checked v us ≡ true → Facts v us
+known {v} named at more long by plain checked =
+    record { named = named; at = at; more = more; options = are_found (shape v).rules (options_of v) long by; plain = plain_defaults (shape v).rules plain; checked = checked }
 
 -- ---- the commands, one by one
 
-abbrev verb_named : Text → List Verb → Option Verb
-verb_named name [] = None
-verb_named name (v ∷ vs) = if bytes_eq (row_of v).name name then Some v else verb_named name vs
-
-named_back : (v : Verb) → verb_named (row_of v).name verbs ≡ Some v
-named_back verb.Word = refl
-named_back _ = refl
+pub verb_found : (v : Verb) → verb_named (row_of v).name ≡ Some v
+verb_found verb.Word = refl
+verb_found _ = refl
 
 -- no two commands have one name
 pub same_verb : (v w : Verb) → (row_of v).name ≡ (row_of w).name → v ≡ w
-same_verb v w named = same_Some v w (sym (named_back v) ∙ ap (λ name. verb_named name verbs) named ∙ named_back w)
+same_verb v w named = same_Some v w (sym (verb_found v) ∙ ap verb_named named ∙ verb_found w)
 
 module _ (first second third number : Text) where
   -- of each: its arguments with one word each, the repeated names, its options, and the default value of each of its rules
   pub facts : (v : Verb) → Facts v (uses v first second third number)
   unfolding command_line clap_on_literals
-  facts verb.Word = known (record { met = refl; leads = refl; label = refl; no_help = refl }) (refl, refl, tt) tt tt (inl refl, (inl refl, tt)) refl
-  facts verb.Encode = known (record { met = refl; leads = refl; label = refl; no_help = refl }) (refl, refl, tt) tt (refl, refl, (refl, refl, (refl, refl, (refl, refl, (refl, refl, (refl, refl, tt)))))) (inl refl, (inl refl, (inl refl, (inl refl, (inl refl, (inl refl, (inl refl, (inl refl, tt)))))))) refl
-  facts verb.Lines = known (record { met = refl; leads = refl; label = refl; no_help = refl }) (refl, refl, tt) (refl, refl) tt (inl refl, (inl refl, (inl refl, tt))) refl
-  facts verb.Import = known (record { met = refl; leads = refl; label = refl; no_help = refl }) (refl, refl, tt) tt (refl, refl, (refl, refl, tt)) (inl refl, (inl refl, (inr (MakesNames, refl, refl, refl, refl), (inl refl, tt)))) refl
-  facts verb.Plan = known (record { met = refl; leads = refl; label = refl; no_help = refl }) (refl, refl, tt) tt tt (inl refl, (inl refl, tt)) refl
-  facts verb.Check = known (record { met = refl; leads = refl; label = refl; no_help = refl }) (refl, refl, (refl, refl, tt)) tt tt (inl refl, (inl refl, (inl refl, tt))) refl
-  facts verb.Icd = known (record { met = refl; leads = refl; label = refl; no_help = refl }) (refl, refl, tt) tt (refl, refl, (refl, refl, (refl, refl, tt))) (inl refl, (inr (Csv, refl, refl, refl, refl), (inr (AsText, refl, refl, refl, refl), (inr (Json, refl, refl, refl, refl), (inl refl, tt))))) refl
-  facts verb.Margin = known (record { met = refl; leads = refl; label = refl; no_help = refl }) (refl, refl, tt) tt (refl, refl, (refl, refl, tt)) (inl refl, (inr (Csv, refl, refl, refl, refl), (inr (Json, refl, refl, refl, refl), (inl refl, tt)))) refl
-  facts verb.Load = known (record { met = refl; leads = refl; label = refl; no_help = refl }) (refl, refl, tt) tt (refl, refl, (refl, refl, (refl, refl, tt))) (inl refl, (inl refl, (inr (Csv, refl, refl, refl, refl), (inr (Json, refl, refl, refl, refl), (inl refl, tt))))) refl
-  facts verb.Slots = known (record { met = refl; leads = refl; label = refl; no_help = refl }) (refl, refl, tt) tt (refl, refl, (refl, refl, (refl, refl, (refl, refl, (refl, refl, tt))))) (inl refl, (inl refl, (inr (All, refl, refl, refl, refl), (inr (Code, refl, refl, refl, refl), (inr (Csv, refl, refl, refl, refl), (inr (Json, refl, refl, refl, refl), (inl refl, tt))))))) refl
-  facts verb.Buses = known (record { met = refl; leads = refl; label = refl; no_help = refl }) (refl, refl, tt) tt (refl, refl, (refl, refl, tt)) (inl refl, (inr (Csv, refl, refl, refl, refl), (inr (Json, refl, refl, refl, refl), (inl refl, tt)))) refl
-  facts verb.Lint = known (record { met = refl; leads = refl; label = refl; no_help = refl }) (refl, refl, tt) tt (refl, refl, (refl, refl, tt)) (inl refl, (inr (Csv, refl, refl, refl, refl), (inr (Json, refl, refl, refl, refl), (inl refl, tt)))) refl
-  facts verb.Diff = known (record { met = refl; leads = refl; label = refl; no_help = refl }) (refl, refl, (refl, refl, tt)) tt (refl, refl, (refl, refl, (refl, refl, tt))) (inl refl, (inl refl, (inr (All, refl, refl, refl, refl), (inr (Csv, refl, refl, refl, refl), (inr (Json, refl, refl, refl, refl), (inl refl, tt)))))) refl
-  facts verb.Draw = known (record { met = refl; leads = refl; label = refl; no_help = refl }) (refl, refl, tt) tt (refl, refl, (refl, refl, (refl, refl, (refl, refl, tt)))) (inl refl, (inl refl, (inl refl, (inl refl, (inr (Html, refl, refl, refl, refl), (inl refl, tt)))))) refl
-  facts verb.Replay = known (record { met = refl; leads = refl; label = refl; no_help = refl }) (refl, refl, (refl, refl, tt)) (refl, refl) tt (inl refl, (inl refl, (inl refl, (inl refl, tt)))) refl
-  facts verb.Simulate = known (record { met = refl; leads = refl; label = refl; no_help = refl }) (refl, refl, (refl, refl, tt)) (refl, refl) (refl, refl, (refl, refl, (refl, refl, (refl, refl, (refl, refl, (refl, refl, (refl, refl, (refl, refl, tt)))))))) (inl refl, (inl refl, (inl refl, (inl refl, (inl refl, (inl refl, (inl refl, (inr (Sent, refl, refl, refl, refl), (inr (Summary, refl, refl, refl, refl), (inr (Csv, refl, refl, refl, refl), (inr (Json, refl, refl, refl, refl), (inl refl, tt)))))))))))) refl
-  facts verb.Survey = known (record { met = refl; leads = refl; label = refl; no_help = refl }) (refl, refl, tt) (refl, refl) (refl, refl, (refl, refl, (refl, refl, (refl, refl, (refl, refl, (refl, refl, (refl, refl, (refl, refl, tt)))))))) (inl refl, (inl refl, (inl refl, (inl refl, (inl refl, (inl refl, (inr (Rows, refl, refl, refl, refl), (inl refl, (inr (Csv, refl, refl, refl, refl), (inr (Json, refl, refl, refl, refl), (inl refl, tt))))))))))) refl
-  facts verb.Judge = known (record { met = refl; leads = refl; label = refl; no_help = refl }) (refl, refl, (refl, refl, (refl, refl, tt))) (refl, refl) (refl, refl, (refl, refl, (refl, refl, (refl, refl, (refl, refl, (refl, refl, (refl, refl, (refl, refl, tt)))))))) (inl refl, (inl refl, (inl refl, (inl refl, (inl refl, (inl refl, (inr (Events, refl, refl, refl, refl), (inl refl, (inl refl, (inl refl, (inr (Csv, refl, refl, refl, refl), (inr (Json, refl, refl, refl, refl), (inl refl, tt))))))))))))) refl
-  facts verb.Live = known (record { met = refl; leads = refl; label = refl; no_help = refl }) (refl, refl, (refl, refl, (refl, refl, tt))) (refl, refl) tt (inl refl, (inl refl, (inl refl, (inl refl, (inl refl, tt))))) refl
+  facts verb.Word = known (record { met = refl; leads = refl; label = refl; no_help = refl }) (refl, refl, tt) tt refl refl refl refl
+  facts verb.Encode = known (record { met = refl; leads = refl; label = refl; no_help = refl }) (refl, refl, tt) tt refl refl refl refl
+  facts verb.Lines = known (record { met = refl; leads = refl; label = refl; no_help = refl }) (refl, refl, tt) (refl, refl) refl refl refl refl
+  facts verb.Import = known (record { met = refl; leads = refl; label = refl; no_help = refl }) (refl, refl, tt) tt refl refl refl refl
+  facts verb.Plan = known (record { met = refl; leads = refl; label = refl; no_help = refl }) (refl, refl, tt) tt refl refl refl refl
+  facts verb.Check = known (record { met = refl; leads = refl; label = refl; no_help = refl }) (refl, refl, (refl, refl, tt)) tt refl refl refl refl
+  facts verb.Icd = known (record { met = refl; leads = refl; label = refl; no_help = refl }) (refl, refl, tt) tt refl refl refl refl
+  facts verb.Margin = known (record { met = refl; leads = refl; label = refl; no_help = refl }) (refl, refl, tt) tt refl refl refl refl
+  facts verb.Load = known (record { met = refl; leads = refl; label = refl; no_help = refl }) (refl, refl, tt) tt refl refl refl refl
+  facts verb.Slots = known (record { met = refl; leads = refl; label = refl; no_help = refl }) (refl, refl, tt) tt refl refl refl refl
+  facts verb.Buses = known (record { met = refl; leads = refl; label = refl; no_help = refl }) (refl, refl, tt) tt refl refl refl refl
+  facts verb.Lint = known (record { met = refl; leads = refl; label = refl; no_help = refl }) (refl, refl, tt) tt refl refl refl refl
+  facts verb.Diff = known (record { met = refl; leads = refl; label = refl; no_help = refl }) (refl, refl, (refl, refl, tt)) tt refl refl refl refl
+  facts verb.Draw = known (record { met = refl; leads = refl; label = refl; no_help = refl }) (refl, refl, tt) tt refl refl refl refl
+  facts verb.Replay = known (record { met = refl; leads = refl; label = refl; no_help = refl }) (refl, refl, (refl, refl, tt)) (refl, refl) refl refl refl refl
+  facts verb.Simulate = known (record { met = refl; leads = refl; label = refl; no_help = refl }) (refl, refl, (refl, refl, tt)) (refl, refl) refl refl refl refl
+  facts verb.Survey = known (record { met = refl; leads = refl; label = refl; no_help = refl }) (refl, refl, tt) (refl, refl) refl refl refl refl
+  facts verb.Judge = known (record { met = refl; leads = refl; label = refl; no_help = refl }) (refl, refl, (refl, refl, (refl, refl, tt))) (refl, refl) refl refl refl refl
+  facts verb.Live = known (record { met = refl; leads = refl; label = refl; no_help = refl }) (refl, refl, (refl, refl, (refl, refl, tt))) (refl, refl) refl refl refl refl

@@ -13,13 +13,10 @@ use Rattle.clap.specs.declared.builder.command.Command.{Command}
 use Rattle.clap.specs.declared.builder.command.Command.TheViews.{out-Command}
 use Rattle.clap.proofs.ValueTestLemmas.{accepts-Accepts}
 use Rattle.a429_arguments.specs.CommandLine.{CommandRow, many_rule, number_rule, required_rule, row_app, with_any}
-use Rattle.a429_arguments.specs.RequestRows.{is_set}
+use Rattle.a429_arguments.specs.Given.{Given, is_set}
 use Rattle.a429_arguments.specs.Numbers.{number_of}
-use Rattle.a429_arguments.specs.Requests.{AskedBytes, FieldBytes, OptionBytes}
+use Rattle.a429_arguments.specs.Requests.{AskedBytes}
 use Rattle.a429_arguments.specs.declared.forms.Verb.{Verb}
-use Rattle.a429_arguments.specs.declared.times.LogOrigin.{LogOrigin}
-use Rattle.a429_logs.specs.declared.times.TimeUnit.{TimeUnit}
-use Rattle.a429_text.specs.declared.sheets.SheetForm.{SheetForm}
 use Rattle.std.specs.Borrow.{Bor}
 
 was_not : (b : Bool) → not b ≡ true → b ≡ false
@@ -86,20 +83,7 @@ pub name_is : (found : Option (Bor Text)) (default : Bor Text) (text : Text) →
 name_is None default text is = absurd (cc is)
 name_is (Some t) default text is = same_Some t.now text is
 
--- what is given of the options is read as it
-pub options_are : (o : OptionBytes) (f : SheetForm) (all html sent summary code rows events text names : Bool) (group : Option Text) (slots width : Option ℕ) (time : TimeUnit) (from : LogOrigin) (until limit rate slack : Option ℕ) (fields : FieldBytes) → f ≡ o.form → all ≡ o.all
-    → group ≡ o.group → slots ≡ o.slots → width ≡ o.width → html ≡ o.html → time ≡ o.time → from ≡ o.from → until ≡ o.until → sent ≡ o.sent → summary ≡ o.summary → code ≡ o.code → limit ≡ o.limit → rate ≡ o.rate → rows ≡ o.rows
-    → slack ≡ o.slack → events ≡ o.events → text ≡ o.text → names ≡ o.names → fields ≡ o.fields
-    → record { form = f; all = all; group = group; slots = slots; width = width; html = html; time = time; from = from; until = until; sent = sent; summary = summary; code = code; limit = limit; rate = rate; rows = rows; slack = slack; events = events; text = text; names = names; fields = fields } ≡ o
-options_are o f all html sent summary code rows events text names group slots width time from until limit rate slack fields a b c d e g t u h w i j k m n p q r s v =
-    rw (a, b, c, d, e, g, t, u, h, w, i, j, k, m, n, p, q, r, s, v) refl
-
--- and of the fields of a word
-pub fields_are : (f : FieldBytes) (sdi ssm bits : Option ℕ) (hex bnr bcd : Option Text) → sdi ≡ f.sdi → ssm ≡ f.ssm → hex ≡ f.hex → bnr ≡ f.bnr → bits ≡ f.bits → bcd ≡ f.bcd
-    → record { sdi = sdi; ssm = ssm; hex = hex; bnr = bnr; bits = bits; bcd = bcd } ≡ f
-fields_are f sdi ssm bits hex bnr bcd a b c d e g = rw (a, b, c, d, e, g) refl
-
--- and so is all that is asked for
-pub asked_is : (r : AskedBytes) (v : Verb) (first second third : Text) (number : ℕ) (more inputs channels maps tolerances : List Text) (options : OptionBytes) → v ≡ r.verb → first ≡ r.first → second ≡ r.second → third ≡ r.third → number ≡ r.number → more ≡ r.more → inputs ≡ r.inputs
-    → channels ≡ r.channels → maps ≡ r.maps → tolerances ≡ r.tolerances → options ≡ r.options → record { verb = v; first = first; second = second; third = third; number = number; more = more; inputs = inputs; channels = channels; maps = maps; tolerances = tolerances; options = options } ≡ r
-asked_is r v first second third number more inputs channels maps tolerances options a b c d e f g h i j k = rw (a, b, c, d, e, f, g, h, i, j, k) refl
+-- all that is asked for is read as it
+pub asked_is : (r : AskedBytes) (v : Verb) (first second third : Text) (number : ℕ) (more : List Text) (given : Given) → v ≡ r.verb → first ≡ r.first → second ≡ r.second → third ≡ r.third → number ≡ r.number
+    → more ≡ r.more → given ≡ r.given → record { verb = v; first = first; second = second; third = third; number = number; more = more; given = given } ≡ r
+asked_is r v first second third number more given a b c d e f g = rw (a, b, c, d, e, f, g) refl

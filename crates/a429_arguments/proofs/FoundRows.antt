@@ -1,27 +1,75 @@
 -- What is found at the end of a command's words, with the default values of options.
 use Rattle.std.proofs.Common.{◌≡◌, ◌∙◌, ap, refl, codes, subst, sym, true, false, List, [], ◌∷◌, ◌++◌, append_assoc, fold, map, inl, inr}
-use Rattle.std.specs.Prelude.{Option, Some, None, Bool, ◌⊎◌, ◌||◌, not, option_and_then, if◌then◌else◌}
-use Rattle.std.specs.List.{AllByRecursion, list_all}
+use Rattle.std.specs.Prelude.{Option, Some, None, Bool, ◌⊎◌, ◌&&◌, ◌||◌, not, option_and_then, if◌then◌else◌}
+use Rattle.std.specs.List.{AllByRecursion, list_all, list_any}
 use Rattle.std.specs.Str.{bytes_eq}
 use Rattle.std.proofs.lemmas.Bool.{and_parts}
 use Rattle.std.proofs.lemmas.Slice.Eq.{bytes_eq-Decides}
 use Rattle.clap.specs.Words.{Row, Rule, Text, one_of}
 use Rattle.clap.specs.Takes.{is_given}
 use Rattle.clap.specs.Walk.{has_row, more_values, reading_by, row_text, with_default}
+use Rattle.clap.specs.declared.builder.value_parser.Reading.{Reading}
 use Rattle.clap.specs.declared.builder.value_parser.Reading.TheVariants.{AsWritten}
 use Rattle.clap.specs.declared.parser.matches.ValueSource.TheVariants.{DefaultValue}
-use Rattle.a429_arguments.specs.CommandLine.{OptionName}
-use Rattle.a429_arguments.specs.Requests.{OptionBytes, has_option, is_flag, word_given}
-use Rattle.a429_arguments.specs.RequestRows.{is_set}
+use Rattle.a429_arguments.specs.CommandLine.{id_of, is_flag}
+use Rattle.a429_arguments.specs.Given.{Given, is_set, text_given}
+use Rattle.a429_arguments.specs.Requests.{has_option}
+use Rattle.a429_arguments.specs.declared.forms.OptionName.{OptionName}
 use Rattle.a429_arguments.proofs.CommandWords.{row}
-use Rattle.a429_arguments.proofs.OptionWords.{id_of, rows_of_options, rows_of_word, same_option}
+use Rattle.a429_arguments.proofs.OptionWords.{all_options, rows_of_options, rows_of_word, same_option}
 use Rattle.a429_arguments.proofs.UsedRows.{Within, all_new, at_missing, found_before, found_behind, found_behind_none, has_id, is_new, missing_in_both, none_found, rest_is_new, row_at, same_text, within_more}
 
 -- ---- default values
 
+abbrev is_as_written : Reading → Bool
+is_as_written AsWritten = true
+is_as_written _ = false
+
 -- a flag has the value `false` if it is not given, and nothing else has a value then
 abbrev pub HasPlainDefault : Rule → Type 0
 HasPlainDefault a = (a.defaults ≡ []) ⊎ ((name : OptionName) × (is_flag name ≡ true) × (a.id ≡ id_of name) × (a.defaults ≡ codes "false" ∷ []) × (reading_by a ≡ AsWritten))
+
+-- so says a Boolean
+abbrev is_of_flag : Rule → OptionName → Bool
+is_of_flag a name = is_flag name && bytes_eq a.id (id_of name)
+
+abbrev is_false : Rule → List Text → Bool
+is_false a (value ∷ []) = bytes_eq value (codes "false") && (is_as_written (reading_by a) && list_any (is_of_flag a) all_options)
+is_false a _ = false
+
+abbrev has_plain_default_by : Rule → List Text → Bool
+has_plain_default_by a [] = true
+has_plain_default_by a values = is_false a values
+
+abbrev pub has_plain_default : Rule → Bool
+has_plain_default a = has_plain_default_by a a.defaults
+
+as_written : (reading : Reading) → is_as_written reading ≡ true → reading ≡ AsWritten
+as_written AsWritten is = refl
+as_written _ is = absurd (cc is)
+
+flag_of : (a : Rule) (names : List OptionName) → list_any (is_of_flag a) names ≡ true → (name : OptionName) × (is_flag name ≡ true) × (a.id ≡ id_of name)
+flag_of a [] any = absurd (cc any)
+flag_of a (name ∷ names) any = go (is_of_flag a name) refl (flag_of a names)
+  where
+    go : (b : Bool) → is_of_flag a name ≡ b → (list_any (is_of_flag a) names ≡ true → (x : OptionName) × (is_flag x ≡ true) × (a.id ≡ id_of x)) → (x : OptionName) × (is_flag x ≡ true) × (a.id ≡ id_of x)
+    go true is rest = let parts = and_parts (is_flag name) (bytes_eq a.id (id_of name)) is in (name, parts.0, (bytes_eq-Decides a.id (id_of name)).0 parts.1)
+    go false is rest = rest (rw is at any)
+
+plain_default : (a : Rule) (values : List Text) → a.defaults ≡ values → has_plain_default_by a values ≡ true → HasPlainDefault a
+plain_default a [] same is = inl same
+plain_default a (value ∷ []) same is =
+    let parts = and_parts (bytes_eq value (codes "false")) (is_as_written (reading_by a) && list_any (is_of_flag a) all_options) is in
+    let others = and_parts (is_as_written (reading_by a)) (list_any (is_of_flag a) all_options) parts.1 in
+    let flag = flag_of a all_options others.1 in
+    inr (flag.0, flag.1, flag.2, same ∙ ap (λ (v : Text). v ∷ []) ((bytes_eq-Decides value (codes "false")).0 parts.0), as_written (reading_by a) others.0)
+plain_default a (value ∷ more ∷ values) same is = absurd (cc is)
+
+pub plain_defaults : (rules : List Rule) → list_all has_plain_default rules ≡ true → AllByRecursion HasPlainDefault rules
+plain_defaults [] all = tt
+plain_defaults (a ∷ rules) all =
+    let parts = and_parts (has_plain_default a) (list_all has_plain_default rules) all in
+    (plain_default a a.defaults refl parts.0, plain_defaults rules parts.1)
 
 abbrev pub with_defaults : List Row → List Rule → List Row
 with_defaults rows rules = fold with_default rows rules
@@ -93,21 +141,21 @@ flag_unset id rules rows all none = still_unset id rules rows all (rw (none_foun
 -- ---- options
 
 -- an option that is not given is found nowhere
-pub option_missing : (o : OptionBytes) (name : OptionName) (names : List OptionName) → word_given o name ≡ None → has_row (id_of name) (rows_of_options o names) ≡ false
+pub option_missing : (o : Given) (name : OptionName) (names : List OptionName) → text_given o name ≡ None → has_row (id_of name) (rows_of_options o names) ≡ false
 option_missing o name [] none = refl
 option_missing o name (x ∷ names) none =
-    missing_in_both (id_of name) (rows_of_word x (word_given o x)) (rows_of_options o names) (go (word_given o x) refl) (option_missing o name names none)
+    missing_in_both (id_of name) (rows_of_word x (text_given o x)) (rows_of_options o names) (go (text_given o x) refl) (option_missing o name names none)
   where
-    other : (word : Text) (b : Bool) → word_given o x ≡ Some word → bytes_eq (id_of x) (id_of name) ≡ b → b ≡ false
-    other word true given same = absurd (cc (sym given ∙ (ap (word_given o) (same_option x name same) ∙ none)))
+    other : (word : Text) (b : Bool) → text_given o x ≡ Some word → bytes_eq (id_of x) (id_of name) ≡ b → b ≡ false
+    other word true given same = absurd (cc (sym given ∙ (ap (text_given o) (same_option x name same) ∙ none)))
     other word false given same = refl
 
-    go : (word : Option Text) → word_given o x ≡ word → has_row (id_of name) (rows_of_word x word) ≡ false
+    go : (word : Option Text) → text_given o x ≡ word → has_row (id_of name) (rows_of_word x word) ≡ false
     go None given = refl
     go (Some word) given = rw (other word (bytes_eq (id_of x) (id_of name)) given refl) refl
 
 -- and one that is given is found with its word
-pub option_found : (o : OptionBytes) (name : OptionName) (word : Text) (names : List OptionName) → word_given o name ≡ Some word → has_option names name ≡ true
+pub option_found : (o : Given) (name : OptionName) (word : Text) (names : List OptionName) → text_given o name ≡ Some word → has_option names name ≡ true
     → row_at (id_of name) (rows_of_options o names) ≡ Some (row (id_of name) word)
 option_found o name word [] given has = cc
 option_found o name word (x ∷ names) given has = go (bytes_eq (id_of x) (id_of name)) refl (option_found o name word names given)
@@ -117,12 +165,12 @@ option_found o name word (x ∷ names) given has = go (bytes_eq (id_of x) (id_of
     passed (Some w) other = rw other refl
 
     go : (b : Bool) → bytes_eq (id_of x) (id_of name) ≡ b → (has_option names name ≡ true → row_at (id_of name) (rows_of_options o names) ≡ Some (row (id_of name) word))
-        → row_at (id_of name) (rows_of_word x (word_given o x) ++ rows_of_options o names) ≡ Some (row (id_of name) word)
+        → row_at (id_of name) (rows_of_word x (text_given o x) ++ rows_of_options o names) ≡ Some (row (id_of name) word)
     go true same rest =
         let is : x ≡ name = same_option x name same in
         rw (is, given, same_text (id_of name)) refl
     go false other rest =
-        found_behind (id_of name) (rows_of_word x (word_given o x)) (rows_of_options o names) (passed (word_given o x) other) ∙ rest (rw other at has)
+        found_behind (id_of name) (rows_of_word x (text_given o x)) (rows_of_options o names) (passed (text_given o x) other) ∙ rest (rw other at has)
 
 -- ---- arguments with one word each
 

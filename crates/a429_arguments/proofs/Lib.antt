@@ -7,6 +7,7 @@ pub mod Decimals
 pub mod TextHalves
 pub mod Elsewhere
 pub mod Found
+pub mod GivenTexts
 pub mod PushedWords
 pub mod OptionWords
 pub mod FoundRows

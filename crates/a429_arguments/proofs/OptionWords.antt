@@ -1,6 +1,6 @@
 -- The arguments that are options of a command, by the rules of the options.
-use Rattle.std.proofs.Common.{◌≡◌, ◌∙◌, ap, refl, codes, subst, sym, true, false, List, [], ◌∷◌, ◌++◌, append-nil, append_assoc, map}
-use Rattle.std.specs.Prelude.{ℕ, Option, Some, None, Bool, IfSome, ⊤, if◌then◌else◌}
+use Rattle.std.proofs.Common.{◌≡◌, ◌∙◌, ap, refl, codes, subst, sym, true, false, List, [], ◌∷◌, ◌++◌, append-nil, append_assoc, drop, map}
+use Rattle.std.specs.Prelude.{ℕ, Option, Some, None, Bool, IfSome, ⊤, if◌then◌else◌, slice_get}
 use Rattle.std.specs.Str.{bytes_eq}
 use Rattle.std.proofs.lemmas.Option.{same_Some}
 use Rattle.std.proofs.lemmas.Slice.Eq.{bytes_eq-Decides}
@@ -9,17 +9,20 @@ use Rattle.clap.specs.Simple.{filled}
 use Rattle.clap.specs.Takes.{value_passes}
 use Rattle.clap.specs.Walk.{Held, Waiting, arg_by_id, arg_by_long, has_row, idle}
 use Rattle.clap.proofs.OnLiterals.{clap_on_literals}
-use Rattle.a429_arguments.specs.CommandLine.{All, AsText, Bcd, Bits, Bnr, Channels, Code, Csv, Data, Events, From, Group, Html, Inputs, Json, Limit, MakesNames, Maps, OptionName, Rate, Rows, Sdi, Sent, Slack, Slots, Ssm, Summary, Time, Tolerances, Until, Width, option_rule}
-use Rattle.a429_arguments.specs.Requests.{OptionBytes, flag_word, is_csv, is_flag, is_json, option_words, word_given, words_of_options}
+use Rattle.a429_arguments.specs.CommandLine.{id_of, is_flag, is_switch, kind_of, kind_rule, option_rule}
+use Rattle.a429_arguments.specs.Given.{Given, text_given}
+use Rattle.a429_arguments.specs.Requests.{CanBeGiven, option_words, words_of_options}
+use Rattle.a429_arguments.specs.declared.forms.OptionKind.{OptionKind}
+use Rattle.a429_arguments.specs.declared.forms.OptionKind.TheVariants as given
+use Rattle.a429_arguments.specs.declared.forms.OptionName.{OptionName}
+use Rattle.a429_arguments.specs.declared.forms.OptionName.TheVariants as option
+use Rattle.a429_arguments.specs.declared.forms.TheConstants.{OPTIONS}
 use Rattle.a429_arguments.proofs.CommandWords.{row}
 use Rattle.a429_arguments.proofs.PlainWords.{IsPlainWord, TakesValues, at_word, for_none}
 use Rattle.a429_arguments.proofs.SettledWords.{IsOption, IsSingle, IsSwitch, Reads, Settles, all_settles, held_all, held_with, option_read, reads_none, switch_read, value_settles}
 use Rattle.a429_arguments.proofs.UsedRows.{Within, all_new, is_new, rest_is_new, within_more, within_passed}
 
--- the name of an option, and its rule as the command line is built
-abbrev pub id_of : OptionName → Text
-id_of name = (option_rule name).id
-
+-- the rule of an option, as the command line is built
 abbrev pub built_option : OptionName → Rule
 built_option name = filled (option_rule name)
 
@@ -27,7 +30,7 @@ built_option name = filled (option_rule name)
 
 is_option : (name : OptionName) → IsOption (built_option name)
 unfolding clap_on_literals
-is_option Csv = record { no_end = refl; long = refl }
+is_option option.Csv = record { no_end = refl; long = refl }
 is_option _ = record { no_end = refl; long = refl }
 
 -- an option has a value or none, as its rule says
@@ -35,28 +38,18 @@ abbrev pub KindOf : Rule → Bool → Type 0
 KindOf a true = IsSwitch a
 KindOf a false = IsSingle a
 
--- an option that is given as often as one likes is none of these
-kind_of_option : (o : OptionBytes) (name : OptionName) (word : Text) → word_given o name ≡ Some word → KindOf (built_option name) (is_flag name)
+-- what can be given with an option says that
+kind_of_rule : (id : Text) (kind : OptionKind) (texts : List Text) (word : Text) → slice_get texts 0 ≡ Some word → CanBeGiven kind texts → KindOf (filled (kind_rule id kind)) (is_switch kind)
 unfolding clap_on_literals
-kind_of_option o Inputs word given = absurd (cc given)
-kind_of_option o Channels word given = absurd (cc given)
-kind_of_option o Maps word given = absurd (cc given)
-kind_of_option o Tolerances word given = absurd (cc given)
-kind_of_option o Csv word given = record { range = refl; action = refl; reading = refl; missing = refl; passes = refl }
-kind_of_option o Json word given = record { range = refl; action = refl; reading = refl; missing = refl; passes = refl }
-kind_of_option o All word given = record { range = refl; action = refl; reading = refl; missing = refl; passes = refl }
-kind_of_option o Html word given = record { range = refl; action = refl; reading = refl; missing = refl; passes = refl }
-kind_of_option o Sent word given = record { range = refl; action = refl; reading = refl; missing = refl; passes = refl }
-kind_of_option o Summary word given = record { range = refl; action = refl; reading = refl; missing = refl; passes = refl }
-kind_of_option o Code word given = record { range = refl; action = refl; reading = refl; missing = refl; passes = refl }
-kind_of_option o Rows word given = record { range = refl; action = refl; reading = refl; missing = refl; passes = refl }
-kind_of_option o Events word given = record { range = refl; action = refl; reading = refl; missing = refl; passes = refl }
-kind_of_option o AsText word given = record { range = refl; action = refl; reading = refl; missing = refl; passes = refl }
-kind_of_option o MakesNames word given = record { range = refl; action = refl; reading = refl; missing = refl; passes = refl }
-kind_of_option o _ word given = record { range = refl; action = refl; reading = refl; trailing = refl }
+kind_of_rule id kind [] word has can = absurd (cc has)
+kind_of_rule id given.Flag (text ∷ []) word has can = record { range = refl; action = refl; reading = refl; missing = refl; passes = refl }
+kind_of_rule id (given.Text form) (text ∷ []) word has can = record { range = refl; action = refl; reading = refl; trailing = refl }
+kind_of_rule id (given.Texts form) (text ∷ []) word has can = absurd can
+kind_of_rule id (given.Number least most) (text ∷ []) word has can = record { range = refl; action = refl; reading = refl; trailing = refl }
+kind_of_rule id kind (text ∷ more ∷ texts) word has can = absurd can
 
 abbrev pub all_options : List OptionName
-all_options = Csv ∷ Json ∷ All ∷ Group ∷ Slots ∷ Width ∷ Html ∷ Time ∷ From ∷ Until ∷ Sent ∷ Summary ∷ Code ∷ Limit ∷ Rate ∷ Rows ∷ Slack ∷ Inputs ∷ Channels ∷ Maps ∷ AsText ∷ MakesNames ∷ Tolerances ∷ Events ∷ Sdi ∷ Ssm ∷ Data ∷ Bnr ∷ Bits ∷ Bcd ∷ []
+all_options = map (λ row. row.0) OPTIONS
 
 abbrev option_named : Text → List OptionName → Option OptionName
 option_named id [] = None
@@ -64,7 +57,7 @@ option_named id (name ∷ names) = if bytes_eq (id_of name) id then Some name el
 
 -- the proof of each pair of options would be 900 cases
 named_back : (name : OptionName) → option_named (id_of name) all_options ≡ Some name
-named_back Csv = refl
+named_back option.Csv = refl
 named_back _ = refl
 
 -- no two have one name
@@ -73,23 +66,13 @@ same_option a b is =
     let same = (bytes_eq-Decides (id_of a) (id_of b)).0 is in
     same_Some a b (sym (named_back a) ∙ ap (λ id. option_named id all_options) same ∙ named_back b)
 
-flag_text : (b : Bool) (word : Text) → flag_word b ≡ Some word → word ≡ codes "true"
-flag_text true word given = sym (same_Some (codes "true") word given)
-flag_text false word given = absurd (cc given)
-
-flag_is_true : (name : OptionName) (o : OptionBytes) (word : Text) → is_flag name ≡ true → word_given o name ≡ Some word → word ≡ codes "true"
-flag_is_true Csv o word flag given = flag_text (is_csv o.form) word given
-flag_is_true Json o word flag given = flag_text (is_json o.form) word given
-flag_is_true All o word flag given = flag_text o.all word given
-flag_is_true Html o word flag given = flag_text o.html word given
-flag_is_true Sent o word flag given = flag_text o.sent word given
-flag_is_true Summary o word flag given = flag_text o.summary word given
-flag_is_true Code o word flag given = flag_text o.code word given
-flag_is_true Rows o word flag given = flag_text o.rows word given
-flag_is_true Events o word flag given = flag_text o.events word given
-flag_is_true AsText o word flag given = flag_text o.text word given
-flag_is_true MakesNames o word flag given = flag_text o.names word given
-flag_is_true _ o word flag given = absurd (cc flag)
+flag_is_true : (kind : OptionKind) (texts : List Text) (word : Text) → is_switch kind ≡ true → slice_get texts 0 ≡ Some word → CanBeGiven kind texts → word ≡ codes "true"
+flag_is_true kind [] word flag has can = absurd (cc has)
+flag_is_true given.Flag (text ∷ []) word flag has can = sym (same_Some text word has) ∙ can
+flag_is_true (given.Text form) (text ∷ []) word flag has can = absurd (cc flag)
+flag_is_true (given.Texts form) (text ∷ []) word flag has can = absurd can
+flag_is_true (given.Number least most) (text ∷ []) word flag has can = absurd (cc flag)
+flag_is_true kind (text ∷ more ∷ texts) word flag has can = absurd can
 
 -- ---- the words of several
 
@@ -97,6 +80,15 @@ flag_is_true _ o word flag given = absurd (cc flag)
 abbrev pub AreFound : List Rule → List OptionName → Type 0
 AreFound c [] = ⊤
 AreFound c (name ∷ names) = (arg_by_long c (id_of name) ≡ Some (built_option name)) × (arg_by_id c (id_of name) ≡ Some (built_option name)) × AreFound c names
+
+-- by lists of what is found
+pub are_found : (c : List Rule) (names : List OptionName) → map (λ (name : OptionName). arg_by_long c (id_of name)) names ≡ map (λ (name : OptionName). Some (built_option name)) names
+    → map (λ (name : OptionName). arg_by_id c (id_of name)) names ≡ map (λ (name : OptionName). Some (built_option name)) names → AreFound c names
+are_found c [] long by = tt
+are_found c (first_name ∷ names) long by =
+    let first = λ (xs : List (Option Rule)). slice_get xs 0 in
+    let rest = λ (xs : List (Option Rule)). drop 1 xs in
+    (same_Some _ _ (ap first long), same_Some _ _ (ap first by), are_found c names (ap rest long) (ap rest by))
 
 -- the word of an option is a value, and passes its rule
 abbrev pub WordPasses : OptionName → Option Text → Type 0
@@ -107,24 +99,24 @@ abbrev pub rows_of_word : OptionName → Option Text → List Row
 rows_of_word name None = []
 rows_of_word name (Some word) = row (id_of name) word ∷ []
 
-abbrev pub rows_of_options : OptionBytes → List OptionName → List Row
+abbrev pub rows_of_options : Given → List OptionName → List Row
 rows_of_options o [] = []
-rows_of_options o (name ∷ names) = rows_of_word name (word_given o name) ++ rows_of_options o names
+rows_of_options o (name ∷ names) = rows_of_word name (text_given o name) ++ rows_of_options o names
 
-module _ (s : Shape) (o : OptionBytes) (passes : (name : OptionName) → WordPasses name (word_given o name)) (position : ℕ) where
+module _ (s : Shape) (o : Given) (can : (name : OptionName) → CanBeGiven (kind_of name) (o name)) (passes : (name : OptionName) → WordPasses name (text_given o name)) (position : ℕ) where
   -- the words that follow those of an option
   abbrev Rest : OptionName → List OptionName → List Row → Type 0
   Rest name names rows = (word : Text) (g : Held) → Settles s g (rows ++ row (id_of name) word ∷ []) → Reads s (at_word g idle position) (words_of_options o names) (rows ++ (row (id_of name) word ∷ rows_of_options o names))
 
   -- an option that is given, by its kind
   given_read : (name : OptionName) (names : List OptionName) (h : Held) (w : Waiting) (rows : List Row) (word : Text) (flag : Bool) → is_flag name ≡ flag → KindOf (built_option name) flag
-      → word_given o name ≡ Some word → WordPasses name (Some word) → arg_by_long s.rules (id_of name) ≡ Some (built_option name) → arg_by_id s.rules (id_of name) ≡ Some (built_option name)
+      → text_given o name ≡ Some word → WordPasses name (Some word) → arg_by_long s.rules (id_of name) ≡ Some (built_option name) → arg_by_id s.rules (id_of name) ≡ Some (built_option name)
       → has_row (id_of name) rows ≡ false → TakesValues w → Settles s h rows → Rest name names rows
       → Reads s (at_word h w position) (option_words name (Some word) ++ words_of_options o names) (rows ++ (row (id_of name) word ∷ rows_of_options o names))
   given_read name names h w rows word true flag kind given pass long by none takes settles rest =
       let all = rows ++ row (id_of name) (codes "true") ∷ [] in
       let end = rows ++ (row (id_of name) (codes "true") ∷ rows_of_options o names) in
-      rw (flag, flag_is_true name o word flag given)
+      rw (flag, flag_is_true (kind_of name) (o name) word flag given (can name))
       (switch_read s (built_option name) w position (words_of_options o names) h rows end takes (is_option name) kind long none settles (rest (codes "true") (held_all all) (all_settles s all)))
   given_read name names h w rows word false flag kind given pass long by none takes settles rest =
       let end = rows ++ (row (id_of name) word ∷ rows_of_options o names) in
@@ -132,13 +124,13 @@ module _ (s : Shape) (o : OptionBytes) (passes : (name : OptionName) → WordPas
       (option_read s (built_option name) w position word (words_of_options o names) h rows end takes (is_option name) kind long by settles pass.0
       (rest word (held_with rows (id_of name) (word ∷ [])) (value_settles s (built_option name) rows word kind by none pass.1)))
 
-  one_read : (name : OptionName) (names : List OptionName) (h : Held) (w : Waiting) (rows : List Row) (word : Option Text) → word_given o name ≡ word → WordPasses name word
+  one_read : (name : OptionName) (names : List OptionName) (h : Held) (w : Waiting) (rows : List Row) (word : Option Text) → text_given o name ≡ word → WordPasses name word
       → arg_by_long s.rules (id_of name) ≡ Some (built_option name) → arg_by_id s.rules (id_of name) ≡ Some (built_option name) → has_row (id_of name) rows ≡ false → TakesValues w → Settles s h rows
       → Reads s (at_word h w position) (words_of_options o names) (rows ++ rows_of_options o names) → Rest name names rows
       → Reads s (at_word h w position) (option_words name word ++ words_of_options o names) (rows ++ (rows_of_word name word ++ rows_of_options o names))
   one_read name names h w rows None given pass long by none takes settles others rest = others
   one_read name names h w rows (Some word) given pass long by none takes settles others rest =
-      given_read name names h w rows word (is_flag name) refl (kind_of_option o name word given) given pass long by none takes settles rest
+      given_read name names h w rows word (is_flag name) refl (kind_of_rule (id_of name) (kind_of name) (o name) word given (can name)) given pass long by none takes settles rest
 
   pub options_read : (names : List OptionName) (ids : List Text) (h : Held) (w : Waiting) (rows : List Row) → AreFound s.rules names → all_new ids (map id_of names) ≡ true → Within rows ids → TakesValues w → Settles s h rows
       → Reads s (at_word h w position) (words_of_options o names) (rows ++ rows_of_options o names)
@@ -146,7 +138,7 @@ module _ (s : Shape) (o : OptionBytes) (passes : (name : OptionName) → WordPas
   options_read (name ∷ names) ids h w rows (long, by, found) new within takes settles =
       let none = within (id_of name) (is_new ids (id_of name) (map id_of names) new) in
       let rest_new = rest_is_new ids (id_of name) (map id_of names) new in
-      one_read name names h w rows (word_given o name) refl (passes name) long by none takes settles
+      one_read name names h w rows (text_given o name) refl (passes name) long by none takes settles
       (options_read names (id_of name ∷ ids) h w rows found rest_new (within_passed rows ids (id_of name) within) takes settles)
       (λ word g settled.
       let more = row (id_of name) word ∷ [] in

@@ -6,12 +6,14 @@ use Rattle.clap.specs.Lexer.{usize_max}
 use Rattle.clap.specs.Words.{Row, Rule, Shape, Text}
 use Rattle.clap.specs.Takes.{value_passes}
 use Rattle.clap.specs.Walk.{Held, idle}
-use Rattle.a429_arguments.specs.CommandLine.{OptionName}
-use Rattle.a429_arguments.specs.Requests.{IsName, OptionBytes, word_given, words_of_options}
+use Rattle.a429_arguments.specs.CommandLine.{id_of, kind_of}
+use Rattle.a429_arguments.specs.Given.{Given, text_given}
+use Rattle.a429_arguments.specs.Requests.{CanBeGiven, IsName, words_of_options}
+use Rattle.a429_arguments.specs.declared.forms.OptionName.{OptionName}
 use Rattle.a429_arguments.proofs.CommandFacts.{AreAt, IsAtIf, ids_after, ids_if, many_at, many_is_many, position_after}
 use Rattle.a429_arguments.proofs.CommandWords.{row_of_words}
 use Rattle.a429_arguments.proofs.FoundRows.{use_id, use_row}
-use Rattle.a429_arguments.proofs.OptionWords.{AreFound, WordPasses, id_of, options_read, rows_of_options}
+use Rattle.a429_arguments.proofs.OptionWords.{AreFound, WordPasses, options_read, rows_of_options}
 use Rattle.a429_arguments.proofs.PlainWords.{IsPlainWord, at_word, for_none}
 use Rattle.a429_arguments.proofs.SettledWords.{IsSingle, Reads, Settles, held_with, many_read, rows_of_many, single_read, value_settles}
 use Rattle.a429_arguments.proofs.UsedRows.{Within, all_new, is_new, rest_is_new, within_more, within_passed}
@@ -78,16 +80,16 @@ pub within_if : (given : Option Text) (more : List Text) (rows : List Row) (ids 
 within_if None more rows ids within = subst (λ (rs : List Row). Within rs ids) (sym (append-nil rows)) within
 within_if (Some id) more rows ids within = within_many id more rows ids within
 
-pub more_read : (s : Shape) (o : OptionBytes) (names : List OptionName) (given : Option Text) (more : List Text) (i : ℕ) (ids : List Text) (h : Held) (rows : List Row)
-    → ((name : OptionName) → WordPasses name (word_given o name)) → AreFound s.rules names → IsAtIf s.rules i given → AreNamesIf given more → all_new ids (ids_if given ++ map id_of names) ≡ true
+pub more_read : (s : Shape) (o : Given) (names : List OptionName) (given : Option Text) (more : List Text) (i : ℕ) (ids : List Text) (h : Held) (rows : List Row)
+    → ((name : OptionName) → CanBeGiven (kind_of name) (o name)) → ((name : OptionName) → WordPasses name (text_given o name)) → AreFound s.rules names → IsAtIf s.rules i given → AreNamesIf given more → all_new ids (ids_if given ++ map id_of names) ≡ true
     → Within rows ids → Settles s h rows → Reads s (at_word h idle i) (more ++ words_of_options o names) ((rows ++ rows_if given more) ++ rows_of_options o names)
-more_read s o names None more i ids h rows passes found at empty new within settles =
-    rw empty (options_read s o passes i names ids h idle (rows ++ []) found new (within_if None [] rows ids within) for_none (subst (Settles s h) (sym (append-nil rows)) settles))
-more_read s o names (Some id) more i ids h rows passes found (at, by) words new within settles =
+more_read s o names None more i ids h rows can passes found at empty new within settles =
+    rw empty (options_read s o can passes i names ids h idle (rows ++ []) found new (within_if None [] rows ids within) for_none (subst (Settles s h) (sym (append-nil rows)) settles))
+more_read s o names (Some id) more i ids h rows can passes found (at, by) words new within settles =
     let none = within id (is_new ids id (map id_of names) new) in
     let end = (rows ++ rows_of_many id more) ++ rows_of_options o names in
     many_read s (many_at i id) i rows [] more (words_of_options o names) h idle end (many_is_many i id) at by none for_none (subst (Settles s h) (sym (append-nil rows)) settles) words
-    (λ g w takes settled. options_read s o passes i names (id ∷ ids) g w (rows ++ rows_of_many id more) found (rest_is_new ids id (map id_of names) new) (within_many id more rows ids within) takes settled)
+    (λ g w takes settled. options_read s o can passes i names (id ∷ ids) g w (rows ++ rows_of_many id more) found (rest_is_new ids id (map id_of names) new) (within_many id more rows ids within) takes settled)
 
 pub all_append : (us vs : List (Rule × Text)) → ArePlain us → ArePlain vs → ArePlain (us ++ vs)
 all_append [] vs first second = second

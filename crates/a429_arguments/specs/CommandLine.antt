@@ -1,18 +1,22 @@
 -- The command line of the program: a row for each command, and what the rules of the command line make of the rows
 -- (the clap library; profile: docs/FORMATS.md, Usage errors).
-use Rattle.std.specs.Prelude.{◌≡◌, ◌∷◌, [], ℕ, List, Option, true, false, Some, None, codes, fold, map, option_map}
+use denote.Enum.Declared.{tag_of}
+use Rattle.std.specs.Prelude.{◌≡◌, ◌∷◌, [], ℕ, Bool, List, Option, true, false, Some, None, codes, fold, get_or, map, option_map}
 use Rattle.clap.specs.Words.{App, Rule, Shape, Text, new_app, new_rule, rule_of, with_rule, with_subcommand}
 use Rattle.clap.specs.declared.builder.arg.Arg.{Arg}
 use Rattle.clap.specs.declared.builder.action.ArgAction.TheVariants.{Append, SetTrue}
 use Rattle.clap.specs.declared.builder.value_parser.ValueParser.TheVariants as reads
+use Rattle.a429_arguments.specs.contracts.forms.OptionName.{the_type}
 use Rattle.a429_arguments.specs.declared.command_line.Given.{Given}
 use Rattle.a429_arguments.specs.declared.command_line.Given.TheVariants as thing
 use Rattle.a429_arguments.specs.declared.forms.CommandForm.{CommandForm}
 use Rattle.a429_arguments.specs.declared.forms.NameForm.{NameForm}
 use Rattle.a429_arguments.specs.declared.forms.NumberForm.{NumberForm}
-use Rattle.a429_arguments.specs.declared.forms.OptionForm.{OptionForm}
 use Rattle.a429_arguments.specs.declared.forms.OptionKind.{OptionKind}
 use Rattle.a429_arguments.specs.declared.forms.OptionKind.TheVariants as given
+use Rattle.a429_arguments.specs.declared.forms.OptionName.{OptionName}
+use Rattle.a429_arguments.specs.declared.forms.OptionName.TheVariants as option
+use Rattle.a429_arguments.specs.declared.forms.TheConstants.{DIFF_OPTIONS, DRAW_OPTIONS, ENCODE_OPTIONS, FORMS, ICD_OPTIONS, IMPORT_OPTIONS, JUDGE_OPTIONS, LOAD_OPTIONS, OPTIONS, SIMULATE_OPTIONS, SLOTS_OPTIONS, SURVEY_OPTIONS}
 use Rattle.a429_arguments.specs.declared.forms.Verb.{Verb}
 use Rattle.a429_arguments.specs.declared.forms.Verb.TheVariants as verb
 
@@ -29,144 +33,75 @@ number_rule number = record (required_rule number.0) { parser = Some (reads.Unsi
 abbrev pub many_rule : Text → Rule
 many_rule id = record (new_rule id) { action = Some Append }
 
--- an option of this name, which has no value
-abbrev pub flag_rule : Text → Rule
-flag_rule name = record (new_rule name) { long = Some name; action = Some SetTrue }
-
--- an option of this name, which has one value
-abbrev pub value_rule : Text → Rule
-value_rule name = record (new_rule name) { long = Some name; value_names = 1 }
-
--- as many values as it is given
-abbrev pub values_rule : Text → Rule
-values_rule name = record (value_rule name) { action = Some Append }
-
--- and whose value is a whole number from the least to the most
-abbrev pub number_value_rule : Text → ℕ → ℕ → Rule
-number_value_rule name least most = record (value_rule name) { parser = Some (reads.Unsigned least most) }
-
--- ---- the options of all commands
-
 -- how many frames a group can send in one run of `live` (profile: docs/RULES.md, Limits)
 abbrev pub most_frames : ℕ
 most_frames = 1000000
-
--- how many slots of a bus can be drawn (profile: docs/RULES.md, Limits)
-abbrev pub most_slots : ℕ
-most_slots = 8192
-
--- a limit of the load of a bus, in per cent (profile: docs/RULES.md, Limits)
-abbrev pub most_percent : ℕ
-most_percent = 100
-
--- the bit rates of a line that can be asked for, in bit/s (ARINC 429 Part 1: low speed and high speed)
-abbrev pub least_rate : ℕ
-least_rate = 12000
-
-abbrev pub most_rate : ℕ
-most_rate = 100000
-
--- by how much an interval can be widened, in per cent (profile: docs/RULES.md, Limits)
-abbrev pub most_slack : ℕ
-most_slack = 99
 
 -- how far recorded times may be wrong at most, in microseconds: the longest interval of an output (profile: docs/RULES.md, Limits)
 abbrev pub most_tolerance : ℕ
 most_tolerance = 30000000
 
--- the greatest SDI, and the greatest SSM (ARINC 429 Part 1: two bits each)
-abbrev pub most_pair : ℕ
-most_pair = 3
+-- ---- the options: the rows of the program (`OPTIONS`), each at the place of its name
 
--- the most bits of a BNR number below its sign (ARINC 429 Part 1)
-abbrev pub most_bits : ℕ
-most_bits = 18
+abbrev pub OptionRow : Type 0
+OptionRow = OptionName × (record { now : Text }) × OptionKind
 
--- the last microsecond until which cells can be asked for: fourteen digits (profile: docs/RULES.md, Limits)
-abbrev pub last_time : ℕ
-last_time = 99999999999999
+abbrev no_row : OptionRow
+no_row = (option.Csv, record { now = [] }, given.Flag)
 
-pub data OptionName : Type 0 where
-  Csv : OptionName
-  Json : OptionName
-  All : OptionName
-  Group : OptionName
-  Slots : OptionName
-  Width : OptionName
-  Html : OptionName
-  Time : OptionName
-  From : OptionName
-  Until : OptionName
-  Sent : OptionName
-  Summary : OptionName
-  Code : OptionName
-  Limit : OptionName
-  Rate : OptionName
-  Rows : OptionName
-  Slack : OptionName
-  Inputs : OptionName
-  Channels : OptionName
-  Maps : OptionName
-  AsText : OptionName
-  MakesNames : OptionName
-  Tolerances : OptionName
-  Events : OptionName
-  Sdi : OptionName
-  Ssm : OptionName
-  Data : OptionName
-  Bnr : OptionName
-  Bits : OptionName
-  Bcd : OptionName
+abbrev pub option_row : OptionName → OptionRow
+option_row name = get_or OPTIONS (tag_of the_type name) no_row
+
+-- its name without the two hyphens
+abbrev pub id_of : OptionName → Text
+id_of name = (option_row name).1.now
+
+-- what is given with it
+abbrev pub kind_of : OptionName → OptionKind
+kind_of name = (option_row name).2
+
+abbrev pub is_switch : OptionKind → Bool
+is_switch given.Flag = true
+is_switch _ = false
+
+-- the option has no value
+abbrev pub is_flag : OptionName → Bool
+is_flag name = is_switch (kind_of name)
+
+-- a value that is given with an option
+abbrev value_rule : Rule
+value_rule = record (new_rule []) { value_names = 1 }
+
+-- the rule of an option of this kind, apart from its name
+abbrev unnamed_rule : OptionKind → Rule
+unnamed_rule given.Flag = record (new_rule []) { action = Some SetTrue }
+unnamed_rule (given.Text form) = value_rule
+unnamed_rule (given.Texts form) = record value_rule { action = Some Append }
+unnamed_rule (given.Number least most) = record value_rule { parser = Some (reads.Unsigned least most) }
+
+abbrev pub kind_rule : Text → OptionKind → Rule
+kind_rule id kind = record (unnamed_rule kind) { id = id; long = Some id }
 
 abbrev pub option_rule : OptionName → Rule
-option_rule Csv = flag_rule (codes "csv")
-option_rule Json = flag_rule (codes "json")
-option_rule All = flag_rule (codes "all")
-option_rule Group = value_rule (codes "group")
-option_rule Slots = number_value_rule (codes "slots") 1 most_slots
-option_rule Width = value_rule (codes "width")
-option_rule Html = flag_rule (codes "html")
-option_rule Time = value_rule (codes "time")
-option_rule From = value_rule (codes "from")
-option_rule Until = number_value_rule (codes "until") 0 last_time
-option_rule Sent = flag_rule (codes "sent")
-option_rule Summary = flag_rule (codes "summary")
-option_rule Code = flag_rule (codes "c")
-option_rule Limit = number_value_rule (codes "limit") 1 most_percent
-option_rule Rate = number_value_rule (codes "rate") least_rate most_rate
-option_rule Rows = flag_rule (codes "rows")
-option_rule Slack = number_value_rule (codes "slack") 0 most_slack
-option_rule Inputs = values_rule (codes "in")
-option_rule Channels = values_rule (codes "channel")
-option_rule Maps = values_rule (codes "map")
-option_rule AsText = flag_rule (codes "text")
-option_rule MakesNames = flag_rule (codes "names")
-option_rule Tolerances = values_rule (codes "tolerance")
-option_rule Events = flag_rule (codes "events")
-option_rule Sdi = number_value_rule (codes "sdi") 0 most_pair
-option_rule Ssm = number_value_rule (codes "ssm") 0 most_pair
-option_rule Data = value_rule (codes "data")
-option_rule Bnr = value_rule (codes "bnr")
-option_rule Bits = number_value_rule (codes "bits") 1 most_bits
-option_rule Bcd = value_rule (codes "bcd")
+option_rule name = kind_rule (id_of name) (kind_of name)
 
 -- ---- the commands
 
 -- the options of a command, in the order in which help lists them
 abbrev pub options_of : Verb → List OptionName
-options_of verb.Encode = Sdi ∷ Ssm ∷ Data ∷ Bnr ∷ Bits ∷ Bcd ∷ []
-options_of verb.Import = Maps ∷ MakesNames ∷ []
-options_of verb.Icd = Csv ∷ AsText ∷ Json ∷ []
-options_of verb.Margin = Csv ∷ Json ∷ []
-options_of verb.Load = Limit ∷ Csv ∷ Json ∷ []
-options_of verb.Slots = Group ∷ All ∷ Code ∷ Csv ∷ Json ∷ []
-options_of verb.Buses = Csv ∷ Json ∷ []
-options_of verb.Lint = Csv ∷ Json ∷ []
-options_of verb.Diff = All ∷ Csv ∷ Json ∷ []
-options_of verb.Draw = Group ∷ Slots ∷ Width ∷ Html ∷ []
-options_of verb.Simulate = Time ∷ From ∷ Channels ∷ Until ∷ Sent ∷ Summary ∷ Csv ∷ Json ∷ []
-options_of verb.Survey = Time ∷ From ∷ Channels ∷ Rate ∷ Rows ∷ Slack ∷ Csv ∷ Json ∷ []
-options_of verb.Judge = Inputs ∷ Tolerances ∷ Events ∷ Time ∷ From ∷ Channels ∷ Csv ∷ Json ∷ []
+options_of verb.Encode = ENCODE_OPTIONS.now
+options_of verb.Import = IMPORT_OPTIONS.now
+options_of verb.Icd = ICD_OPTIONS.now
+options_of verb.Margin = FORMS.now
+options_of verb.Load = LOAD_OPTIONS.now
+options_of verb.Slots = SLOTS_OPTIONS.now
+options_of verb.Buses = FORMS.now
+options_of verb.Lint = FORMS.now
+options_of verb.Diff = DIFF_OPTIONS.now
+options_of verb.Draw = DRAW_OPTIONS.now
+options_of verb.Simulate = SIMULATE_OPTIONS.now
+options_of verb.Survey = SURVEY_OPTIONS.now
+options_of verb.Judge = JUDGE_OPTIONS.now
 options_of _ = []
 
 -- what a command is given: one to three names, perhaps a number up to the most, perhaps as many names as one likes, and options
@@ -260,15 +195,6 @@ given_rule (thing.Name form) = required_rule form.id.now
 given_rule (thing.Number form) = number_rule (form.id.now, form.most)
 given_rule (thing.Names form) = many_rule form.id.now
 
-abbrev pub kind_rule : Text → OptionKind → Rule
-kind_rule id given.Flag = flag_rule id
-kind_rule id (given.Text value) = value_rule id
-kind_rule id (given.Texts value) = values_rule id
-kind_rule id (given.Number value least most) = number_value_rule id least most
-
-abbrev pub form_rule : OptionForm → Rule
-form_rule form = kind_rule form.id.now form.kind
-
 -- the name of an argument, if there is one, and that of a number with the most that it may be
 abbrev pub name_id : Option NameForm → Option Text
 name_id form = option_map (λ n. n.id.now) form
@@ -284,7 +210,7 @@ form_row form = record {
   third = name_id form.third;
   number = number_id form.number;
   more = name_id form.more;
-  options = map form_rule form.options.now;
+  options = map option_rule form.options.now;
 }
 
 -- the form is that of its command

@@ -1,14 +1,16 @@
 -- Arguments other than a request: calls for help or for the version, and usage errors (profile: status 0, 1 and 2).
-use Rattle.std.specs.Prelude.{◌≡◌, ◌≢◌, ◌∷◌, [], ℕ, Bool, true, false, not, List, Option, Some, None, Result, MatchResult, codes, if◌then◌else◌, is_some}
+use Rattle.std.specs.Prelude.{◌≡◌, ◌≢◌, ◌∷◌, [], ℕ, Bool, true, false, not, List, Option, Some, None, Result, MatchResult, codes, find, if◌then◌else◌}
 use Rattle.std.specs.List.{list_all, list_any}
+use Rattle.std.specs.Option.{option_map_or}
 use Rattle.std.specs.Str.{bytes_eq}
 use Rattle.clap.specs.Kinds.{or_else}
 use Rattle.clap.specs.Words.{HasKind, Kinds, Row, Text, fault_of, subcommand_of}
 use Rattle.clap.specs.declared.error.Error.{Error}
 use Rattle.clap.specs.declared.error.kind.ErrorKind.{ErrorKind}
 use Rattle.clap.specs.declared.error.kind.ErrorKind.TheVariants.{DisplayHelp, DisplayVersion, InvalidSubcommand, InvalidValue}
-use Rattle.a429_arguments.specs.CommandLine.{command_line}
-use Rattle.a429_arguments.specs.RequestRows.{choices_given}
+use Rattle.a429_arguments.specs.CommandLine.{command_line, row_of, verbs}
+use Rattle.a429_arguments.specs.Given.{given_in}
+use Rattle.a429_arguments.specs.Rules.{are_refused}
 use Rattle.a429_arguments.specs.declared.forms.Verb.{Verb}
 use Rattle.a429_arguments.specs.declared.forms.Verb.TheVariants as verb
 use Rattle.a429_arguments.specs.declared.requests.Asked.{Asked}
@@ -23,15 +25,19 @@ abbrev pub elsewhere : Bool → Kinds
 elsewhere true = InvalidSubcommand ∷ []
 elsewhere false = []
 
+-- the command of this name
+abbrev pub verb_named : Text → Option Verb
+verb_named name = find (λ (v : Verb). bytes_eq (row_of v).name name) verbs
+
 -- an option has a value that it does not take, or options do not go together
-abbrev pub has_wrong_choice : Option (Text × List Row) → Bool
-has_wrong_choice None = false
-has_wrong_choice (Some p) = not (is_some (choices_given p.0 p.1))
+abbrev pub breaks_rules : Option (Text × List Row) → Bool
+breaks_rules None = false
+breaks_rules (Some p) = option_map_or (λ (v : Verb). are_refused v (given_in p.1)) (verb_named p.0) false
 
 -- what may be answered to arguments that the rules of the command line accept, instead of a request: by what was found of them and by whether another
 -- call does the command
 abbrev pub found_kinds : Option (Text × List Row) → Bool → Kinds
-found_kinds found is_elsewhere = if has_wrong_choice found then InvalidValue ∷ [] else elsewhere is_elsewhere
+found_kinds found is_elsewhere = if breaks_rules found then InvalidValue ∷ [] else elsewhere is_elsewhere
 
 -- what `command` may answer to arguments instead of a request, by the rules of the command line, and since `live` is not one of its commands; empty
 -- if they ask for something

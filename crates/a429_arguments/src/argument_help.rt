@@ -1,5 +1,5 @@
-//! The help of arguments and options, by names. The forms of commands have these names instead of the texts: the proof reads
-//! the value of all forms at once.
+//! The help of the names that commands are given, by names. The forms of commands have these names instead of the texts:
+//! the proof reads the value of all forms at once.
 
 use crate::help;
 
@@ -48,83 +48,6 @@ impl NameHelp {
             NameHelp::SentLogs => help::SENT_LOGS,
             NameHelp::Words => help::WORDS,
             NameHelp::Resubmitted => help::RESUBMITTED,
-        }
-    }
-}
-
-/// The help of an option.
-#[derive(Clone, Copy)]
-pub enum OptionHelp {
-    Csv,
-    Json,
-    SummaryJson,
-    TextLabels,
-    Map,
-    Names,
-    All,
-    Group,
-    DrawnSlots,
-    Width,
-    Html,
-    Time,
-    From,
-    Channel,
-    Until,
-    Sent,
-    Summary,
-    AllCells,
-    Code,
-    Limit,
-    Rate,
-    ImportRows,
-    Slack,
-    HeardLogs,
-    Tolerance,
-    Events,
-    Sdi,
-    Ssm,
-    Data,
-    Bnr,
-    Bits,
-    Bcd,
-}
-
-impl OptionHelp {
-    /// The help text of the option.
-    pub fn text(self) -> &'static str {
-        match self {
-            OptionHelp::Csv => help::CSV,
-            OptionHelp::Json => help::JSON,
-            OptionHelp::SummaryJson => help::SUMMARY_JSON,
-            OptionHelp::TextLabels => help::TEXT_LABELS,
-            OptionHelp::Map => help::MAP,
-            OptionHelp::Names => help::NAMES,
-            OptionHelp::All => help::ALL,
-            OptionHelp::Group => help::GROUP,
-            OptionHelp::DrawnSlots => help::DRAWN_SLOTS,
-            OptionHelp::Width => help::WIDTH,
-            OptionHelp::Html => help::HTML,
-            OptionHelp::Time => help::TIME,
-            OptionHelp::From => help::FROM,
-            OptionHelp::Channel => help::CHANNEL,
-            OptionHelp::Until => help::UNTIL,
-            OptionHelp::Sent => help::SENT,
-            OptionHelp::Summary => help::SUMMARY,
-            OptionHelp::AllCells => help::ALL_CELLS,
-            OptionHelp::Code => help::CODE,
-            OptionHelp::Limit => help::LIMIT,
-            OptionHelp::Rate => help::RATE,
-            OptionHelp::ImportRows => help::IMPORT_ROWS,
-            OptionHelp::Slack => help::SLACK,
-            OptionHelp::HeardLogs => help::HEARD_LOGS,
-            OptionHelp::Tolerance => help::TOLERANCE,
-            OptionHelp::Events => help::EVENTS,
-            OptionHelp::Sdi => help::SDI,
-            OptionHelp::Ssm => help::SSM,
-            OptionHelp::Data => help::DATA,
-            OptionHelp::Bnr => help::BNR,
-            OptionHelp::Bits => help::BITS,
-            OptionHelp::Bcd => help::BCD,
         }
     }
 }

@@ -1,10 +1,10 @@
 //! The command line: its commands.
 ghost use Rattle.std.specs.Prelude.{◌≡◌, ◌∷◌, [], IfOk, Some, fold, map};
 ghost use Rattle.clap.specs.Words.{App, HasKind, app_of, kind_of, new_app, new_rule, with_subcommand};
-ghost use Rattle.a429_arguments.specs.CommandLine.{HasRule, bare_line, command_line, form_row, form_rule, given_rule, many_rule, name_id, number_id, number_rule, required_rule, row_app, with_any, with_commands, with_names};
+ghost use Rattle.a429_arguments.specs.CommandLine.{HasRule, bare_line, command_line, form_row, given_rule, id_of, option_rule, many_rule, name_id, number_id, number_rule, required_rule, row_app, with_any, with_commands, with_names};
 
-use crate::forms::{CommandForm, NameForm, NumberForm, OptionForm, OptionKind, commands};
-use crate::help::{CommandHelp, VERSION, help_of};
+use crate::forms::{CommandForm, NameForm, NumberForm, OptionKind, OptionName, commands};
+use crate::help::{CommandHelp, OptionHelp, VERSION, help_of, option_help};
 use crate::program_help::PROGRAM;
 use clap::builder::ValueParser;
 use clap::error::ErrorKind;
@@ -117,25 +117,23 @@ fn with_given<'a>(
 }
 
 /// An option without what is given with it.
-fn named_option<'a>(alloc: Global, form: &OptionForm) -> Arg<'a>
-    ensures { HasRule result (record (new_rule form.now.id.now) { long = Some form.now.id.now }) }
+fn named_option<'a>(alloc: Global, option: OptionName, text: &'static str) -> Arg<'a>
+    ensures { HasRule result (record (new_rule (id_of option)) { long = Some (id_of option) }) }
 {
-    Arg::new(alloc, form.id)
-        .help(form.help.text())
-        .long(form.id)
+    Arg::new(alloc, option.id()).help(text).long(option.id())
 }
 
-/// The argument of an option.
-fn option_argument<'a>(alloc: Global, form: &OptionForm) -> Arg<'a>
-    ensures { HasRule result (form_rule form.now) }
+/// The argument of an option, with this help.
+fn option_argument<'a>(alloc: Global, option: OptionName, help: OptionHelp) -> Arg<'a>
+    ensures { HasRule result (option_rule option) }
 {
-    let option = named_option(alloc, form);
-    match form.kind {
-        OptionKind::Flag => option.action(ArgAction::SetTrue),
-        OptionKind::Text { value } => option.value_name(value),
-        OptionKind::Texts { value } => option.value_name(value).action(ArgAction::Append),
-        OptionKind::Number { value, least, most } => option
-            .value_name(value)
+    let argument = named_option(alloc, option, help.text);
+    match option.kind() {
+        OptionKind::Flag => argument.action(ArgAction::SetTrue),
+        OptionKind::Text(_) => argument.value_name(help.value),
+        OptionKind::Texts(_) => argument.value_name(help.value).action(ArgAction::Append),
+        OptionKind::Number { least, most } => argument
+            .value_name(help.value)
             .value_parser(ValueParser::unsigned(least, most)),
     }
 }
@@ -170,7 +168,8 @@ fn command_of<'a>(alloc: Global, form: &CommandForm) -> Result<Command<'a>, Allo
     let command = named_command(alloc, form.name, about, end);
     let mut command = with_names(alloc, command, form)?;
     for option in form.options {
-        command = command.arg(option_argument(alloc, option))?;
+        let help = option_help(form.verb, *option);
+        command = command.arg(option_argument(alloc, *option, help))?;
     }
     Ok(command)
 }

@@ -1,15 +1,10 @@
-//! The commands and their options: what each is given, its help, and an example. All else that depends on the commands
-//! of the program comes from these rows.
+//! The commands and the options: what each is given. All else that depends on the commands and options of the program
+//! comes from these rows. `help` has their help.
 ghost use Rattle.std.specs.Prelude.{◌≡◌, IfSome, map};
 ghost use Rattle.std.specs.List.{AllByRecursion};
-ghost use Rattle.a429_arguments.specs.CommandLine.{IsRow, form_row, row_of, verbs};
+ghost use Rattle.a429_arguments.specs.CommandLine.{IsRow, form_row, id_of, kind_of, row_of, verbs};
 
-use crate::argument_help::{NameHelp, OptionHelp};
-use crate::options::{
-    ALL, ALL_CELLS, BCD, BITS, BNR, CHANNEL, CODE, CSV, DATA, EVENTS, FROM, GROUP, HTML, IN, JSON,
-    LIMIT, MAP, NAMES, RATE, ROWS, SDI, SENT, SLACK, SLOTS, SSM, SUMMARY, SUMMARY_JSON, TEXT, TIME,
-    TOLERANCE, UNTIL, WIDTH,
-};
+use crate::argument_help::NameHelp;
 
 /// A command of the program.
 #[derive(Clone, Copy, PartialEq, Eq)]
@@ -50,33 +45,69 @@ pub struct NumberForm {
     pub help: NameHelp,
 }
 
+/// An option of the program. A command has some of them.
+#[derive(Clone, Copy, PartialEq, Eq)]
+pub enum OptionName {
+    Csv,
+    Json,
+    Text,
+    Map,
+    Names,
+    All,
+    Group,
+    Slots,
+    Width,
+    Html,
+    Time,
+    From,
+    Channel,
+    Until,
+    Sent,
+    Summary,
+    Code,
+    Limit,
+    Rate,
+    Rows,
+    Slack,
+    In,
+    Tolerance,
+    Events,
+    Sdi,
+    Ssm,
+    Data,
+    Bnr,
+    Bits,
+    Bcd,
+}
+
+/// Which texts an option takes.
+#[derive(Clone, Copy)]
+pub enum TextForm {
+    /// Each text.
+    Any,
+    /// How many slots are drawn side by side: 64, 128 or 256.
+    Width,
+    /// A unit of times: `us`, `ms` or `s`.
+    Unit,
+    /// From when on times are counted: `first`, or microseconds of at most eighteen digits.
+    Origin,
+    /// FROM=TO.
+    Rename,
+    /// US or GROUP=US, as `tolerances` reads it.
+    Tolerance,
+}
+
 /// What is given with an option.
 #[derive(Clone, Copy)]
 pub enum OptionKind {
     /// Nothing.
     Flag,
-    /// A text, which help calls by this name.
-    Text {
-        value: &'static str,
-    },
+    /// A text.
+    Text(TextForm),
     /// Such a text each time. It is given as often as one likes.
-    Texts {
-        value: &'static str,
-    },
+    Texts(TextForm),
     /// A whole number from `least` to `most`.
-    Number {
-        value: &'static str,
-        least: u64,
-        most: u64,
-    },
-}
-
-/// An option: its name without the two hyphens, what is given with it, and its help.
-#[derive(Clone, Copy)]
-pub struct OptionForm {
-    pub id: &'static str,
-    pub kind: OptionKind,
-    pub help: OptionHelp,
+    Number { least: u64, most: u64 },
 }
 
 /// A command: its name, and what it is given: one to three names, perhaps a number, perhaps any number of further names,
@@ -90,7 +121,7 @@ pub struct CommandForm {
     pub third: Option<NameForm>,
     pub number: Option<NumberForm>,
     pub more: Option<NameForm>,
-    pub options: &'static [OptionForm],
+    pub options: &'static [OptionName],
 }
 
 /// The form of a name.
@@ -102,6 +133,79 @@ macro_rules! name {
         }
     };
 }
+
+/// The row of an option that is a flag, takes a text or several, or a whole number from the least to the most.
+macro_rules! flag {
+    ($name:ident, $id:literal) => {
+        (OptionName::$name, $id, OptionKind::Flag)
+    };
+}
+
+macro_rules! text {
+    ($name:ident, $id:literal, $form:ident) => {
+        (OptionName::$name, $id, OptionKind::Text(TextForm::$form))
+    };
+}
+
+macro_rules! texts {
+    ($name:ident, $id:literal, $form:ident) => {
+        (OptionName::$name, $id, OptionKind::Texts(TextForm::$form))
+    };
+}
+
+macro_rules! number {
+    ($name:ident, $id:literal, $least:literal, $most:literal) => {
+        (
+            OptionName::$name,
+            $id,
+            OptionKind::Number {
+                least: $least,
+                most: $most,
+            },
+        )
+    };
+}
+
+macro_rules! options {
+    ($($name:ident),*) => {
+        &[$(OptionName::$name),*]
+    };
+}
+
+/// The options, in the order of `OptionName`: the name of each without the two hyphens, and what is given with it. The
+/// ranges are those of docs/RULES.md, Limits; that of `--rate` is the bit rate of a line (ARINC 429 Part 1).
+pub static OPTIONS: [(OptionName, &str, OptionKind); 30] = [
+    flag!(Csv, "csv"),
+    flag!(Json, "json"),
+    flag!(Text, "text"),
+    texts!(Map, "map", Rename),
+    flag!(Names, "names"),
+    flag!(All, "all"),
+    text!(Group, "group", Any),
+    number!(Slots, "slots", 1, 8192),
+    text!(Width, "width", Width),
+    flag!(Html, "html"),
+    text!(Time, "time", Unit),
+    text!(From, "from", Origin),
+    texts!(Channel, "channel", Rename),
+    number!(Until, "until", 0, 99_999_999_999_999),
+    flag!(Sent, "sent"),
+    flag!(Summary, "summary"),
+    flag!(Code, "c"),
+    number!(Limit, "limit", 1, 100),
+    number!(Rate, "rate", 12_000, 100_000),
+    flag!(Rows, "rows"),
+    number!(Slack, "slack", 0, 99),
+    texts!(In, "in", Any),
+    texts!(Tolerance, "tolerance", Tolerance),
+    flag!(Events, "events"),
+    number!(Sdi, "sdi", 0, 3),
+    number!(Ssm, "ssm", 0, 3),
+    text!(Data, "data", Any),
+    text!(Bnr, "bnr", Any),
+    number!(Bits, "bits", 1, 18),
+    text!(Bcd, "bcd", Any),
+];
 
 /// The most frames that a group sends in one run of `live` (profile).
 const MOST_FRAMES: u32 = 1_000_000;
@@ -124,12 +228,41 @@ const OF_TABLE: CommandForm = CommandForm {
     options: &[],
 };
 
+/// The options of the commands that have some, in the order in which help lists them.
+pub const FORMS: &[OptionName] = options![Csv, Json];
+
+pub const IMPORT_OPTIONS: &[OptionName] = options![Map, Names];
+
+pub const ICD_OPTIONS: &[OptionName] = options![Csv, Text, Json];
+
+pub const DRAW_OPTIONS: &[OptionName] = options![Group, Slots, Width, Html];
+
+pub const SLOTS_OPTIONS: &[OptionName] = options![Group, All, Code, Csv, Json];
+
+pub const LOAD_OPTIONS: &[OptionName] = options![Limit, Csv, Json];
+
+pub const DIFF_OPTIONS: &[OptionName] = options![All, Csv, Json];
+
+pub const SIMULATE_OPTIONS: &[OptionName] = options![
+    Time, From, Channel, Until, Sent, Summary, Csv, Json
+];
+
+pub const SURVEY_OPTIONS: &[OptionName] = options![
+    Time, From, Channel, Rate, Rows, Slack, Csv, Json
+];
+
+pub const JUDGE_OPTIONS: &[OptionName] = options![
+    In, Tolerance, Events, Time, From, Channel, Csv, Json
+];
+
+pub const ENCODE_OPTIONS: &[OptionName] = options![Sdi, Ssm, Data, Bnr, Bits, Bcd];
+
 static COMMANDS: [CommandForm; 19] = [
     CommandForm {
         verb: Verb::Import,
         name: "import",
         first: name!("FILE", NameHelp::Rows),
-        options: &[MAP, NAMES],
+        options: IMPORT_OPTIONS,
         ..OF_TABLE
     },
     CommandForm {
@@ -146,50 +279,50 @@ static COMMANDS: [CommandForm; 19] = [
     CommandForm {
         verb: Verb::Icd,
         name: "icd",
-        options: &[CSV, TEXT, JSON],
+        options: ICD_OPTIONS,
         ..OF_TABLE
     },
     CommandForm {
         verb: Verb::Draw,
         name: "draw",
-        options: &[GROUP, SLOTS, WIDTH, HTML],
+        options: DRAW_OPTIONS,
         ..OF_TABLE
     },
     CommandForm {
         verb: Verb::Slots,
         name: "slots",
-        options: &[GROUP, ALL_CELLS, CODE, CSV, JSON],
+        options: SLOTS_OPTIONS,
         ..OF_TABLE
     },
     CommandForm {
         verb: Verb::Buses,
         name: "buses",
-        options: &[CSV, JSON],
+        options: FORMS,
         ..OF_TABLE
     },
     CommandForm {
         verb: Verb::Load,
         name: "load",
-        options: &[LIMIT, CSV, JSON],
+        options: LOAD_OPTIONS,
         ..OF_TABLE
     },
     CommandForm {
         verb: Verb::Margin,
         name: "margin",
-        options: &[CSV, JSON],
+        options: FORMS,
         ..OF_TABLE
     },
     CommandForm {
         verb: Verb::Lint,
         name: "lint",
-        options: &[CSV, JSON],
+        options: FORMS,
         ..OF_TABLE
     },
     CommandForm {
         verb: Verb::Diff,
         name: "diff",
         second: Some(name!("OTHER", NameHelp::Other)),
-        options: &[ALL, CSV, JSON],
+        options: DIFF_OPTIONS,
         ..OF_TABLE
     },
     CommandForm {
@@ -204,7 +337,7 @@ static COMMANDS: [CommandForm; 19] = [
         name: "simulate",
         second: Some(name!("LOG", NameHelp::Log)),
         more: Some(name!("LOGS", NameHelp::Logs)),
-        options: &[TIME, FROM, CHANNEL, UNTIL, SENT, SUMMARY, CSV, SUMMARY_JSON],
+        options: SIMULATE_OPTIONS,
         ..OF_TABLE
     },
     CommandForm {
@@ -220,7 +353,7 @@ static COMMANDS: [CommandForm; 19] = [
         name: "survey",
         first: name!("LOG", NameHelp::Log),
         more: Some(name!("LOGS", NameHelp::Logs)),
-        options: &[TIME, FROM, CHANNEL, RATE, ROWS, SLACK, CSV, JSON],
+        options: SURVEY_OPTIONS,
         ..OF_TABLE
     },
     CommandForm {
@@ -229,7 +362,7 @@ static COMMANDS: [CommandForm; 19] = [
         second: Some(name!("IN", NameHelp::HeardLog)),
         third: Some(name!("OUT", NameHelp::SentLog)),
         more: Some(name!("OUTS", NameHelp::SentLogs)),
-        options: &[IN, TOLERANCE, EVENTS, TIME, FROM, CHANNEL, CSV, JSON],
+        options: JUDGE_OPTIONS,
         ..OF_TABLE
     },
     CommandForm {
@@ -242,7 +375,7 @@ static COMMANDS: [CommandForm; 19] = [
         verb: Verb::Encode,
         name: "encode",
         first: name!("LABEL", NameHelp::Label),
-        options: &[SDI, SSM, DATA, BNR, BITS, BCD],
+        options: ENCODE_OPTIONS,
         ..OF_TABLE
     },
     CommandForm {
@@ -277,4 +410,20 @@ pub fn command_named(name: &str) -> Option<&'static CommandForm>
 /// The row of a command in the table of commands. `None` if the table has no such row.
 pub fn command_of(verb: Verb) -> Option<&'static CommandForm> {
     commands().iter().find(|form| form.verb == verb)
+}
+
+impl OptionName {
+    /// The name without the two hyphens.
+    pub fn id(self) -> &'static str
+        ensures { result.now ≡ id_of self }
+    {
+        OPTIONS[self as usize].1
+    }
+
+    /// What is given with it.
+    pub fn kind(self) -> OptionKind
+        ensures { result ≡ kind_of self }
+    {
+        OPTIONS[self as usize].2
+    }
 }

@@ -1,6 +1,6 @@
 //! The texts of help: what each command and each of its arguments does, and an example.
 
-use crate::forms::Verb;
+use crate::forms::{OptionName, Verb};
 
 /// The help of a command: its first line, and its end, which has an example.
 #[derive(Clone, Copy)]
@@ -33,6 +33,52 @@ pub fn help_of(verb: Verb) -> CommandHelp {
         Verb::Lines => (LINES, LINES_END),
     };
     CommandHelp { about, end }
+}
+
+/// The help of an option: what help calls the text or the number that is given with it, and what it does.
+#[derive(Clone, Copy)]
+pub struct OptionHelp {
+    pub value: &'static str,
+    pub text: &'static str,
+}
+
+/// The help of an option of a command.
+pub fn option_help(verb: Verb, option: OptionName) -> OptionHelp {
+    let (value, text) = match option {
+        OptionName::Json if verb == Verb::Simulate => ("", SUMMARY_JSON),
+        OptionName::All if verb == Verb::Slots => ("", ALL_CELLS),
+        OptionName::Csv => ("", CSV),
+        OptionName::Json => ("", JSON),
+        OptionName::Text => ("", TEXT_LABELS),
+        OptionName::Map => ("HEADING=COLUMN", MAP),
+        OptionName::Names => ("", NAMES),
+        OptionName::All => ("", ALL),
+        OptionName::Group => ("NAME", GROUP),
+        OptionName::Slots => ("N", DRAWN_SLOTS),
+        OptionName::Width => ("N", WIDTH),
+        OptionName::Html => ("", HTML),
+        OptionName::Time => ("UNIT", TIME),
+        OptionName::From => ("TIME", FROM),
+        OptionName::Channel => ("FROM=TO", CHANNEL),
+        OptionName::Until => ("US", UNTIL),
+        OptionName::Sent => ("", SENT),
+        OptionName::Summary => ("", SUMMARY),
+        OptionName::Code => ("", CODE),
+        OptionName::Limit => ("PERCENT", LIMIT),
+        OptionName::Rate => ("RATE", RATE),
+        OptionName::Rows => ("", IMPORT_ROWS),
+        OptionName::Slack => ("PERCENT", SLACK),
+        OptionName::In => ("LOG", HEARD_LOGS),
+        OptionName::Tolerance => ("US", TOLERANCE),
+        OptionName::Events => ("", EVENTS),
+        OptionName::Sdi => ("N", SDI),
+        OptionName::Ssm => ("N", SSM),
+        OptionName::Data => ("HEX", DATA),
+        OptionName::Bnr => ("N", BNR),
+        OptionName::Bits => ("K", BITS),
+        OptionName::Bcd => ("DIGITS", BCD),
+    };
+    OptionHelp { value, text }
 }
 
 pub const VERSION: &str = "0.2.0";

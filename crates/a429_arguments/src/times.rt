@@ -1,13 +1,9 @@
 //! The options for the times in a log: their unit, and from when on they are counted.
-ghost use Rattle.std.specs.Prelude.{◌≡◌, Some, codes};
-ghost use Rattle.clap.specs.Words.{first_of, found_of, rows_of};
-ghost use Rattle.a429_arguments.specs.RequestRows.{origin_given, unit_given};
+ghost use Rattle.std.specs.Prelude.{◌≡◌};
+ghost use Rattle.a429_arguments.specs.Given.{last_origin, origin_in, unit_in};
 ghost use Rattle.a429_arguments.specs.Numbers.{number_up_to};
-ghost use Rattle.a429_arguments.specs.Requests.{last_origin};
 
-use crate::options::{FROM, TIME};
 use a429_logs::TimeUnit;
-use clap::ArgMatches;
 
 /// The last microsecond from which times may be counted: eighteen digits (profile).
 const LAST_ORIGIN: u64 = 999_999_999_999_999_999;
@@ -22,8 +18,8 @@ pub enum LogOrigin {
 }
 
 /// The unit that a text states. `None` if it is none of the three that there are.
-fn unit_in(text: &str) -> Option<TimeUnit>
-    ensures { result ≡ unit_given (Some text.now) }
+pub fn unit_in(text: &str) -> Option<TimeUnit>
+    ensures { result ≡ unit_in text.now }
 {
     if text == "us" {
         Some(TimeUnit::Microseconds)
@@ -33,16 +29,6 @@ fn unit_in(text: &str) -> Option<TimeUnit>
         Some(TimeUnit::Seconds)
     } else {
         None
-    }
-}
-
-/// The unit of the times in a log: microseconds, unless another one is given. `None` if what is given is no unit.
-pub fn unit_given(found: &ArgMatches<'_>) -> Option<TimeUnit>
-    ensures { result ≡ unit_given (first_of (codes "time") (rows_of (found_of found.now))) }
-{
-    match found.get_str(TIME.id) {
-        Some(text) => unit_in(text),
-        None => Some(TimeUnit::Microseconds),
     }
 }
 
@@ -63,8 +49,8 @@ fn time_in(text: &str) -> Option<u64>
 }
 
 /// From when on times are counted, by the text of that. `None` if it is neither `first` nor such a time.
-fn origin_in(text: &str) -> Option<LogOrigin>
-    ensures { result ≡ origin_given (Some text.now) }
+pub fn origin_in(text: &str) -> Option<LogOrigin>
+    ensures { result ≡ origin_in text.now }
 {
     if text == "first" {
         return Some(LogOrigin::First);
@@ -72,16 +58,5 @@ fn origin_in(text: &str) -> Option<LogOrigin>
     match time_in(text) {
         Some(time) => Some(LogOrigin::Time(time)),
         None => None,
-    }
-}
-
-/// From when on the times in a log are counted: from 0, unless another time is given. `None` if what is given is neither
-/// `first` nor a time.
-pub fn origin_given(found: &ArgMatches<'_>) -> Option<LogOrigin>
-    ensures { result ≡ origin_given (first_of (codes "from") (rows_of (found_of found.now))) }
-{
-    match found.get_str(FROM.id) {
-        Some(text) => origin_in(text),
-        None => Some(LogOrigin::Time(0)),
     }
 }

@@ -2,10 +2,9 @@
 //! group of this name.
 //!
 //! The last `=` counts: `a=b=500` is for the group `a=b`.
-ghost use Rattle.std.specs.Prelude.{◌≡◌, false, is_some, not, option_map};
-ghost use Rattle.std.specs.List.{list_all};
+ghost use Rattle.std.specs.Prelude.{◌≡◌, false, option_map};
 ghost use Rattle.a429_arguments.specs.Texts.{texts_of};
-ghost use Rattle.a429_arguments.specs.Tolerances.{FitTogether, HasToleranceForm, NamesGroup, TolerancesAreFor, are_tolerances, first_general_number, first_own_number, general_number, is_general_again, is_tolerance, microseconds_of, own_number, tolerance_for, tolerance_group};
+ghost use Rattle.a429_arguments.specs.Tolerances.{FitTogether, HasToleranceForm, NamesGroup, TolerancesAreFor, first_general_number, first_own_number, general_number, is_general_again, is_tolerance, microseconds_of, own_number, tolerance_for, tolerance_group};
 ghost use Rattle.a429_text.specs.Renames.{halves};
 
 use a429_text::renames;
@@ -105,7 +104,7 @@ pub fn tolerance_for(texts: &[&str], group: &[u8]) -> Option<u32>
 }
 
 /// Whether a text is US, or GROUP=US with a byte in GROUP.
-fn is_tolerance(text: &str) -> bool
+pub fn is_tolerance(text: &str) -> bool
     ensures { result ≡ is_tolerance text.now }
 {
     match halves(text) {
@@ -114,20 +113,8 @@ fn is_tolerance(text: &str) -> bool
     }
 }
 
-/// Whether all these texts are.
-fn have_form(texts: &[&str]) -> bool
-    ensures { result ≡ list_all is_tolerance (texts_of texts.now) }
-{
-    for text in texts {
-        if !is_tolerance(*text) {
-            return false;
-        }
-    }
-    true
-}
-
 /// Whether two of the texts are for all groups.
-fn is_general_twice(texts: &[&str]) -> bool
+pub fn is_general_twice(texts: &[&str]) -> bool
     ensures { result ≡ is_general_again false (texts_of texts.now) }
 {
     let mut seen = false;
@@ -140,24 +127,6 @@ fn is_general_twice(texts: &[&str]) -> bool
         }
     }
     false
-}
-
-/// What is wrong with texts of `--tolerance` that cannot be given together: one is neither US nor GROUP=US, or two are
-/// for one group or for all groups. `None` if nothing is wrong.
-pub fn fault_in(texts: &[&str]) -> Option<&'static str>
-    ensures { is_some result ≡ not (are_tolerances (texts_of texts.now)) }
-{
-    if !have_form(texts) {
-        Some(
-            "'--tolerance <US>' takes 0 to 30000000, or a group, '=' and such a number, as in engine=500",
-        )
-    } else if renames::has_one_from_twice(texts) {
-        Some("'--tolerance <US>' is given twice for one group")
-    } else if is_general_twice(texts) {
-        Some("'--tolerance <US>' is given twice for all groups")
-    } else {
-        None
-    }
 }
 
 /// What some texts say: the definitions, by examples.

@@ -7,7 +7,8 @@ use Rattle.a429_slots.specs.Proposed.{Proposed}
 use Rattle.a429_documents.specs.Drawing.{IsDrawingFault, image_height}
 use Rattle.a429_documents.specs.declared.drawing.DrawingFault.{DrawingFault}
 use Rattle.a429_documents.specs.declared.drawing.DrawingFault.TheVariants as drawing
-use Rattle.a429_arguments.specs.Requests.{OptionBytes}
+use Rattle.a429_arguments.specs.Given.{Given, has_given, number_given}
+use Rattle.a429_arguments.specs.declared.forms.OptionName.TheVariants as option
 use Rattle.a429_console.specs.Tables.{IsGroupRefusal}
 use Rattle.a429_console.specs.RefusalText.{OrMemory}
 use Rattle.a429_console.specs.declared.refusals.CommandRefusal.{CommandRefusal}
@@ -26,8 +27,8 @@ group_asked groups None = Some None
 group_asked groups (Some name) = option_map Some (group_numbered groups name)
 
 -- how many slots of each bus are drawn, in rows of how many, and whether it is a page
-abbrev pub picture_of : OptionBytes → Picture
-picture_of o = record { form = record { slots = o.slots; width = o.width }; is_page = o.html }
+abbrev pub picture_of : Given → Picture
+picture_of given = record { form = record { slots = number_given given option.Slots; width = number_given given option.Width }; is_page = has_given given option.Html }
 
 -- the group that was asked for is in the plan of a proposal, and its image is not too high
 abbrev pub HasImage : Proposed → Option (List ℕ) → Picture → Type 0

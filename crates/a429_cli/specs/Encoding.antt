@@ -6,7 +6,9 @@ use Rattle.a429_word.specs.Bits.{label_of, sdi_of, ssm_of, data_of, number_from,
 use Rattle.a429_word.specs.Texts.{label_value}
 use Rattle.a429_word.specs.Hexadecimal.{hex, hex_onto, raw_word}
 use Rattle.a429_word.specs.Decimal.{decimal_number}
-use Rattle.a429_arguments.specs.Requests.{FieldBytes}
+use Rattle.a429_arguments.specs.Given.{Given, number_given, text_given}
+use Rattle.a429_arguments.specs.declared.forms.OptionName.TheVariants as option
+use Rattle.a429_cli.specs.declared.encode.FieldOptions.{FieldOptions}
 use Rattle.a429_console.specs.declared.refusals.CommandRefusal.{CommandRefusal}
 use Rattle.a429_console.specs.declared.refusals.CommandRefusal.TheVariants as refused
 
@@ -66,6 +68,37 @@ abbrev pub IsNoBcd : List ℕ → Type 0
 IsNoBcd text = MatchOption (five_digits text) ⊤ (λ digits. 7 < slice_index digits 0)
 
 -- ---- what is given
+
+-- what is given of the fields of a word: an SDI and an SSM, and the data: in hexadecimal, as a BNR number with its bits below the sign, or as BCD digits
+pub record FieldBytes : Type 0 where
+  pub sdi : Option ℕ
+  pub ssm : Option ℕ
+  pub hex : Option (List ℕ)
+  pub bnr : Option (List ℕ)
+  pub bits : Option ℕ
+  pub bcd : Option (List ℕ)
+
+-- with the options of a request
+abbrev pub fields_given : Given → FieldBytes
+fields_given given = record {
+  sdi = number_given given option.Sdi;
+  ssm = number_given given option.Ssm;
+  hex = text_given given option.Data;
+  bnr = text_given given option.Bnr;
+  bits = number_given given option.Bits;
+  bcd = text_given given option.Bcd;
+}
+
+-- by the bytes of their texts
+abbrev pub fields_of : FieldOptions → FieldBytes
+fields_of f = record {
+  sdi = f.sdi;
+  ssm = f.ssm;
+  hex = option_map (λ t. t.now) f.hex;
+  bnr = option_map (λ t. t.now) f.bnr;
+  bits = f.bits;
+  bcd = option_map (λ t. t.now) f.bcd;
+}
 
 abbrev pub given_sdi : FieldBytes → ℕ
 given_sdi f = unwrap_or f.sdi 0

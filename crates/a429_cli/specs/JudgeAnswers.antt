@@ -1,6 +1,7 @@
 -- The command `judge`: its answer and its status (profile: docs/FORMATS.md, Output of `judge`).
 use Rattle.std.specs.Prelude.{◌≡◌, ◌∷◌, ℕ, List, Bool, Option, if◌then◌else◌}
 use Rattle.a429_arguments.specs.Requests.{AskedBytes}
+use Rattle.a429_arguments.specs.declared.forms.OptionName.TheVariants as option
 use Rattle.a429_console.specs.declared.refusals.CommandRefusal.{CommandRefusal}
 use Rattle.a429_recordings.specs.JudgeReplies.{BoxFiles, IsJudgedBy, IsUnjudgedBy, judge_form}
 
@@ -10,12 +11,12 @@ judge_status found = if found then 1 else 0
 
 -- the names that a request has: TABLE, IN with those of `--in`, and OUT with those after it; and the values of `--channel` and `--tolerance`
 abbrev pub box_names : AskedBytes → BoxFiles (List ℕ)
-box_names r = record { table = r.first; heard = r.second ∷ r.inputs; sent = r.third ∷ r.more; channels = r.channels; tolerances = r.tolerances }
+box_names r = record { table = r.first; heard = r.second ∷ r.given option.In; sent = r.third ∷ r.more; channels = r.given option.Channel; tolerances = r.given option.Tolerance }
 
 -- the sheet of the files that a request names, with the status that says whether something is found
 abbrev pub IsJudgement : (List ℕ → Option (List ℕ)) → AskedBytes → ℕ → List ℕ → Type 0
-IsJudgement file r status bytes = (found : Bool) × IsJudgedBy file (box_names r) (judge_form r.options) found bytes × (status ≡ judge_status found)
+IsJudgement file r status bytes = (found : Bool) × IsJudgedBy file (box_names r) (judge_form r.given) found bytes × (status ≡ judge_status found)
 
 -- why there is none
 abbrev pub IsUnjudged : (List ℕ → Option (List ℕ)) → AskedBytes → CommandRefusal → Type 0
-IsUnjudged file r refusal = IsUnjudgedBy file (box_names r) (judge_form r.options) refusal
+IsUnjudged file r refusal = IsUnjudgedBy file (box_names r) (judge_form r.given) refusal

@@ -2,7 +2,9 @@
 use Rattle.std.specs.Prelude.{◌≡◌, ◌⊎◌, ℕ, List, Bool, true, false, Option, Result, Ok, Err}
 use Rattle.std.specs.declared.alloc.AllocError.{AllocError}
 use Rattle.a429_cert.specs.PlanText.{plan_text_of}
-use Rattle.a429_arguments.specs.Requests.{AskedBytes, OptionBytes}
+use Rattle.a429_arguments.specs.Given.{Given, form_of, has_given, number_given, text_given}
+use Rattle.a429_arguments.specs.Requests.{AskedBytes}
+use Rattle.a429_arguments.specs.declared.forms.OptionName.TheVariants as option
 use Rattle.a429_arguments.specs.declared.forms.Verb.{Verb}
 use Rattle.a429_arguments.specs.declared.forms.Verb.TheVariants as verb
 use Rattle.a429_console.specs.declared.refusals.CommandRefusal.{CommandRefusal}
@@ -31,30 +33,30 @@ is_on_plan verb.Draw = true
 is_on_plan _ = false
 
 -- its status, and the bytes about a proposal
-abbrev pub IsReplyOnPlan : Verb → OptionBytes → Proposed → ℕ → List ℕ → Type 0
-IsReplyOnPlan verb.Plan o q status text = (text ≡ plan_text_of q.station q.plan) × (status ≡ 0)
-IsReplyOnPlan verb.Icd o q status text = (text ≡ sheet_text o.form icd_columns (icd_rows o.text q.station q.plan)) × (status ≡ 0)
-IsReplyOnPlan verb.Margin o q status text =
-    ((rows : List (List Field)) × IsMargin q.station q.plan rows × (text ≡ sheet_text o.form margin_columns rows)) × (status ≡ 0)
-IsReplyOnPlan verb.Load o q status text = IsLoad q (limit_of o.limit) o.form status text
-IsReplyOnPlan verb.Slots o q status text = HasSlots (slots_form o) q o.group status text
-IsReplyOnPlan verb.Buses o q status text = (text ≡ sheet_text o.form buses_columns (buses_rows q.station q.plan)) × (status ≡ 0)
-IsReplyOnPlan verb.Draw o q status text = HasImage q o.group (picture_of o) × (status ≡ 0)
-IsReplyOnPlan _ o q status text = ⊥
+abbrev pub IsReplyOnPlan : Verb → Given → Proposed → ℕ → List ℕ → Type 0
+IsReplyOnPlan verb.Plan given q status text = (text ≡ plan_text_of q.station q.plan) × (status ≡ 0)
+IsReplyOnPlan verb.Icd given q status text = (text ≡ sheet_text (form_of given) icd_columns (icd_rows (has_given given option.Text) q.station q.plan)) × (status ≡ 0)
+IsReplyOnPlan verb.Margin given q status text =
+    ((rows : List (List Field)) × IsMargin q.station q.plan rows × (text ≡ sheet_text (form_of given) margin_columns rows)) × (status ≡ 0)
+IsReplyOnPlan verb.Load given q status text = IsLoad q (limit_of (number_given given option.Limit)) (form_of given) status text
+IsReplyOnPlan verb.Slots given q status text = HasSlots (slots_form given) q (text_given given option.Group) status text
+IsReplyOnPlan verb.Buses given q status text = (text ≡ sheet_text (form_of given) buses_columns (buses_rows q.station q.plan)) × (status ≡ 0)
+IsReplyOnPlan verb.Draw given q status text = HasImage q (text_given given option.Group) (picture_of given) × (status ≡ 0)
+IsReplyOnPlan _ given q status text = ⊥
 
 -- why it writes nothing about a proposal
-abbrev pub IsNoReplyOnPlan : Verb → OptionBytes → Proposed → CommandRefusal → Type 0
-IsNoReplyOnPlan verb.Slots o q = IsNoGroup q.station.groups o.group
-IsNoReplyOnPlan verb.Draw o q = IsUndrawn q o.group (picture_of o)
-IsNoReplyOnPlan _ o q = λ refusal. ⊥
+abbrev pub IsNoReplyOnPlan : Verb → Given → Proposed → CommandRefusal → Type 0
+IsNoReplyOnPlan verb.Slots given q = IsNoGroup q.station.groups (text_given given option.Group)
+IsNoReplyOnPlan verb.Draw given q = IsUndrawn q (text_given given option.Group) (picture_of given)
+IsNoReplyOnPlan _ given q = λ refusal. ⊥
 
 -- the same of the table in a file
 abbrev pub IsPlanReply : Verb → (List ℕ → Option (List ℕ)) → AskedBytes → ℕ → List ℕ → Type 0
-IsPlanReply v file r status text = (q : Proposed) × IsProposedIn file r.first q × IsReplyOnPlan v r.options q status text
+IsPlanReply v file r status text = (q : Proposed) × IsProposedIn file r.first q × IsReplyOnPlan v r.given q status text
 
 -- why there is nothing: the file, or its table, or the plan of that, or what is asked of the plan
 abbrev pub IsNoPlanReply : Verb → (List ℕ → Option (List ℕ)) → AskedBytes → CommandRefusal → Type 0
-IsNoPlanReply v file r refusal = IsNoPlan file r.first refusal ⊎ ((q : Proposed) × IsProposedIn file r.first q × IsNoReplyOnPlan v r.options q refusal)
+IsNoPlanReply v file r refusal = IsNoPlan file r.first refusal ⊎ ((q : Proposed) × IsProposedIn file r.first q × IsNoReplyOnPlan v r.given q refusal)
 
 -- a reply, or that an allocation for it failed
 abbrev pub or_no_memory : Result Reply AllocError → Result Reply CommandRefusal

@@ -2,7 +2,9 @@
 use Rattle.std.specs.Prelude.{◌∷◌, ⊤, ℕ, List, Bool, true, false, Option, Result}
 use Rattle.a429_console.specs.Outputs.{FailedCalls, OrNoMemory}
 use Rattle.a429_console.specs.Replying.{RepliesByReader, RepliesToWords}
+use Rattle.a429_arguments.specs.Given.{form_of, has_given}
 use Rattle.a429_arguments.specs.Requests.{AskedBytes}
+use Rattle.a429_arguments.specs.declared.forms.OptionName.TheVariants as option
 use Rattle.a429_arguments.specs.declared.forms.Verb.{Verb}
 use Rattle.a429_arguments.specs.declared.forms.Verb.TheVariants as verb
 use Rattle.a429_console.specs.declared.files.FileFault.{FileFault}
@@ -10,7 +12,7 @@ use Rattle.a429_console.specs.declared.refusals.CommandRefusal.{CommandRefusal}
 use Rattle.a429_cli.specs.WordLines.{IsNoWord, IsWordOf}
 use Rattle.a429_cli.specs.LineReplies.{IsLinesReply}
 use Rattle.a429_cli.specs.Checks.{IsCheckOf, IsNoCheck}
-use Rattle.a429_cli.specs.Encoding.{IsEncoded, IsNotEncoded}
+use Rattle.a429_cli.specs.Encoding.{IsEncoded, IsNotEncoded, fields_given}
 use Rattle.a429_cli.specs.Plans.{IsNoPlanReply, IsPlanReply}
 use Rattle.a429_cli.specs.Findings.{IsDiffOf, IsLinted, IsNoDiff, IsNoLint}
 use Rattle.a429_cli.specs.Importing.{ImportsNoShortGroup, IsImported, IsNoImport}
@@ -40,11 +42,11 @@ trouble_of _ = 1
 -- the status and the bytes of such an answer, by these files and by what the command is given
 abbrev pub IsAnswerOf : Verb → (List ℕ → Option (List ℕ)) → AskedBytes → ℕ → List ℕ → Type 0
 IsAnswerOf verb.Word file r = IsWordOf r.first
-IsAnswerOf verb.Encode file r = IsEncoded r.first r.options.fields
-IsAnswerOf verb.Import file r = IsImported file r.maps r.options.names r.first
+IsAnswerOf verb.Encode file r = IsEncoded r.first (fields_given r.given)
+IsAnswerOf verb.Import file r = IsImported file (r.given option.Map) (has_given r.given option.Names) r.first
 IsAnswerOf verb.Check file r = IsCheckOf file r.first r.second
-IsAnswerOf verb.Lint file r = IsLinted file r.options.form r.first
-IsAnswerOf verb.Diff file r = IsDiffOf file r.options.all r.options.form r.first r.second
+IsAnswerOf verb.Lint file r = IsLinted file (form_of r.given) r.first
+IsAnswerOf verb.Diff file r = IsDiffOf file (has_given r.given option.All) (form_of r.given) r.first r.second
 IsAnswerOf verb.Survey file r = IsSurveyed file r
 IsAnswerOf verb.Judge file r = IsJudgement file r
 IsAnswerOf v file r = IsPlanReply v file r
@@ -52,8 +54,8 @@ IsAnswerOf v file r = IsPlanReply v file r
 -- why there is none
 abbrev pub IsNoAnswer : Verb → (List ℕ → Option (List ℕ)) → AskedBytes → CommandRefusal → Type 0
 IsNoAnswer verb.Word file r = IsNoWord r.first
-IsNoAnswer verb.Encode file r = IsNotEncoded r.first r.options.fields
-IsNoAnswer verb.Import file r = IsNoImport file r.maps r.options.names r.first
+IsNoAnswer verb.Encode file r = IsNotEncoded r.first (fields_given r.given)
+IsNoAnswer verb.Import file r = IsNoImport file (r.given option.Map) (has_given r.given option.Names) r.first
 IsNoAnswer verb.Check file r = IsNoCheck file r.first r.second
 IsNoAnswer verb.Lint file r = IsNoLint file r.first
 IsNoAnswer verb.Diff file r = IsNoDiff file r.first r.second
@@ -65,16 +67,16 @@ IsNoAnswer v file r = IsNoPlanReply v file r
 abbrev pub IsReplyOf : Verb → (List ℕ → Option (List ℕ)) → AskedBytes → ℕ → List ℕ → Type 0
 IsReplyOf verb.Lines file r = IsLinesReply file r.first r.more
 IsReplyOf verb.Replay file r = IsReplay file r.first r.second r.more
-IsReplyOf verb.Simulate file r = IsSimulation file r.first (r.second ∷ r.more) r.channels (simulation_form r.options)
+IsReplyOf verb.Simulate file r = IsSimulation file r.first (r.second ∷ r.more) (r.given option.Channel) (simulation_form r.given)
 IsReplyOf verb.Live file r = IsLiveReply file r
 IsReplyOf v file r = IsReplyBy (trouble_of v) (IsAnswerOf v file r) (IsNoAnswer v file r)
 
 -- A command has nothing to warn of: the station takes the plans of all further tables, the words of the log are apart, and no group of the
 -- imported table has intervals that may be milliseconds.
 abbrev pub HasNoWarning : Verb → (List ℕ → Option (List ℕ)) → AskedBytes → Type 0
-HasNoWarning verb.Import file r = ImportsNoShortGroup file r.maps r.options.names r.first
+HasNoWarning verb.Import file r = ImportsNoShortGroup file (r.given option.Map) (has_given r.given option.Names) r.first
 HasNoWarning verb.Replay file r = TakesFurther file r.first r.second r.more
-HasNoWarning verb.Simulate file r = SimulatesSpacedWords file r.first (r.second ∷ r.more) r.channels (simulation_form r.options)
+HasNoWarning verb.Simulate file r = SimulatesSpacedWords file r.first (r.second ∷ r.more) (r.given option.Channel) (simulation_form r.given)
 HasNoWarning verb.Live file r = TakesLive file r
 HasNoWarning _ file r = ⊤
 

@@ -4,7 +4,8 @@ use Rattle.a429_text.specs.Sheets.{sheet_text}
 use Rattle.a429_slots.specs.Proposed.{Proposed}
 use Rattle.a429_documents.specs.SlotHeader.{header_text}
 use Rattle.a429_documents.specs.SlotRows.{slot_columns, slot_rows}
-use Rattle.a429_arguments.specs.Requests.{OptionBytes}
+use Rattle.a429_arguments.specs.Given.{Given, form_of, has_given}
+use Rattle.a429_arguments.specs.declared.forms.OptionName.TheVariants as option
 use Rattle.a429_console.specs.declared.refusals.CommandRefusal.{CommandRefusal}
 use Rattle.a429_cli.specs.Drawings.{IsNoGroup, group_asked}
 use Rattle.a429_cli.specs.WholeReplies.{Replies}
@@ -12,8 +13,8 @@ use Rattle.a429_cli.specs.declared.replies.reply.Reply.{Reply}
 use Rattle.a429_cli.specs.declared.slots.SlotsForm.{SlotsForm}
 
 -- whether a header for C is asked for; otherwise whether the empty cells have rows too, and the form of the rows
-abbrev pub slots_form : OptionBytes → SlotsForm
-slots_form o = record { code = o.code; all = o.all; rows = o.form }
+abbrev pub slots_form : Given → SlotsForm
+slots_form given = record { code = has_given given option.Code; all = has_given given option.All; rows = form_of given }
 
 -- the slot tables of a proposal's plan, of the group of this number or of all
 abbrev pub slots_text : SlotsForm → Proposed → Option ℕ → List ℕ

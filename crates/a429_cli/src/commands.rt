@@ -13,7 +13,7 @@ ghost use Rattle.a429_arguments.specs.Usage.{is_run, kinds_of_words};
 
 use crate::calls::{asked_here, ended};
 use crate::checks::check_reply;
-use crate::encode::encode_reply;
+use crate::encode::{FieldOptions, encode_reply};
 use crate::findings::{diff_reply, lint_reply};
 use crate::import::import_reply;
 use crate::judging::judge_reply;
@@ -24,7 +24,7 @@ use crate::replies::reply::Reply;
 use crate::runs::{is_whole, trouble_of};
 use crate::surveys::survey_reply;
 use crate::word::word_reply;
-use a429_arguments::forms::Verb;
+use a429_arguments::forms::{OptionName, Verb};
 use a429_arguments::requests::Asked;
 use a429_console::answered::Answered;
 use a429_console::files::FileReader;
@@ -91,21 +91,22 @@ fn reply_to<F: FileReader>(
     ensures silent { HasRead F.answers (λ file. IsSilent file (asked_of asked.now)
         → warnings.new.items ≡ warnings.old.items) files.old files.new }
 {
-    let Asked {
-        first,
-        second,
-        maps,
-        options,
-        ..
-    } = asked;
-    let form = options.form;
+    let Asked { first, second, .. } = asked;
+    let form = asked.form();
     match asked.verb {
         Verb::Word => word_reply(alloc, first),
-        Verb::Encode => encode_reply(alloc, first, &options.fields),
-        Verb::Import => import_reply(alloc, files, first, maps, options.names, warnings),
+        Verb::Encode => encode_reply(alloc, first, &FieldOptions::of(asked)),
+        Verb::Import => import_reply(
+            alloc,
+            files,
+            first,
+            asked.texts(OptionName::Map),
+            asked.has(OptionName::Names),
+            warnings,
+        ),
         Verb::Check => check_reply(alloc, files, first, second),
         Verb::Lint => lint_reply(alloc, files, first, form),
-        Verb::Diff => diff_reply(alloc, files, first, second, options.all, form),
+        Verb::Diff => diff_reply(alloc, files, first, second, asked.has(OptionName::All), form),
         Verb::Survey => survey_reply(alloc, files, asked),
         Verb::Judge => judge_reply(alloc, files, asked),
         _ => plan_reply(alloc, files, asked),
@@ -137,12 +138,12 @@ fn answer_whole<F: FileReader, O: Output>(
 /// The names of the logs that a request has after its table.
 fn simulated_logs<'a>(asked: &'a Asked) -> LogNames<'a>
     ensures logs { logs_named result ≡ (asked_of asked.now).second ∷ (asked_of asked.now).more }
-    ensures channels { channels_named result ≡ (asked_of asked.now).channels }
+    ensures channels { channels_named result ≡ (asked_of asked.now).given OptionName.Channel }
 {
     LogNames {
         first: asked.second,
         more: &asked.more,
-        channels: &asked.channels,
+        channels: asked.texts(OptionName::Channel),
     }
 }
 
@@ -168,14 +169,13 @@ fn answer_by_lines<F: FileReader, O: Output>(
         first,
         second,
         more,
-        options,
         ..
     } = asked;
     match asked.verb {
         Verb::Lines => tell_lines(alloc, files, first, more, out),
         Verb::Replay => replay(alloc, files, first, second, more, warnings, out),
         Verb::Simulate => {
-            let form = SimulationForm::of(options);
+            let form = SimulationForm::of(asked);
             simulate(
                 alloc,
                 files,

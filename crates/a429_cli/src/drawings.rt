@@ -6,7 +6,8 @@ ghost use Rattle.a429_console.specs.declared.refusals.CommandRefusal.TheVariants
 ghost use Rattle.a429_slots.specs.Tables.{groups_of};
 
 use crate::replies::reply::Reply;
-use a429_arguments::requests::Options;
+use a429_arguments::forms::OptionName;
+use a429_arguments::requests::Asked;
 use a429_console::refusals::tables::no_group;
 use a429_console::refusals::{CommandRefusal, Refused};
 use a429_documents::{Drawing, DrawingFault, DrawingForm, draw_text, page_text};
@@ -23,20 +24,20 @@ pub struct Picture {
 
 impl Picture {
     ghost use Rattle.std.specs.Prelude.{◌≡◌};
-    ghost use Rattle.a429_arguments.specs.Requests.{given_of};
+    ghost use Rattle.a429_arguments.specs.Requests.{asked_of};
     ghost use Rattle.a429_cli.specs.Drawings.{picture_of};
 
-    /// The picture that these options ask for.
-    pub fn of(options: &Options) -> Picture
-        ensures { result ≡ picture_of (given_of options.now) }
+    /// The picture that a request asks for.
+    pub fn of(asked: &Asked) -> Picture
+        ensures { result ≡ picture_of (asked_of asked.now).given }
     {
         let form = DrawingForm {
-            slots: options.slots,
-            width: options.width,
+            slots: asked.number(OptionName::Slots),
+            width: asked.number(OptionName::Width),
         };
         Picture {
             form,
-            is_page: options.html,
+            is_page: asked.has(OptionName::Html),
         }
     }
 }

@@ -1,15 +1,52 @@
 //! The command `encode`.
 ghost use Rattle.std.specs.Prelude.{◌≡◌, ◌<◌, ◌≤◌, ◌-◌, ◌%◌, ◌^◌, MatchOption};
-ghost use Rattle.a429_arguments.specs.Requests.{fields_of};
-ghost use Rattle.a429_cli.specs.Encoding.{GivesData, HasBcd, HasBnr, HasData, HasFields, HasHex, IsEncoded, IsNoBcd, IsNoBnr, IsNoHex, IsNotEncoded, NoWordHasData, NoWordHasFields, given_sdi, given_ssm, hex_number, in_place};
+ghost use Rattle.a429_cli.specs.Encoding.{GivesData, HasBcd, HasBnr, HasData, HasFields, HasHex, IsEncoded, IsNoBcd, IsNoBnr, IsNoHex, IsNotEncoded, NoWordHasData, NoWordHasFields, fields_of, given_sdi, given_ssm, hex_number, in_place};
 ghost use Rattle.a429_cli.specs.WholeReplies.{Replies};
 
 use crate::replies::reply::Reply;
-use a429_arguments::requests::FieldOptions;
+use a429_arguments::forms::OptionName;
+use a429_arguments::requests::Asked;
 use a429_console::refusals::{CommandRefusal, Refused};
 use a429_text::from_end::push_hex;
 use a429_word::{Label, Sdi, Ssm, Word, decimal_number, raw_word};
 use std::alloc::Global;
+
+/// What is given of the fields of a word that is made. The data are given in one of three ways.
+#[derive(Clone, Copy)]
+pub struct FieldOptions<'a> {
+    /// The SDI, 0 to 3.
+    pub sdi: Option<u32>,
+    /// The SSM, 0 to 3.
+    pub ssm: Option<u32>,
+    /// Data in hexadecimal.
+    pub hex: Option<&'a str>,
+    /// Data as a BNR number.
+    pub bnr: Option<&'a str>,
+    /// How many bits that number has below its sign, 1 to 18.
+    pub bits: Option<u32>,
+    /// Data as BCD digits.
+    pub bcd: Option<&'a str>,
+}
+
+impl<'a> FieldOptions<'a> {
+    ghost use Rattle.std.specs.Prelude.{◌≡◌};
+    ghost use Rattle.a429_arguments.specs.Requests.{asked_of};
+    ghost use Rattle.a429_cli.specs.Encoding.{fields_given, fields_of};
+
+    /// What a request gives of them.
+    pub fn of(asked: &Asked<'a>) -> FieldOptions<'a>
+        ensures { fields_of result ≡ fields_given (asked_of asked.now).given }
+    {
+        FieldOptions {
+            sdi: asked.number(OptionName::Sdi),
+            ssm: asked.number(OptionName::Ssm),
+            hex: asked.text(OptionName::Data),
+            bnr: asked.text(OptionName::Bnr),
+            bits: asked.number(OptionName::Bits),
+            bcd: asked.text(OptionName::Bcd),
+        }
+    }
+}
 
 /// The number of one to five hexadecimal digits, in either case.
 fn hex_number(text: &[u8]) -> Option<u32>

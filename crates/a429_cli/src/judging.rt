@@ -7,6 +7,7 @@ ghost use Rattle.a429_cli.specs.JudgeAnswers.{IsJudgement, IsUnjudged, box_names
 ghost use Rattle.a429_cli.specs.WholeReplies.{Replies};
 
 use crate::replies::reply::Reply;
+use a429_arguments::forms::OptionName;
 use a429_arguments::requests::Asked;
 use a429_console::files::FileReader;
 use a429_console::refusals::Refused;
@@ -27,11 +28,11 @@ fn names_in<'a>(asked: &'a Asked) -> JudgeNames<'a>
     JudgeNames {
         table: asked.first,
         heard: asked.second,
-        more_heard: &asked.inputs,
+        more_heard: asked.texts(OptionName::In),
         sent: asked.third,
         more_sent: &asked.more,
-        channels: &asked.channels,
-        tolerances: &asked.tolerances,
+        channels: asked.texts(OptionName::Channel),
+        tolerances: asked.texts(OptionName::Tolerance),
     }
 }
 
@@ -46,7 +47,7 @@ pub fn judge_reply<F: FileReader>(
     ensures { HasRead F.answers (λ file. Replies (IsJudgement file (asked_of asked.now))
         (IsUnjudged file (asked_of asked.now)) result) files.old files.new }
 {
-    let form = JudgeForm::of(&asked.options);
+    let form = JudgeForm::of(asked);
     match judge_logs(alloc, files, names_in(asked), form) {
         Ok(judged) => Ok(Reply {
             bytes: judged.text,

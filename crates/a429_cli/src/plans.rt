@@ -2,7 +2,7 @@
 ghost use Rattle.std.specs.Prelude.{◌≡◌, List, true, IfOk};
 ghost use Rattle.a429_cert.specs.PlanText.{plan_text_of};
 ghost use Rattle.a429_console.specs.Readings.{HasRead};
-ghost use Rattle.a429_arguments.specs.Requests.{asked_of, given_of};
+ghost use Rattle.a429_arguments.specs.Requests.{asked_of};
 ghost use Rattle.a429_documents.specs.Buses.{buses_columns, buses_rows};
 ghost use Rattle.a429_documents.specs.Document.{icd_columns, icd_rows};
 ghost use Rattle.a429_documents.specs.Margins.{IsMargin, margin_columns};
@@ -16,7 +16,7 @@ use crate::loads::load_of;
 use crate::proposals::propose_file;
 use crate::replies::reply::Reply;
 use crate::slots::{SlotsForm, slots_of};
-use a429_arguments::forms::Verb;
+use a429_arguments::forms::{OptionName, Verb};
 use a429_arguments::requests::Asked;
 use a429_cert::plan_text;
 use a429_console::files::FileReader;
@@ -92,19 +92,18 @@ fn reply_on_plan(
     proposal: &Proposal<OUTPUTS>,
 ) -> Result<Reply, Refused>
     requires { is_on_plan asked.now.verb ≡ true }
-    ensures { Replies (IsReplyOnPlan asked.now.verb (given_of asked.now.options) proposal.now)
-        (IsNoReplyOnPlan asked.now.verb (given_of asked.now.options) proposal.now) result }
+    ensures { Replies (IsReplyOnPlan asked.now.verb (asked_of asked.now).given proposal.now)
+        (IsNoReplyOnPlan asked.now.verb (asked_of asked.now).given proposal.now) result }
 {
-    let options = &asked.options;
-    let form = options.form;
+    let form = asked.form();
     match asked.verb {
         Verb::Plan => or_no_memory(plan_of(alloc, proposal)),
-        Verb::Icd => or_no_memory(icd_of(alloc, proposal, options.text, form)),
+        Verb::Icd => or_no_memory(icd_of(alloc, proposal, asked.has(OptionName::Text), form)),
         Verb::Margin => or_no_memory(margin_of(alloc, proposal, form)),
-        Verb::Load => or_no_memory(load_of(alloc, proposal, options.limit, form)),
-        Verb::Slots => slots_of(alloc, proposal, options.group, SlotsForm::of(options)),
+        Verb::Load => or_no_memory(load_of(alloc, proposal, asked.number(OptionName::Limit), form)),
+        Verb::Slots => slots_of(alloc, proposal, asked.text(OptionName::Group), SlotsForm::of(asked)),
         Verb::Buses => or_no_memory(buses_of(alloc, proposal, form)),
-        Verb::Draw => image_of(alloc, proposal, options.group, Picture::of(options)),
+        Verb::Draw => image_of(alloc, proposal, asked.text(OptionName::Group), Picture::of(asked)),
         _ => unreachable!(),
     }
 }

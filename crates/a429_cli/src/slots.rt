@@ -6,7 +6,8 @@ ghost use Rattle.a429_cli.specs.SlotReplies.{GivesSlots, slots_text};
 
 use crate::drawings::group_asked;
 use crate::replies::reply::Reply;
-use a429_arguments::requests::Options;
+use a429_arguments::forms::OptionName;
+use a429_arguments::requests::Asked;
 use a429_console::refusals::Refused;
 use a429_documents::{slot_header, slot_sheet};
 use a429_slots::{OUTPUTS, Proposal};
@@ -26,17 +27,17 @@ pub struct SlotsForm {
 
 impl SlotsForm {
     ghost use Rattle.std.specs.Prelude.{◌≡◌};
-    ghost use Rattle.a429_arguments.specs.Requests.{given_of};
+    ghost use Rattle.a429_arguments.specs.Requests.{asked_of};
     ghost use Rattle.a429_cli.specs.SlotReplies.{slots_form};
 
     /// What is asked for.
-    pub fn of(options: &Options) -> SlotsForm
-        ensures { result ≡ slots_form (given_of options.now) }
+    pub fn of(asked: &Asked) -> SlotsForm
+        ensures { result ≡ slots_form (asked_of asked.now).given }
     {
         SlotsForm {
-            code: options.code,
-            all: options.all,
-            rows: options.form,
+            code: asked.has(OptionName::Code),
+            all: asked.has(OptionName::All),
+            rows: asked.form(),
         }
     }
 }

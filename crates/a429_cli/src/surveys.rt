@@ -7,6 +7,7 @@ ghost use Rattle.a429_cli.specs.SurveyReplies.{IsSurveyed, IsUnsurveyed};
 ghost use Rattle.a429_cli.specs.WholeReplies.{Replies};
 
 use crate::replies::reply::Reply;
+use a429_arguments::forms::OptionName;
 use a429_arguments::requests::Asked;
 use a429_console::files::FileReader;
 use a429_console::refusals::Refused;
@@ -16,12 +17,12 @@ use std::alloc::Global;
 /// The names of the logs that a request has.
 fn names_in<'a>(asked: &'a Asked) -> LogNames<'a>
     ensures logs { logs_named result ≡ (asked_of asked.now).first ∷ (asked_of asked.now).more }
-    ensures channels { channels_named result ≡ (asked_of asked.now).channels }
+    ensures channels { channels_named result ≡ (asked_of asked.now).given OptionName.Channel }
 {
     LogNames {
         first: asked.first,
         more: &asked.more,
-        channels: &asked.channels,
+        channels: asked.texts(OptionName::Channel),
     }
 }
 
@@ -35,7 +36,7 @@ pub fn survey_reply<F: FileReader>(
     ensures { HasRead F.answers (λ file. Replies (IsSurveyed file (asked_of asked.now))
         (IsUnsurveyed file (asked_of asked.now)) result) files.old files.new }
 {
-    let form = SurveyForm::of(&asked.options);
+    let form = SurveyForm::of(asked);
     match survey_logs(alloc, files, names_in(asked), form) {
         Ok(text) => Ok(Reply::done(text)),
         Err(refusal) => Err(refusal),

@@ -1,6 +1,5 @@
 -- A request whose words went to their command was answered.
 use Rattle.std.proofs.Common.{◌≡◌, ◌∷◌, ◌∙◌, ◌++◌, ◌<◌, [], ℕ, List, Some, ap, false, inl, inr, lit<, refl, subst, sym}
-use Rattle.std.proofs.lemmas.Bool.{false≢true}
 use Rattle.std.proofs.lemmas.List.Elements.{All-from_recursion}
 use Rattle.std.proofs.lemmas.Str.{IsUtf8-from_ascii}
 use Rattle.std.proofs.lemmas.Str.Ascii.{IsAscii-from_all}
@@ -12,7 +11,7 @@ use Rattle.a429_arguments.specs.RequestRows.{AsksFor}
 use Rattle.a429_arguments.specs.Requests.{AskedBytes, HasWords, IsName, asked_by_names}
 use Rattle.a429_arguments.specs.Usage.{is_run}
 use Rattle.a429_arguments.specs.declared.forms.Verb.TheVariants as verb
-use Rattle.a429_arguments.proofs.NoOptions.{can_give_nothing, nothing_given}
+use Rattle.a429_arguments.proofs.NoOptions.{can_give_nothing}
 use Rattle.a429_cli.specs.ProgramRuns.{IsDoneOrRefused, Reader, is_live}
 use Rattle.a429_cli.specs.Replies.{IsReplyOrMemory}
 use Rattle.a429_commands.specs.WordsInMemory.{AreTexts, ProgramGetsItsWords}
@@ -34,18 +33,9 @@ replay_has_words table script a b = record {
   third = refl;
   number = refl;
   more = tt;
-  inputs = refl;
-  channels = refl;
-  tolerances = refl;
-  maps = refl;
   options = can_give_nothing;
-  summarized = λ _ json. absurd (false≢true json);
-  logged = λ sent. absurd (false≢true sent);
-  coded = λ code. absurd (false≢true code);
-  widened = λ given. absurd (false≢true given);
-  separated = λ text. absurd (false≢true text);
-  encoded = λ made. absurd (cc made);
-  others = λ name none. nothing_given name;
+  rules = refl;
+  others = λ name none. refl;
 }
 
 module _ {X Y : Type 0} (reader : Reader) (Reads : ((List ℕ → Option (List ℕ)) → Type 0) → Type 0) (out : Writing X) (err : Writing Y) (status : ℕ) where

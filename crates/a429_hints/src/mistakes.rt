@@ -3,7 +3,7 @@
 use crate::hint::HintText;
 use crate::nearest::Nearest;
 use crate::rows::short_text;
-use a429_arguments::forms::{CommandForm, OptionForm, commands};
+use a429_arguments::forms::{CommandForm, OptionName, commands};
 use std::alloc::Global;
 
 /// Says which command or which option is nearest to an unknown one, or which commands have an option.
@@ -71,7 +71,7 @@ fn tell_if_option(form: Option<&CommandForm>, word: &str, hint: &HintText) {
 
 /// Whether a command has the option of this name.
 fn has_option(form: &CommandForm, name: &str) -> bool {
-    form.options.iter().any(|option| option.id == name)
+    form.options.iter().any(|option| option.id() == name)
 }
 
 /// Says which commands have an option that the command of this form lacks, or which option is nearest to one that no command
@@ -125,10 +125,10 @@ fn or_all_options<'a>(
 }
 
 /// Compares the names of options too.
-fn or_options<'a>(alloc: Global, nearest: Nearest<'a>, options: &'a [OptionForm]) -> Nearest<'a> {
+fn or_options<'a>(alloc: Global, nearest: Nearest<'a>, options: &'a [OptionName]) -> Nearest<'a> {
     let mut nearest = nearest;
     for option in options {
-        nearest = nearest.or(alloc, option.id);
+        nearest = nearest.or(alloc, option.id());
     }
     nearest
 }

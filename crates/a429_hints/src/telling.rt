@@ -15,7 +15,7 @@ use crate::scripts::{tell_script_line, tell_words_line};
 use crate::words::{
     tell_data_text, tell_even_word, tell_filter, tell_label_text, tell_line_byte, tell_word_text,
 };
-use a429_arguments::forms::{CommandForm, Verb, command_of};
+use a429_arguments::forms::{CommandForm, OptionName, Verb, command_of};
 use a429_arguments::requests::Asked;
 use a429_console::answered::{Answered, Found};
 use a429_console::files::FileTrouble;
@@ -93,7 +93,7 @@ fn tell_found(asked: &Asked, found: &Sheet, hint: &HintText) {
     match asked.verb {
         Verb::Judge => {
             hint.turn_to(asked.third);
-            tell_clocks(asked.second, asked.options.time, found, hint);
+            tell_clocks(asked.second, asked.unit(), found, hint);
         }
         Verb::Diff => {
             hint.turn_to(asked.second);
@@ -115,10 +115,10 @@ fn tell_warning(asked: &Asked, warning: &Warning, hint: &HintText) {
     match warning {
         Warning::Further(fault) => tell_further_fault(asked, fault, hint),
         Warning::CloseWords(receiver) => {
-            tell_close_words(receiver.as_str(), asked.options.time, hint);
+            tell_close_words(receiver.as_str(), asked.unit(), hint);
         }
         Warning::ShortIntervals(group) => {
-            tell_short_intervals(group.as_str(), &asked.maps, hint);
+            tell_short_intervals(group.as_str(), asked.texts(OptionName::Map), hint);
         }
     }
 }
@@ -194,7 +194,7 @@ fn tell_of_words(asked: &Asked, refusal: &CommandRefusal, hint: &HintText) {
         CommandRefusal::WordText => tell_word_text(asked.first, hint),
         CommandRefusal::Parity => tell_even_word(asked.first, hint),
         CommandRefusal::LabelText => tell_label_text(asked.first, hint),
-        CommandRefusal::DataText => tell_data_text(&asked.options.fields, hint),
+        CommandRefusal::DataText => tell_data_text(asked, hint),
         CommandRefusal::Filter(number) => tell_filter(*number, nth(&asked.more, *number), hint),
         _ => {}
     }
@@ -215,13 +215,19 @@ fn tell_of_line(asked: &Asked, line: &LineEvidence, byte: Option<u8>, hint: &Hin
 fn tell_of_log(asked: &Asked, line: &LineEvidence, log: &LogEvidence, hint: &HintText) {
     hint.turn_to(log_name(asked, log.number));
     hint.turn_to_line(line.number);
-    tell_log_line(line, log, &asked.channels, hint);
+    tell_log_line(line, log, asked.texts(OptionName::Channel), hint);
 }
 
 /// Says what is wrong with rows of comma-separated values.
 fn tell_of_rows(asked: &Asked, refusal: &CommandRefusal, rows: &RowsEvidence, hint: &HintText) {
     hint.turn_to(text_name(asked));
-    tell_rows(refusal, &asked.maps, asked.options.names, rows, hint);
+    tell_rows(
+        refusal,
+        asked.texts(OptionName::Map),
+        asked.has(OptionName::Names),
+        rows,
+        hint,
+    );
 }
 
 /// Says that a log is too long, or that an image is too high.
@@ -229,7 +235,7 @@ fn tell_of_length(asked: &Asked, hint: &HintText) {
     match asked.verb {
         Verb::Simulate => {
             hint.turn_to(text_name(asked));
-            tell_too_long(asked.options.until, hint);
+            tell_too_long(asked.long_number(OptionName::Until), hint);
         }
         Verb::Draw => {
             hint.turn_to(table_name(asked));
@@ -368,13 +374,14 @@ fn text_name<'a>(asked: &Asked<'a>) -> &'a str {
 
 /// The name of the log with this number, counted from 0.
 fn log_name<'a>(asked: &Asked<'a>, number: usize) -> &'a str {
-    let inputs = asked.inputs.len();
+    let heard = asked.texts(OptionName::In);
+    let inputs = heard.len();
     if number == 0 {
         text_name(asked)
     } else if asked.verb != Verb::Judge {
         nth(&asked.more, number)
     } else if number <= inputs {
-        nth(&asked.inputs, number)
+        nth(heard, number)
     } else if number == inputs + 1 {
         asked.third
     } else {

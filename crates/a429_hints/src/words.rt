@@ -1,7 +1,8 @@
 //! Hints about words, line files and filters.
 
 use crate::hint::HintText;
-use a429_arguments::requests::FieldOptions;
+use a429_arguments::forms::OptionName;
+use a429_arguments::requests::Asked;
 use a429_console::refusals::evidence::LineEvidence;
 use a429_filter::{FILTERS, Filter};
 use a429_word::{Label, Word, raw_word};
@@ -68,18 +69,17 @@ pub fn tell_label_text(text: &str, hint: &HintText) {
 }
 
 /// Says which data a word can have, in the form in which they are given.
-pub fn tell_data_text(fields: &FieldOptions, hint: &HintText) {
-    let FieldOptions { hex, bnr, bcd, .. } = fields;
-    if let Some(text) = *hex {
+pub fn tell_data_text(asked: &Asked, hint: &HintText) {
+    if let Some(text) = asked.text(OptionName::Data) {
         hint.line_one(
             "--data {?} is not data: data are one to five hexadecimal digits, at most 7ffff",
             text,
         );
     }
-    if let Some(text) = *bnr {
-        tell_bnr_text(text, fields.bits.unwrap_or(18), hint);
+    if let Some(text) = asked.text(OptionName::Bnr) {
+        tell_bnr_text(text, asked.number(OptionName::Bits).unwrap_or(18), hint);
     }
-    if let Some(text) = *bcd {
+    if let Some(text) = asked.text(OptionName::Bcd) {
         hint.line_one(
             "--bcd {?} is not data: BCD data are five decimal digits, of which the first is at most 7",
             text,

@@ -13,7 +13,8 @@ use Rattle.a429_arguments.specs.Texts.{texts_of}
 use Rattle.a429_arguments.specs.Tolerances.{tolerance_group}
 use Rattle.a429_console.specs.Names.{Naming, naming_of, number_named}
 use Rattle.a429_console.specs.RefusalText.{OrMemory}
-use Rattle.a429_arguments.specs.Requests.{OptionBytes}
+use Rattle.a429_arguments.specs.Given.{Given, form_of, has_given}
+use Rattle.a429_arguments.specs.declared.forms.OptionName.TheVariants as option
 use Rattle.a429_console.specs.Tables.{IsGroupRefusal, IsProposedBy, IsTableRefusal}
 use Rattle.a429_console.specs.declared.refusals.CommandRefusal.{CommandRefusal}
 use Rattle.a429_console.specs.declared.refusals.CommandRefusal.TheVariants as refused
@@ -32,8 +33,8 @@ use Rattle.a429_recordings.specs.declared.judge.words.BoxLog.TheVariants as log
 use Rattle.a429_recordings.specs.declared.judge.words.BoxWord.{BoxWord}
 
 -- what the options ask for
-abbrev pub judge_form : OptionBytes → JudgeForm
-judge_form o = record { events = o.events; form = o.form; reading = reading_for o }
+abbrev pub judge_form : Given → JudgeForm
+judge_form given = record { events = has_given given option.Events; form = form_of given; reading = reading_for given }
 
 -- ---- files
 

@@ -13,7 +13,8 @@ use Rattle.a429_arguments.specs.Texts.{texts_of}
 use Rattle.a429_console.specs.Names.{naming_of}
 use Rattle.a429_console.specs.Outputs.{AppendsPending, IsPut, OrNoMemory, memory_refused}
 use Rattle.a429_console.specs.RefusalText.{OrMemory, refusal_line}
-use Rattle.a429_arguments.specs.Requests.{OptionBytes}
+use Rattle.a429_arguments.specs.Given.{Given, form_of, has_given, long_number_given, origin_of, unit_of}
+use Rattle.a429_arguments.specs.declared.forms.OptionName.TheVariants as option
 use Rattle.a429_console.specs.Tables.{IsProposedBy, IsTableRefusal}
 use Rattle.a429_console.specs.declared.refusals.CommandRefusal.{CommandRefusal}
 use Rattle.a429_console.specs.declared.refusals.CommandRefusal.TheVariants as refused
@@ -42,8 +43,8 @@ clock_from (origin.Time base) = record { base = Some base; last = 0 }
 clock_from origin.First = record { base = None; last = 0 }
 
 -- how the first line of a log is read
-abbrev pub reading_for : OptionBytes → Reading
-reading_for o = record { unit = o.time; shape = None; clock = clock_from o.from }
+abbrev pub reading_for : Given → Reading
+reading_for given = record { unit = unit_of given; shape = None; clock = clock_from (origin_of given) }
 
 -- how lines are written, by whether only the words that are sent have one, and by the form of what is printed
 abbrev pub line_style : Bool → SheetForm → LineStyle
@@ -52,9 +53,14 @@ line_style false form.Csv = style.Commas
 line_style false _ = style.Spaces
 
 -- what the options ask for
-abbrev pub simulation_form : OptionBytes → SimulationForm
-simulation_form o =
-    record { until = o.until; summary = o.summary; style = line_style o.sent o.form; form = o.form; reading = reading_for o }
+abbrev pub simulation_form : Given → SimulationForm
+simulation_form given = record {
+  until = long_number_given given option.Until;
+  summary = has_given given option.Summary;
+  style = line_style (has_given given option.Sent) (form_of given);
+  form = form_of given;
+  reading = reading_for given;
+}
 
 -- the bytes of the files that a simulation reads, and as which names channels in the logs are taken
 pub record SimulationFiles : Type 0 where

@@ -11,7 +11,8 @@ use Rattle.a429_survey.specs.Starts.{start_columns, start_rows}
 use Rattle.a429_survey.specs.Survey.{survey_columns, survey_rows}
 use Rattle.a429_console.specs.FileReadings.{AreReadLogs, IsFirstUnreadLog}
 use Rattle.a429_console.specs.RefusalText.{OrMemory}
-use Rattle.a429_arguments.specs.Requests.{OptionBytes}
+use Rattle.a429_arguments.specs.Given.{Given, form_of, has_given, number_given}
+use Rattle.a429_arguments.specs.declared.forms.OptionName.TheVariants as option
 use Rattle.a429_console.specs.declared.refusals.CommandRefusal.{CommandRefusal}
 use Rattle.a429_recordings.specs.LogItems.{IsItemFault, channels_named, items_of, logs_named, named}
 use Rattle.a429_recordings.specs.SimulationReplies.{reading_for}
@@ -32,12 +33,12 @@ noted_by channels = named channels noted_of
 
 -- what the options ask for: a bit rate of 100000 bit/s, and intervals widened by 25 per cent, unless others are given
 -- (profile: docs/RULES.md, Limits)
-abbrev pub survey_form : OptionBytes → SurveyForm
-survey_form o = record {
-  rate = unwrap_or o.rate 100000;
-  slack = (if o.rows then Some (unwrap_or o.slack 25) else None);
-  form = o.form;
-  reading = reading_for o;
+abbrev pub survey_form : Given → SurveyForm
+survey_form given = record {
+  rate = unwrap_or (number_given given option.Rate) 100000;
+  slack = (if has_given given option.Rows then Some (unwrap_or (number_given given option.Slack) 25) else None);
+  form = form_of given;
+  reading = reading_for given;
 }
 
 -- the sheet of some words: the survey in a form, or rows for `import`

@@ -21,7 +21,8 @@ pub use crate::judge::sheets::Judged;
 use crate::judge::sheets::judge_sheet;
 use crate::judge::words::{BoxLog, BoxWord, BoxWords, read_words};
 use crate::logs::reading_for;
-use a429_arguments::requests::Options;
+use a429_arguments::forms::OptionName;
+use a429_arguments::requests::Asked;
 use a429_arguments::tolerances::tolerance_group;
 use a429_console::files::FileReader;
 use a429_console::files::reading::{read_file, read_logs};
@@ -48,17 +49,17 @@ pub struct JudgeForm {
 
 impl JudgeForm {
     ghost use Rattle.std.specs.Prelude.{◌≡◌};
-    ghost use Rattle.a429_arguments.specs.Requests.{given_of};
+    ghost use Rattle.a429_arguments.specs.Requests.{asked_of};
     ghost use Rattle.a429_recordings.specs.JudgeReplies.{judge_form};
 
-    /// The form that these options ask for.
-    pub fn of(options: &Options) -> JudgeForm
-        ensures { result ≡ judge_form (given_of options.now) }
+    /// The form that a request asks for.
+    pub fn of(asked: &Asked) -> JudgeForm
+        ensures { result ≡ judge_form (asked_of asked.now).given }
     {
         JudgeForm {
-            events: options.events,
-            form: options.form,
-            reading: reading_for(options),
+            events: asked.has(OptionName::Events),
+            form: asked.form(),
+            reading: reading_for(asked),
         }
     }
 }

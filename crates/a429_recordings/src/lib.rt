@@ -4,7 +4,7 @@
 //! or refused, or the summary of what each output sent, in the form that a `SimulationForm` says.
 //!
 //! ```text
-//! let form = SimulationForm::of(options);
+//! let form = SimulationForm::of(asked);
 //! simulate(
 //!     alloc,
 //!     files,

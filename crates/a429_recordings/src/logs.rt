@@ -2,13 +2,13 @@
 ghost use Rattle.std.specs.Prelude.{◌≡◌};
 ghost use Rattle.a429_logs.specs.LogRows.{stated_by};
 ghost use Rattle.a429_arguments.specs.Texts.{texts_of};
-ghost use Rattle.a429_arguments.specs.Requests.{given_of};
+ghost use Rattle.a429_arguments.specs.Requests.{asked_of};
 ghost use Rattle.a429_recordings.specs.LogItems.{with_name};
 ghost use Rattle.a429_recordings.specs.SimulationReplies.{clock_from, reading_for};
 
 pub mod keeping;
 
-use a429_arguments::requests::Options;
+use a429_arguments::requests::Asked;
 use a429_arguments::times::LogOrigin;
 use a429_logs::{Clock, LogWord, Reading, StatedWord};
 use a429_text::renames::renamed;
@@ -47,9 +47,9 @@ fn clock_from(from: LogOrigin) -> Clock
     }
 }
 
-/// How the first line of a log is read, as these options ask for it.
-pub fn reading_for(options: &Options) -> Reading
-    ensures { result ≡ reading_for (given_of options.now) }
+/// How the first line of a log is read, as the request asks for it.
+pub fn reading_for(asked: &Asked) -> Reading
+    ensures { result ≡ reading_for (asked_of asked.now).given }
 {
-    Reading::new(options.time, clock_from(options.from))
+    Reading::new(asked.unit(), clock_from(asked.origin()))
 }

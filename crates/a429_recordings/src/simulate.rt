@@ -30,7 +30,8 @@ use crate::simulate::lines::{PendingLines, Setting};
 use crate::simulate::log::read_words;
 use crate::simulate::playing::Player;
 use crate::simulate::summary_rows::summary_sheet;
-use a429_arguments::requests::Options;
+use a429_arguments::forms::OptionName;
+use a429_arguments::requests::Asked;
 use a429_console::answered::{Answered, plain_answer};
 use a429_console::files::FileReader;
 use a429_console::files::reading::{read_file, read_logs};
@@ -58,19 +59,19 @@ pub struct SimulationForm {
 
 impl SimulationForm {
     ghost use Rattle.std.specs.Prelude.{◌≡◌};
-    ghost use Rattle.a429_arguments.specs.Requests.{given_of};
+    ghost use Rattle.a429_arguments.specs.Requests.{asked_of};
     ghost use Rattle.a429_recordings.specs.SimulationReplies.{simulation_form};
 
-    /// The form that these options ask for.
-    pub fn of(options: &Options) -> SimulationForm
-        ensures { result ≡ simulation_form (given_of options.now) }
+    /// The form that a request asks for.
+    pub fn of(asked: &Asked) -> SimulationForm
+        ensures { result ≡ simulation_form (asked_of asked.now).given }
     {
         SimulationForm {
-            until: options.until,
-            summary: options.summary,
-            style: line_style(options.sent, options.form),
-            form: options.form,
-            reading: reading_for(options),
+            until: asked.long_number(OptionName::Until),
+            summary: asked.has(OptionName::Summary),
+            style: line_style(asked.has(OptionName::Sent), asked.form()),
+            form: asked.form(),
+            reading: reading_for(asked),
         }
     }
 }

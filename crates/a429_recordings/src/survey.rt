@@ -10,7 +10,8 @@ ghost use Rattle.a429_recordings.specs.Surveys.{IsSurveyAnswer, noted_by, survey
 pub use crate::logs::LogNames;
 use crate::logs::keeping::{KeepFault, WordKeeper, keep_logs};
 use crate::logs::reading_for;
-use a429_arguments::requests::Options;
+use a429_arguments::forms::OptionName;
+use a429_arguments::requests::Asked;
 use a429_console::files::FileReader;
 use a429_console::files::reading::read_logs;
 use a429_console::refusals::Refused;
@@ -40,23 +41,23 @@ pub struct SurveyForm {
 
 impl SurveyForm {
     ghost use Rattle.std.specs.Prelude.{◌≡◌};
-    ghost use Rattle.a429_arguments.specs.Requests.{given_of};
+    ghost use Rattle.a429_arguments.specs.Requests.{asked_of};
     ghost use Rattle.a429_recordings.specs.Surveys.{survey_form};
 
-    /// The form that these options ask for.
-    pub fn of(options: &Options) -> SurveyForm
-        ensures { result ≡ survey_form (given_of options.now) }
+    /// The form that a request asks for.
+    pub fn of(asked: &Asked) -> SurveyForm
+        ensures { result ≡ survey_form (asked_of asked.now).given }
     {
-        let slack = if options.rows {
-            Some(options.slack.unwrap_or(USUAL_SLACK))
+        let slack = if asked.has(OptionName::Rows) {
+            Some(asked.number(OptionName::Slack).unwrap_or(USUAL_SLACK))
         } else {
             None
         };
         SurveyForm {
-            rate: options.rate.unwrap_or(HIGH_SPEED),
+            rate: asked.number(OptionName::Rate).unwrap_or(HIGH_SPEED),
             slack,
-            form: options.form,
-            reading: reading_for(options),
+            form: asked.form(),
+            reading: reading_for(asked),
         }
     }
 }

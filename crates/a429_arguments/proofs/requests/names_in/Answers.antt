@@ -2,7 +2,7 @@ use Rattle.std.proofs.Common.{◌≡◌, ◌∙◌, [], ap, sym}
 use Rattle.std.proofs.lemmas.Result.{IfOk-weaker}
 use Rattle.clap.specs.Words.{found_of, rows_of}
 use Rattle.a429_arguments.specs.Texts.{texts_of}
-use Rattle.a429_arguments.specs.RequestRows.{values_of}
+use Rattle.a429_arguments.specs.Given.{values_of}
 use Rattle.a429_arguments.proofs.requests.names_in.Goals as goal
 
 pub returns-in-Some : goal.returns-in-Some

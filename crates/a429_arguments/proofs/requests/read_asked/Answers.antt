@@ -1,3 +1,4 @@
+use mathlib.Core.Path.{fun_ext}
 use Rattle.std.proofs.Common.{◌≡◌, ◌∙◌, ap, subst, sym}
 use Rattle.std.specs.Prelude.{Some}
 use Rattle.clap.specs.Words.{first_of, found_of, rows_of}
@@ -7,14 +8,12 @@ use Rattle.a429_arguments.proofs.Found.{asked_is}
 use Rattle.a429_arguments.proofs.requests.read_asked.Goals as goal
 
 pub returns-clause-asked : goal.returns-clause-asked
-returns-clause-asked c = λ r same wide is.
-    let rows = rows_of (found_of c.args.found.now) in
+returns-clause-asked c = λ r same is.
+    let rows = rows_of (found_of c.args.found) in
     let row : row_of r.verb ≡ form_row c.args.form.now = ap row_of same ∙ sym c.requires in
     let first = c.name_in.ensures r.first (subst (λ (x : CommandRow). first_of x.first rows ≡ Some r.first) row is.first) in
     let second = c.name_in-2.ensures r.second (subst (λ (x : CommandRow). IsGivenText rows x.second r.second) row is.second) in
     let third = c.name_in-3.ensures r.third (subst (λ (x : CommandRow). IsGivenText rows x.third r.third) row is.third) in
-    let number = c.number_in.ensures r.number (subst (λ (x : CommandRow). IsGivenNumber rows x.number r.number) row is.number) in
-    let more = c.in_ok-more.ensures.more r.more (subst (λ (x : CommandRow). AreGivenTexts rows x.more r.more) row is.more) in
-    let options = c.options_in.ensures r.options (row_of r.verb).name wide is.options in
-    asked_is r c.args.form.now.verb _ _ _ _ _ _ _ _ _ _ (sym same) first second third number more (c.in_ok-more.ensures.inputs ∙ is.inputs) (c.in_ok-channels.ensures.channels ∙ is.channels)
-    (c.in_ok-channels.ensures.maps ∙ is.maps) (c.in_ok-channels.ensures.tolerances ∙ is.tolerances) options
+    let number = c.frames_in.ensures r.number (subst (λ (x : CommandRow). IsGivenNumber rows x.number r.number) row is.number) in
+    let more = c.in_ok-more.ensures r.more (subst (λ (x : CommandRow). AreGivenTexts rows x.more r.more) row is.more) in
+    asked_is r c.args.form.now.verb _ _ _ _ _ _ (sym same) first second third number more (fun_ext is.options)

@@ -1,6 +1,6 @@
 use Rattle.std.proofs.Common.{◌∙◌, ap, arith, sym}
 use Rattle.std.specs.Prelude.{Some}
-use Rattle.a429_arguments.specs.Requests.{last_origin}
+use Rattle.a429_arguments.specs.Given.{last_origin}
 use Rattle.a429_arguments.proofs.Decimals.{none_up_to, numeral_up_to}
 use Rattle.a429_arguments.proofs.times.time_in.Goals as goal
 

@@ -2,7 +2,8 @@ use Rattle.a429_console.proofs.ReadingParts.{read_weaker}
 use Rattle.std.proofs.Common.{◌∷◌, List, ℕ, inl, refl, subst, sym}
 use Rattle.std.proofs.lemmas.Result.{IfOk-weaker}
 use Rattle.a429_arguments.specs.Texts.{texts_of}
-use Rattle.a429_arguments.specs.Requests.{given_of}
+use Rattle.a429_arguments.specs.Requests.{asked_of}
+use Rattle.a429_arguments.specs.declared.forms.OptionName.TheVariants as option
 use Rattle.a429_recordings.specs.LogItems.{channels_named, logs_named}
 use Rattle.a429_recordings.specs.declared.simulate.SimulationForm.{SimulationForm}
 use Rattle.a429_recordings.specs.SimulationReplies.{IsSimulation, SimulatesSpacedWords, simulation_form}
@@ -31,12 +32,12 @@ returns-in-Simulate-clause-read g c =
     rw c.in-Simulate.is (read_weaker c.simulate.ensures.simulated (λ file is. IfOk-weaker c.simulate.result _ _ (λ status told.
     let a = c.args.asked.now in
     let names = c.simulated_logs.result in
-    let form = simulation_form (given_of a.options) in
+    let form = simulation_form (asked_of a).given in
     let by_form : IsSimulation file a.first.now (logs_named names) (channels_named names) form status told.0 =
     subst (λ (f : SimulationForm). IsSimulation file a.first.now (logs_named names) (channels_named names) f status told.0) c.of-form.ensures told.1 in
     let by_logs : IsSimulation file a.first.now (a.second.now ∷ texts_of a.more.items) (channels_named names) form status told.0 =
     subst (λ (logs : List (List ℕ)). IsSimulation file a.first.now logs (channels_named names) form status told.0) c.simulated_logs.ensures.logs by_form in
-    let reply : IsSimulation file a.first.now (a.second.now ∷ texts_of a.more.items) (texts_of a.channels.items) form status told.0 =
+    let reply : IsSimulation file a.first.now (a.second.now ∷ texts_of a.more.items) ((asked_of a).given option.Channel) form status told.0 =
     subst (λ (channels : List (List ℕ)). IsSimulation file a.first.now (a.second.now ∷ texts_of a.more.items) channels form status told.0) c.simulated_logs.ensures.channels by_logs in
     (told.0, inl reply, told.2))
     is))
@@ -51,7 +52,7 @@ returns-in-Simulate-clause-silent g c =
     let a = c.args.asked.now in
     let names = c.simulated_logs.result in
     let logs = a.second.now ∷ texts_of a.more.items in
-    let channels = texts_of a.channels.items in
+    let channels = (asked_of a).given option.Channel in
     let by_form : SimulatesSpacedWords file a.first.now logs channels c.of-form.result =
     subst (λ (f : SimulationForm). SimulatesSpacedWords file a.first.now logs channels f) (sym c.of-form.ensures) spaced in
     let by_logs : SimulatesSpacedWords file a.first.now (logs_named names) channels c.of-form.result =

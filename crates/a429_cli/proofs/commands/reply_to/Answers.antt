@@ -1,8 +1,9 @@
-use Rattle.std.proofs.Common.{ℕ, List, Bor, refl, subst, sym}
+use Rattle.std.proofs.Common.{ℕ, Bool, List, ap, refl, subst, subst₂, sym}
 use Rattle.a429_console.proofs.ReadingParts.{read_none, read_weaker}
-use Rattle.a429_arguments.specs.Texts.{texts_of}
 use Rattle.a429_arguments.specs.Requests.{asked_of}
 use Rattle.a429_arguments.specs.declared.forms.Verb.TheVariants as verb
+use Rattle.a429_cli.specs.Encoding.{FieldBytes, IsEncoded, IsNotEncoded}
+use Rattle.a429_cli.specs.WholeReplies.{Replies}
 use Rattle.a429_cli.specs.Importing.{ImportsNoShortGroup, IsImportReply}
 use Rattle.a429_cli.proofs.PlanReplies.{on_plan}
 use Rattle.a429_cli.proofs.WholeAnswers.{given_by}
@@ -14,7 +15,8 @@ returns-in-Word-clause-replied g c =
 
 pub returns-in-Encode-clause-replied : goal.returns-in-Encode-clause-replied
 returns-in-Encode-clause-replied g c =
-    given_by g.F.FileReader.answers c.args.files.now c.args.files.now (asked_of c.args.asked.now) c.encode_reply.result c.args.asked.now.verb verb.Encode c.in-Encode.is (read_none refl (λ file. c.encode_reply.ensures))
+    given_by g.F.FileReader.answers c.args.files.now c.args.files.now (asked_of c.args.asked.now) c.encode_reply.result c.args.asked.now.verb verb.Encode c.in-Encode.is
+    (read_none refl (λ file. subst (λ (f : FieldBytes). Replies (IsEncoded c.args.asked.now.first.now f) (IsNotEncoded c.args.asked.now.first.now f) c.encode_reply.result) c.of.ensures c.encode_reply.ensures))
 
 pub returns-in-Import-clause-replied : goal.returns-in-Import-clause-replied
 returns-in-Import-clause-replied g c =
@@ -22,7 +24,7 @@ returns-in-Import-clause-replied g c =
     given_by g.F.FileReader.answers c.args.files.now c.import_reply.new.files (asked_of asked) c.import_reply.result asked.verb verb.Import c.in-Import.is
     (read_weaker c.import_reply.ensures.replied
     (λ file is.
-    subst (λ (maps : List (Bor (List ℕ))). IsImportReply file (texts_of maps) asked.options.names asked.first.now c.import_reply.result) c.deref.ensures.value is))
+    subst₂ (λ (maps : List (List ℕ)) (names : Bool). IsImportReply file maps names asked.first.now c.import_reply.result) (c.texts.ensures refl) c.has.ensures is))
 
 pub returns-in-Check-clause-replied : goal.returns-in-Check-clause-replied
 returns-in-Check-clause-replied g c =
@@ -56,7 +58,7 @@ returns-in-Import-clause-silent g c =
     rw c.in-Import.is
     (read_weaker c.import_reply.ensures.silent
     (λ file silent none.
-    silent (subst (λ (maps : List (Bor (List ℕ))). ImportsNoShortGroup file (texts_of maps) asked.options.names asked.first.now) (sym c.deref.ensures.value) none)))
+    silent (subst₂ (λ (maps : List (List ℕ)) (names : Bool). ImportsNoShortGroup file maps names asked.first.now) (sym (c.texts.ensures refl)) (sym c.has.ensures) none)))
 
 pub returns-in-Check-clause-silent : goal.returns-in-Check-clause-silent
 returns-in-Check-clause-silent g c = read_weaker c.check_reply.ensures (λ file is silent. refl)

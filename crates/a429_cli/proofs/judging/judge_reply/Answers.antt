@@ -10,7 +10,7 @@ pub returns-in-Ok : goal.returns-in-Ok
 returns-in-Ok g c =
     read_weaker c.in-Ok.ensures (λ file is. (
       c.in-Ok.judged.found,
-      subst (λ (n : BoxFiles (List ℕ)). IsJudgedBy file n (judge_form (asked_of c.args.asked.now).options) c.in-Ok.judged.found c.in-Ok.judged.text.items) c.names_in.ensures
+      subst (λ (n : BoxFiles (List ℕ)). IsJudgedBy file n (judge_form (asked_of c.args.asked.now).given) c.in-Ok.judged.found c.in-Ok.judged.text.items) c.names_in.ensures
           (subst (λ (f : JudgeForm). IsJudgedBy file (names_of c.names_in.result) f c.in-Ok.judged.found c.in-Ok.judged.text.items) c.of-form.ensures is),
       c.judge_status.ensures,
     ))
@@ -18,5 +18,5 @@ returns-in-Ok g c =
 pub returns-in-Err : goal.returns-in-Err
 returns-in-Err g c =
     read_weaker c.in-Err.ensures (λ file bad.
-    subst (λ (n : BoxFiles (List ℕ)). OrMemory (IsUnjudgedBy file n (judge_form (asked_of c.args.asked.now).options)) c.in-Err.refusal) c.names_in.ensures
+    subst (λ (n : BoxFiles (List ℕ)). OrMemory (IsUnjudgedBy file n (judge_form (asked_of c.args.asked.now).given)) c.in-Err.refusal) c.names_in.ensures
     (subst (λ (f : JudgeForm). OrMemory (IsUnjudgedBy file (names_of c.names_in.result) f) c.in-Err.refusal) c.of-form.ensures bad))

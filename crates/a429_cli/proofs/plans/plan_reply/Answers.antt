@@ -24,8 +24,8 @@ returns g c =
     let r = asked_of c.args.asked.now in
     let q = c.in_ok-proposal.proposal in
     rw c.with_plan.ensures (read_weaker c.in_ok-proposal.ensures (λ file proposed.
-    matched_both c.reply_on_plan-reply.result (λ reply. IsReplyOnPlan v r.options q reply.status reply.bytes.items) (λ reply. IsPlanReply v file r reply.status reply.bytes.items)
-    (OrMemory (IsNoReplyOnPlan v r.options q)) (OrMemory (IsNoPlanReply v file r))
+    matched_both c.reply_on_plan-reply.result (λ reply. IsReplyOnPlan v r.given q reply.status reply.bytes.items) (λ reply. IsPlanReply v file r reply.status reply.bytes.items)
+    (OrMemory (IsNoReplyOnPlan v r.given q)) (OrMemory (IsNoPlanReply v file r))
     (λ reply is. (q, proposed, is))
-    (λ e bad. or_memory_weaker (IsNoReplyOnPlan v r.options q) (IsNoPlanReply v file r) e (λ one. inr (q, proposed, one)) bad)
+    (λ e bad. or_memory_weaker (IsNoReplyOnPlan v r.given q) (IsNoPlanReply v file r) e (λ one. inr (q, proposed, one)) bad)
     c.reply_on_plan-reply.ensures))

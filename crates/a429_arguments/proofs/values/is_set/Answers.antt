@@ -2,7 +2,7 @@ use Rattle.std.proofs.Common.{◌∙◌}
 use Rattle.clap.specs.Words.{found_of, one_of, rows_of}
 use Rattle.clap.proofs.WalkLemmas.{one_text-rows}
 use Rattle.a429_arguments.proofs.Found.{set_is}
-use Rattle.a429_arguments.proofs.choices.is_given.Goals as goal
+use Rattle.a429_arguments.proofs.values.is_set.Goals as goal
 
 pub returns : goal.returns
 returns c =

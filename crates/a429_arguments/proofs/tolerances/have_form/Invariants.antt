@@ -1,8 +1,0 @@
-use Rattle.std.proofs.Common.{◌≡◌, drop}
-use Rattle.std.specs.List.{list_all}
-use Rattle.a429_arguments.specs.Texts.{texts_of}
-use Rattle.a429_arguments.specs.Tolerances.{is_tolerance}
-use Rattle.a429_arguments.proofs.tolerances.have_form.Given as goal
-
-abbrev pub invariant-loop-text : goal.invariant-loop-text
-invariant-loop-text l = list_all is_tolerance (texts_of (drop l.text-index l.texts)) ≡ list_all is_tolerance (texts_of l.texts)

@@ -1,0 +1,106 @@
+-- What is given of the options (profile: docs/FORMATS.md, Usage errors).
+use Rattle.std.specs.Prelude.{◌||◌, [], ◌∷◌, ℕ, Bool, List, Option, Some, None, true, false, codes, if◌then◌else◌, is_some, option_and_then, option_map, slice_get, unwrap_or}
+use Rattle.std.specs.Str.{bytes_eq}
+use Rattle.clap.specs.Words.{Row, Text, all_of, one_of}
+use Rattle.a429_arguments.specs.CommandLine.{id_of, kind_of}
+use Rattle.a429_arguments.specs.Numbers.{number_up_to}
+use Rattle.a429_arguments.specs.Tolerances.{is_tolerance}
+use Rattle.a429_arguments.specs.declared.forms.OptionKind.{OptionKind}
+use Rattle.a429_arguments.specs.declared.forms.OptionKind.TheVariants as given
+use Rattle.a429_arguments.specs.declared.forms.OptionName.{OptionName}
+use Rattle.a429_arguments.specs.declared.forms.OptionName.TheVariants as option
+use Rattle.a429_arguments.specs.declared.forms.TextForm.{TextForm}
+use Rattle.a429_arguments.specs.declared.forms.TextForm.TheVariants as form
+use Rattle.a429_arguments.specs.declared.times.LogOrigin.{LogOrigin}
+use Rattle.a429_arguments.specs.declared.times.LogOrigin.TheVariants as origin
+use Rattle.a429_logs.specs.declared.times.TimeUnit.{TimeUnit}
+use Rattle.a429_logs.specs.declared.times.TimeUnit.TheVariants as unit
+use Rattle.a429_text.specs.Renames.{is_rename}
+use Rattle.a429_text.specs.declared.sheets.SheetForm.{SheetForm}
+use Rattle.a429_text.specs.declared.sheets.SheetForm.TheVariants as sheet
+
+-- the texts that are given with each option, in their order; with a flag the text `true`
+abbrev pub Given : Type 0
+Given = OptionName → List Text
+
+-- nothing is given
+abbrev pub nothing : Given
+nothing _ = []
+
+-- the text that is given with an option: the first of several
+abbrev pub text_given : Given → OptionName → Option Text
+text_given given name = slice_get (given name) 0
+
+-- the option is given
+abbrev pub has_given : Given → OptionName → Bool
+has_given given name = is_some (text_given given name)
+
+-- the number that is given with it, if its text is one of 32 bits
+abbrev pub number_given : Given → OptionName → Option ℕ
+number_given given name = option_and_then (number_up_to 4294967295) (text_given given name)
+
+-- of 64 bits
+abbrev pub long_number_given : Given → OptionName → Option ℕ
+long_number_given given name = option_and_then (number_up_to 18446744073709551615) (text_given given name)
+
+-- ---- what texts say
+
+-- the unit of times that a text states
+abbrev pub unit_in : Text → Option TimeUnit
+unit_in text =
+    if bytes_eq text (codes "us") then Some unit.Microseconds
+    else (if bytes_eq text (codes "ms") then Some unit.Milliseconds else (if bytes_eq text (codes "s") then Some unit.Seconds else None))
+
+-- the last microsecond from which times can be counted: eighteen digits
+abbrev pub last_origin : ℕ
+last_origin = 999999999999999999
+
+-- from when on times are counted, by the text of that
+abbrev pub origin_in : Text → Option LogOrigin
+origin_in text = if bytes_eq text (codes "first") then Some origin.First else option_map origin.Time (number_up_to last_origin text)
+
+-- a text has this form
+abbrev pub fits : TextForm → Text → Bool
+fits form.Any text = true
+fits form.Width text = bytes_eq text (codes "64") || (bytes_eq text (codes "128") || bytes_eq text (codes "256"))
+fits form.Unit text = is_some (unit_in text)
+fits form.Origin text = is_some (origin_in text)
+fits form.Rename text = is_rename text
+fits form.Tolerance text = is_tolerance text
+
+-- ---- what some options say, which are read with a usual value
+
+-- the form of what is printed
+abbrev pub form_of : Given → SheetForm
+form_of given = if has_given given option.Csv then sheet.Csv else (if has_given given option.Json then sheet.Json else sheet.Columns)
+
+-- the unit of the times in a log
+abbrev pub unit_of : Given → TimeUnit
+unit_of given = unwrap_or (option_and_then unit_in (text_given given option.Time)) unit.Microseconds
+
+-- from when on they are counted
+abbrev pub origin_of : Given → LogOrigin
+origin_of given = unwrap_or (option_and_then origin_in (text_given given option.From)) (origin.Time 0)
+
+-- ---- what was found
+
+-- an option without a value is given, by the value that the parser gives it
+abbrev pub is_set : Option Text → Bool
+is_set None = false
+is_set (Some text) = bytes_eq text (codes "true")
+
+-- the values of an argument
+abbrev pub values_of : Text → List Row → List Text
+values_of id rows = unwrap_or (all_of id rows) []
+
+abbrev pub flag_texts : Bool → List Text
+flag_texts true = codes "true" ∷ []
+flag_texts false = []
+
+abbrev pub given_by : OptionKind → Text → List Row → List Text
+given_by given.Flag id rows = flag_texts (is_set (one_of id rows))
+given_by _ id rows = values_of id rows
+
+-- what is given, by what was found of the arguments
+abbrev pub given_in : List Row → Given
+given_in rows name = given_by (kind_of name) (id_of name) rows
