@@ -9,7 +9,7 @@ use Rattle.std.proofs.lemmas.List.Sums.{sum_by_push}
 use Rattle.a429_word.proofs.Lists.{range_next}
 use Rattle.a429_equipment.specs.declared.rows.GroupRow.{GroupRow}
 use Rattle.a429_slots.specs.Proposed.{Proposed}
-use Rattle.a429_documents.specs.Diff.{Both, both_of, number_named, sent_by}
+use Rattle.a429_documents.specs.Diff.{Both, both_of, number_named, rate_in, sent_by}
 
 -- ---- the first that passes a test
 
@@ -48,7 +48,7 @@ sums_more f k = ap (λ (l : List ℕ). sum_by f l) (next_of k) ∙ sum_by_push f
 -- ---- a group that both have
 
 pub both_is : (a b : Proposed) (g h : ℕ) (row : GroupRow) → slice_get a.station.groups g ≡ Some row → number_named (λ (h : GroupRow). h.name) b.station.groups row.name ≡ Some h
-    → both_of a b g ≡ Some (record { name = row.name; first = sent_by a g; second = sent_by b h })
+    → both_of a b g ≡ Some (record { name = row.name; rate = row.rate; new_rate = rate_in b h; first = sent_by a g; second = sent_by b h })
 both_is a b g h row here named =
-    let both : GroupRow → Option ℕ → Option Both = λ row n. option_map (λ h. record { name = row.name; first = sent_by a g; second = sent_by b h }) n in
+    let both : GroupRow → Option ℕ → Option Both = λ row n. option_map (λ h. record { name = row.name; rate = row.rate; new_rate = rate_in b h; first = sent_by a g; second = sent_by b h }) n in
     ap (λ (r : Option GroupRow). option_and_then (λ (row : GroupRow). both row (number_named (λ (h : GroupRow). h.name) b.station.groups row.name)) r) here ∙ ap (both row) named

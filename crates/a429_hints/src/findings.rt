@@ -57,32 +57,9 @@ fn has_one_of(rows: &Rows, kinds: &[&'static str]) -> bool {
     false
 }
 
-/// The kinds of rows of `diff` about the station, but for the bit rate of a group.
-static CHANGED_STATION: [&str; 7] = [
-    "receiver",
-    "filters",
-    "source",
-    "source-receiver",
-    "label",
-    "sdi",
-    "group",
-];
-
-/// Whether a row says that the bit rate of a group changes. That of two tables without groups has no group.
-fn has_group_rate(rows: &Rows) -> bool {
-    for row in 0..usize::MAX {
-        match (rows.text(row, 0), rows.text(row, 1)) {
-            (Ok(Some(kind)), Ok(Some(_))) if kind == "rate".as_bytes() => return true,
-            (Ok(Some(_)), Ok(_)) => {}
-            _ => return false,
-        }
-    }
-    false
-}
-
 /// Says that the second of two tables is of another station, by the rows of `diff`.
 pub fn tell_changes(rows: &Rows, hint: &HintText) {
-    if has_one_of(rows, &CHANGED_STATION) || has_group_rate(rows) {
+    if has_row(rows, "station") {
         hint.say_line(
             "it is a table of another station: a station that runs with the first table takes no plan of it",
         );
