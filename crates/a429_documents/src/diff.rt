@@ -58,12 +58,7 @@ fn table_change(alloc: Global, a: &Equipment, b: &Equipment) -> Result<String, A
 }
 
 /// Adds what changes of the tables as a whole.
-fn add_table(
-    alloc: Global,
-    rows: &mut Rows,
-    a: &Equipment,
-    b: &Equipment,
-) -> Result<(), AllocError>
+fn add_table(alloc: Global, rows: &mut Rows, a: &Equipment, b: &Equipment) -> Result<(), AllocError>
     ensures { OnOk result (rows.new ≡ rows.old ++ table_rows a.now b.now) }
 {
     let change = table_change(alloc, a, b)?;

@@ -93,11 +93,7 @@ fn add_group(
 }
 
 /// Adds the rows of each group, in table order. The answer is whether a bus is above the limit.
-fn add_groups(
-    rows: &mut Rows,
-    limit: Option<u32>,
-    proposal: &Proposal<OUTPUTS>,
-) -> bool
+fn add_groups(rows: &mut Rows, limit: Option<u32>, proposal: &Proposal<OUTPUTS>) -> bool
     requires limit { IfSome limit (λ limit. limit ≤ 100) }
     ensures rows { rows.new ≡ rows.old ++ groups_rows limit proposal.now.station.groups (groups_of proposal.now.plan) }
     ensures above { result ≡ any_above limit proposal.now.plan }

@@ -9,7 +9,6 @@ use crate::document::{receiver_name, sdi_text};
 use a429_equipment::{Equipment, GroupRow, ReceiverRow, SourceRow, same_filters, same_sdi};
 use a429_filter::FilterSet;
 use a429_text::Rows;
-use a429_word::{Label, Sdi};
 use std::alloc::{AllocError, Global};
 
 /// The number of filters, if there is a list.
@@ -69,22 +68,25 @@ fn put_receiver(text: &mut String, own: &str, other: &str) -> Result<(), AllocEr
 fn put_label(
     alloc: Global,
     text: &mut String,
-    label: Label,
-    other: Label,
+    source: &SourceRow,
+    other: &SourceRow,
 ) -> Result<(), AllocError>
-    ensures { OnOk result (string_bytes text.new ≡ with_label label other (string_bytes text.old)) }
+    ensures { OnOk result (string_bytes text.new ≡ with_label source.now.label other.now.label (string_bytes text.old)) }
 {
-    let first = format!(in alloc; "{label}")?;
-    let second = format!(in alloc; "{other}")?;
-    put_change(text, label == other, "label", &first, &second)
+    let first = format!(in alloc; "{}", source.label)?;
+    let second = format!(in alloc; "{}", other.label)?;
+    let same = source.label == other.label;
+    put_change(text, same, "label", &first, &second)
 }
 
 /// Writes the SDI of a source, if it differs.
-fn put_sdi(text: &mut String, sdi: Option<Sdi>, other: Option<Sdi>) -> Result<(), AllocError>
-    ensures { OnOk result (string_bytes text.new ≡ with_sdi sdi other (string_bytes text.old)) }
+fn put_sdi(text: &mut String, source: &SourceRow, other: &SourceRow) -> Result<(), AllocError>
+    ensures { OnOk result (string_bytes text.new ≡ with_sdi source.now.sdi other.now.sdi (string_bytes text.old)) }
 {
-    let (first, second) = (sdi_text(sdi), sdi_text(other));
-    put_change(text, same_sdi(sdi, other), "sdi", first, second)
+    let same = same_sdi(source.sdi, other.sdi);
+    let first = sdi_text(source.sdi);
+    let second = sdi_text(other.sdi);
+    put_change(text, same, "sdi", first, second)
 }
 
 impl Named for SourceRow {
@@ -119,8 +121,8 @@ impl Named for SourceRow {
         let others = receiver_name(b.receivers(), other.receiver);
         let mut text = String::new(alloc);
         put_receiver(&mut text, own, others)?;
-        put_label(alloc, &mut text, self.label, other.label)?;
-        put_sdi(&mut text, self.sdi, other.sdi)?;
+        put_label(alloc, &mut text, self, other)?;
+        put_sdi(&mut text, self, other)?;
         Ok(text)
     }
 }

@@ -14,9 +14,7 @@ use a429_slots::{GroupPlan, OUTPUTS};
 use a429_text::{Cell, Rows};
 
 /// The periods from 2 on, in slots.
-const PERIODS: [u32; 13] = [
-    2, 4, 8, 16, 32, 64, 128, 256, 512, 1024, 2048, 4096, 8192,
-];
+const PERIODS: [u32; 13] = [2, 4, 8, 16, 32, 64, 128, 256, 512, 1024, 2048, 4096, 8192];
 
 /// The cells with an output in per cent of all these cells, rounded up to one decimal.
 fn percent(cells: u64, all: u64) -> Cell<'static>
@@ -38,11 +36,11 @@ fn words(cells: u64, rate: u32, frame: u32) -> Cell<'static>
 }
 
 /// Adds the row of how many more outputs of a period some buses take, if the period is within the frame.
-fn add_room(
+fn add_room<'a>(
     rows: &mut Rows,
-    group: &GroupRow,
+    group: &'a GroupRow,
     frame: u32,
-    bus: Cell<'_>,
+    bus: Cell<'a>,
     loads: &[u32],
     period: u32,
 )
@@ -69,11 +67,11 @@ fn add_room(
 }
 
 /// Adds the rows of these powers of two as periods.
-fn add_rooms(
+fn add_rooms<'a>(
     rows: &mut Rows,
-    group: &GroupRow,
+    group: &'a GroupRow,
     frame: u32,
-    bus: Cell<'_>,
+    bus: Cell<'a>,
     loads: &[u32],
     periods: &[u32],
 )
@@ -87,13 +85,13 @@ fn add_rooms(
 }
 
 /// Adds the row of how full some buses are.
-fn add_load(
+fn add_load<'a>(
     rows: &mut Rows,
-    group: &GroupRow,
+    group: &'a GroupRow,
     frame: u32,
-    bus: Cell<'_>,
+    bus: Cell<'a>,
     loads: &[u32],
-    needed: Cell<'_>,
+    needed: Cell<'a>,
 )
     requires rate { group.now.rate ≤ 100000 }
     requires frame { 1 ≤ frame }
@@ -119,13 +117,13 @@ fn add_load(
 }
 
 /// Adds the rows of some buses.
-pub fn add_rows(
+pub fn add_rows<'a>(
     rows: &mut Rows,
-    group: &GroupRow,
+    group: &'a GroupRow,
     frame: u32,
-    bus: Cell<'_>,
+    bus: Cell<'a>,
     loads: &[u32],
-    needed: Cell<'_>,
+    needed: Cell<'a>,
 )
     requires rate { group.now.rate ≤ 100000 }
     requires frame { 1 ≤ frame }
@@ -138,25 +136,13 @@ pub fn add_rows(
 }
 
 /// Adds the rows of each bus of a group, from 0.
-pub fn add_buses(
-    rows: &mut Rows,
-    group: &GroupRow,
-    table: &GroupPlan<OUTPUTS>,
-    loads: &[u32],
-)
+pub fn add_buses(rows: &mut Rows, group: &GroupRow, table: &GroupPlan<OUTPUTS>, loads: &[u32])
     requires rate { group.now.rate ≤ 100000 }
     requires loads { loads.now ≡ loads_of table.now }
     ensures { rows.new ≡ rows.old ++ flat_map (bus_rows group.now table.now) (range_with_len 0 (buses_of table.now)) }
 {
     for bus in 0..table.buses() {
         let load = [loads[bus as usize]];
-        add_rows(
-            rows,
-            group,
-            table.frame(),
-            number(bus),
-            &load,
-            Cell::Absent,
-        );
+        add_rows(rows, group, table.frame(), number(bus), &load, Cell::Absent);
     }
 }
