@@ -367,15 +367,16 @@ module _ (a b : Proposed) (A : IsProposal a) (B : IsProposal b) (law : FewestCar
       let (row, rows, news, t, u, rate, both, one) = one_stated g below in
       ap (λ (o : Option Both). option_map_or moved_in o 0) both ∙ none_moved a.station b.station a.station.version row rows news t u one true true row.name row.rate (rate_in b g) rate)
 
-  no_table : table_change a.station b.station ≡ []
-  no_table = either (length a.station.groups == 0 && length b.station.groups == 0) (number_none (codes "rate") a.station.rate b.station.rate to_version rest.0 no_version) no_version
+  abbrev to_version : List ℕ
+  to_version = with_number (codes "version") (Some a.station.version) (Some b.station.version) []
+
+  no_version : to_version ≡ []
+  no_version = number_none (codes "version") (Some a.station.version) (Some b.station.version) [] (ap (λ (n : ℕ). Some n) version) refl
+
+  no_table_change : table_change a.station b.station ≡ []
+  no_table_change =
+      either (length a.station.groups == 0 && length b.station.groups == 0) (number_none (codes "rate") a.station.rate b.station.rate to_version rest.0 no_version) no_version
     where
-      abbrev to_version : List ℕ
-      to_version = with_number (codes "version") (Some a.station.version) (Some b.station.version) []
-
-      no_version : to_version ≡ []
-      no_version = number_none (codes "version") (Some a.station.version) (Some b.station.version) [] (ap (λ (n : ℕ). Some n) version) refl
-
       either : (c : Bool) → with_number (codes "rate") a.station.rate b.station.rate to_version ≡ [] → to_version ≡ [] → (if c then with_number (codes "rate") a.station.rate b.station.rate to_version else to_version) ≡ []
       either true h none = h
       either false h none = none
@@ -384,7 +385,7 @@ module _ (a b : Proposed) (A : IsProposal a) (B : IsProposal b) (law : FewestCar
   no_rows all =
       none_both (equipment_rows a.station b.station) (plan_rows a b all)
       (none_both (table_rows a.station b.station) (station_rows a.station b.station ++ lists_rows a.station b.station)
-      (none_row (of_kind (codes "table")) (table_change a.station b.station) no_table)
+      (none_row (of_kind (codes "table")) (table_change a.station b.station) no_table_change)
       (none_both (station_rows a.station b.station) (lists_rows a.station b.station)
       (none_if (same_station a.station b.station) (change_row (of_kind (codes "station")) (codes "another") ∷ []) station) (no_lists a.station b.station A.sound station)))
       (none_both (groups_rows all (same_station a.station b.station) a b) (if all then [] else count_rows (moved_count a b)) (no_groups all (same_station a.station b.station))

@@ -82,6 +82,9 @@ abbrev pub number_text : Option ℕ → List ℕ
 number_text None = codes "-"
 number_text (Some number) = decimal number
 
+abbrev pub count_change : List ℕ → Option ℕ → Option ℕ → List ℕ
+count_change name first second = value_change name (number_text first) (number_text second)
+
 abbrev pub same_number : Option ℕ → Option ℕ → Bool
 same_number None None = true
 same_number (Some a) (Some b) = a == b
@@ -89,7 +92,7 @@ same_number _ _ = false
 
 -- a text and a number, if it differs, or one side does not have it
 abbrev pub with_number : List ℕ → Option ℕ → Option ℕ → List ℕ → List ℕ
-with_number name first second text = with_change (same_number first second) (value_change name (number_text first) (number_text second)) text
+with_number name first second text = with_change (same_number first second) (count_change name first second) text
 
 -- ---- the tables
 
@@ -125,6 +128,11 @@ lone_rows change name subject others x = if is_some (number_named name others (n
 abbrev pub of_both : {X : Type 0} → (X → List ℕ) → (X → Subject) → (X → X → List ℕ) → List X → X → List (List Field)
 of_both name subject change second x = option_map_or (λ y. change_rows (subject x) (change x y)) (item_named name second (name x)) []
 
+-- the same of all things of the first list, by the receivers of both tables
+abbrev pub boths_rows : {X : Type 0} → (X → List ℕ) → (X → Subject) → (List ReceiverRow → List ReceiverRow → X → X → List ℕ)
+    → List ReceiverRow → List ReceiverRow → List X → List X → List (List Field)
+boths_rows name subject change own others second first = flat_map (of_both name subject (change own others) second) first
+
 -- the things that only the first list has, then those that only the second has, then those of both that change: their numbers do not count
 abbrev pub list_rows : {X : Type 0} → (X → List ℕ) → (X → Subject) → (X → X → List ℕ) → List X → List X → List (List Field)
 list_rows name subject change first second =
@@ -144,7 +152,7 @@ filter_count filters = option_map (λ fs. length fs) filters
 
 abbrev pub filter_change : ReceiverRow → ReceiverRow → List ℕ
 filter_change r s =
-    with_change (same_filters r.filters s.filters) (value_change (codes "filters") (number_text (filter_count r.filters)) (number_text (filter_count s.filters))) []
+    with_change (same_filters r.filters s.filters) (count_change (codes "filters") (filter_count r.filters) (filter_count s.filters)) []
 
 abbrev pub with_receiver : List ℕ → List ℕ → List ℕ → List ℕ
 with_receiver own other text = with_change (bytes_eq own other) (value_change (codes "receiver") own other) text
@@ -222,7 +230,7 @@ gap_of_slots rate slots max_us = record { slots = Number slots; time = Number (s
 -- a text with each number that differs; the offset only if all are requested
 abbrev pub compared_change : Bool → Compared → Compared → List ℕ
 compared_change all x y =
-    with_change (not all || same_number x.offset y.offset) (value_change (codes "offset") (number_text x.offset) (number_text y.offset))
+    with_change (not all || same_number x.offset y.offset) (count_change (codes "offset") x.offset y.offset)
     (with_number (codes "bus") x.bus y.bus (with_number (codes "hold") x.hold y.hold
     (with_number (codes "period_slots") x.period y.period (with_number (codes "max_us") x.max_us y.max_us (with_number (codes "min_us") x.min_us y.min_us [])))))
 

@@ -1,9 +1,10 @@
 //! Lists of things with a name, in both tables.
-ghost use Rattle.std.specs.Prelude.{◌≡◌, ◌<◌, ◌++◌, List, ℕ, IfOk, IfSome, OnOk, codes, length, option_copied, string_bytes};
+ghost use Rattle.std.specs.Prelude.{◌≡◌, ◌<◌, ◌++◌, List, ℕ, IfOk, IfSome, codes, length, option_copied, string_bytes};
 ghost use Rattle.std.specs.List.{flat_map};
+ghost use Rattle.a429_word.specs.Written.{Gains};
 ghost use Rattle.a429_equipment.specs.TableRecord.{TableRecord};
 ghost use Rattle.a429_equipment.specs.declared.rows.ReceiverRow.{ReceiverRow};
-ghost use Rattle.a429_documents.specs.Diff.{item_named, lone_rows, named_rows, number_named, of_both};
+ghost use Rattle.a429_documents.specs.Diff.{boths_rows, item_named, lone_rows, named_rows, number_named, of_both};
 ghost use Rattle.a429_documents.specs.Diff as diff;
 
 use crate::diff::rows::{Subject, add_change, add_row};
@@ -81,7 +82,7 @@ fn add_both<T: Named>(
     second: &[T],
     item: &T,
 ) -> Result<(), AllocError>
-    ensures { OnOk result (rows.new ≡ rows.old ++ of_both T.name_of T.subject_of (T.change_of a.now.receivers b.now.receivers) second.now item.now) }
+    ensures { Gains result rows.old rows.new (of_both T.name_of T.subject_of (T.change_of a.now.receivers b.now.receivers) second.now item.now) }
 {
     if let Some(number) = number_named(second, item.name()) {
         let change = item.change(alloc, &second[number], a, b)?;
@@ -99,7 +100,7 @@ fn add_boths<T: Named>(
     first: &[T],
     second: &[T],
 ) -> Result<(), AllocError>
-    ensures { OnOk result (rows.new ≡ rows.old ++ flat_map (of_both T.name_of T.subject_of (T.change_of a.now.receivers b.now.receivers) second.now) first.now) }
+    ensures { Gains result rows.old rows.new (boths_rows T.name_of T.subject_of T.change_of a.now.receivers b.now.receivers second.now first.now) }
 {
     for item in first {
         add_both(alloc, rows, a, b, second, item)?;
@@ -115,7 +116,7 @@ pub fn add_list<T: Named>(
     a: &Equipment,
     b: &Equipment,
 ) -> Result<(), AllocError>
-    ensures { OnOk result (rows.new ≡ rows.old ++ named_rows T.name_of T.subject_of T.change_of T.list_of a.now b.now) }
+    ensures { Gains result rows.old rows.new (named_rows T.name_of T.subject_of T.change_of T.list_of a.now b.now) }
 {
     let (first, second) = (T::list(a), T::list(b));
     add_lones(rows, "removed", first, second);

@@ -1,7 +1,7 @@
 //! Texts of what changes: `min_us 31250 -> 15625, hold - -> 3`.
 ghost use Rattle.std.specs.Prelude.{◌≡◌, ◌++◌, OnOk, string_bytes};
 ghost use Rattle.a429_word.specs.Written.{Writes};
-ghost use Rattle.a429_documents.specs.Diff.{comma_after, number_text, same_number, value_change, with_change, with_number};
+ghost use Rattle.a429_documents.specs.Diff.{comma_after, count_change, number_text, same_number, value_change, with_change, with_number};
 
 use std::alloc::AllocError;
 use std::fmt::Write;
@@ -65,7 +65,7 @@ fn put_numbers(
     first: Option<u64>,
     second: Option<u64>,
 ) -> Result<(), AllocError>
-    ensures { Writes result text.old text.new (value_change name.now (number_text first) (number_text second)) }
+    ensures { Writes result text.old text.new (count_change name.now first second) }
 {
     text.push_str(name)?;
     text.push_str(" ")?;
@@ -101,7 +101,7 @@ pub fn put_counts(
     first: Option<u64>,
     second: Option<u64>,
 ) -> Result<(), AllocError>
-    ensures { OnOk result (string_bytes text.new ≡ with_change same (value_change name.now (number_text first) (number_text second)) (string_bytes text.old)) }
+    ensures { OnOk result (string_bytes text.new ≡ with_change same (count_change name.now first second) (string_bytes text.old)) }
 {
     if same {
         return Ok(());
