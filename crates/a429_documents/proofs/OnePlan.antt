@@ -317,7 +317,7 @@ module _ (a b : Proposed) (A : IsProposal a) (B : IsProposal b) (law : FewestCar
   rows_of e g rows there = get_or_from_slice_get e.outputs g rows [] there
 
   one_stated : (g : ℕ) → g < length a.station.groups → (row : GroupRow) × (rows : List OutputRow) × (news : List OutputRow) × (t : SlotTable) × (u : SlotTable)
-      × (row.rate ≡ rate_in b g) × (both_of a b g ≡ Some (group_of row.name row.rate (rate_in b g) a.station rows t b.station news u)) × IsOneStated a.station b.station a.station.version row rows news t u
+      × (rate_in a g ≡ rate_in b g) × (both_of a b g ≡ Some (group_of row.name (rate_in a g) (rate_in b g) a.station rows t b.station news u)) × IsOneStated a.station b.station a.station.version row rows news t u
   one_stated g below =
       let row = get_within a.station.groups g below in
       let again : slice_get b.station.groups g ≡ Some row.0 = ap (λ (gs : List GroupRow). slice_get gs g) (sym groups) ∙ row.1 in
@@ -337,9 +337,9 @@ module _ (a b : Proposed) (A : IsProposal a) (B : IsProposal b) (law : FewestCar
         news.0,
         t.0,
         u.0,
-        sym (ap (λ (o : Option GroupRow). option_map_or (λ (r : GroupRow). r.rate) o 0) again),
+        ap (λ (o : Option GroupRow). option_map_or (λ (r : GroupRow). r.rate) o 0) (row.1 ∙ sym again),
         both_is a b g g row.0 row.1 (named_at (λ (h : GroupRow). h.name) b.station.groups B.sound.own_groups g row.0 again row.0.name refl)
-            ∙ ap₂ (λ (s v : Sent). Some (record { name = row.0.name; rate = row.0.rate; new_rate = rate_in b g; first = s; second = v })) first second,
+            ∙ ap₂ (λ (s v : Sent). Some (record { name = row.0.name; rate = rate_in a g; new_rate = rate_in b g; first = s; second = v })) first second,
         record {
           first = planned_at a A g row.0 rows.0 t.0 row.1 rows.1 t.1;
           second = planned_at b B g row.0 news.0 u.0 again news.1 u.1;
@@ -358,14 +358,14 @@ module _ (a b : Proposed) (A : IsProposal a) (B : IsProposal b) (law : FewestCar
       each_none (group_both_rows all has_gap a b) (length a.station.groups)
       (λ g below.
       let (row, rows, news, t, u, rate, both, one) = one_stated g below in
-      ap (λ (o : Option Both). option_map_or (both_rows all has_gap) o []) both ∙ group_kept a.station b.station a.station.version row rows news t u one all has_gap row.name row.rate (rate_in b g) rate)
+      ap (λ (o : Option Both). option_map_or (both_rows all has_gap) o []) both ∙ group_kept a.station b.station a.station.version row rows news t u one all has_gap row.name (rate_in a g) (rate_in b g) rate)
 
   no_move : moved_count a b ≡ 0
   no_move =
       each_sum (group_moved a b) (length a.station.groups)
       (λ g below.
       let (row, rows, news, t, u, rate, both, one) = one_stated g below in
-      ap (λ (o : Option Both). option_map_or moved_in o 0) both ∙ none_moved a.station b.station a.station.version row rows news t u one true true row.name row.rate (rate_in b g) rate)
+      ap (λ (o : Option Both). option_map_or moved_in o 0) both ∙ none_moved a.station b.station a.station.version row rows news t u one true true row.name (rate_in a g) (rate_in b g) rate)
 
   abbrev to_version : List ℕ
   to_version = with_number (codes "version") (Some a.station.version) (Some b.station.version) []

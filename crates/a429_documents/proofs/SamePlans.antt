@@ -126,14 +126,14 @@ module _ (a b : Proposed) (all : Bool) (sound : IsSound a.station) (other : IsSo
       ap₂ (λ (os : List OutputRow) (v : SlotTable). sent a.station.sources os v) (get_or_from_slice_get a.station.outputs g rows [] listed) (get_or_from_slice_get (groups_of a.plan) g t no_table there) in
       let second : sent_by b g ≡ sent b.station.sources news u =
       ap₂ (λ (os : List OutputRow) (v : SlotTable). sent b.station.sources os v) (get_or_from_slice_get b.station.outputs g news [] renewed) (get_or_from_slice_get (groups_of b.plan) g u no_table beside) in
-      let both : both_of a b g ≡ Some (group_of row.name row.rate (rate_in b g) a.station rows t b.station news u) =
+      let both : both_of a b g ≡ Some (group_of row.name (rate_in a g) (rate_in b g) a.station rows t b.station news u) =
       both_is a b g g row here (named_at (λ (h : GroupRow). h.name) b.station.groups other.own_groups g row again row.name refl)
-      ∙ ap₂ (λ (s v : Sent). Some (record { name = row.name; rate = row.rate; new_rate = rate_in b g; first = s; second = v })) first second in
+      ∙ ap₂ (λ (s v : Sent). Some (record { name = row.name; rate = rate_in a g; new_rate = rate_in b g; first = s; second = v })) first second in
       record {
         all = all;
         has_gap = has_gap;
         name = row.name;
-        own_rate = row.rate;
+        own_rate = rate_in a g;
         new_rate = rate_in b g;
         first = record {
           sound = sound;

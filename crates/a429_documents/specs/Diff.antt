@@ -317,7 +317,7 @@ rate_in q g = option_map_or (λ row. row.rate) (slice_get q.station.groups g) 0
 -- the group of the first proposal with this number, if the second has one of its name
 abbrev pub both_of : Proposed → Proposed → ℕ → Option Both
 both_of a b g =
-    option_and_then (λ (row : GroupRow). option_map (λ h. record { name = row.name; rate = row.rate; new_rate = rate_in b h; first = sent_by a g; second = sent_by b h })
+    option_and_then (λ (row : GroupRow). option_map (λ h. record { name = row.name; rate = rate_in a g; new_rate = rate_in b h; first = sent_by a g; second = sent_by b h })
     (number_named (λ (h : GroupRow). h.name) b.station.groups row.name)) (slice_get a.station.groups g)
 
 abbrev pub group_both_rows : Bool → Bool → Proposed → Proposed → ℕ → List (List Field)

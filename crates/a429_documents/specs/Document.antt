@@ -1,6 +1,5 @@
 -- The interface control document of a plan: the names of its columns, and a row for each output (profile: docs/FORMATS.md, Output of `icd`).
-use Rattle.std.specs.Prelude.{ℕ, ◌+◌, ◌^◌, Bool, true, false, List, [], ◌∷◌, ◌++◌, Option, None, Some, codes, slice_get}
-use Rattle.std.specs.Fmt.{decimal}
+use Rattle.std.specs.Prelude.{ℕ, ◌+◌, ◌^◌, ◌==◌, Bool, true, false, List, [], ◌∷◌, ◌++◌, Option, None, Some, codes, if◌then◌else◌, slice_get}
 use Rattle.std.specs.Option.{option_map_or}
 use Rattle.a429_text.specs.Fields.{Field, Text, Number, Absent}
 use Rattle.a429_text.specs.Texts.{formula}
@@ -46,7 +45,7 @@ receiver_name receivers n = option_map_or (λ r. r.name) (slice_get receivers n)
 -- an SDI as a text: 0 to 3, or `any`
 abbrev pub sdi_text : Option ℕ → List ℕ
 sdi_text None = codes "any"
-sdi_text (Some sdi) = decimal sdi
+sdi_text (Some sdi) = if sdi == 0 then codes "0" else if sdi == 1 then codes "1" else if sdi == 2 then codes "2" else codes "3"
 
 abbrev pub sdi_field : Option ℕ → Field
 sdi_field sdi = Text (sdi_text sdi)

@@ -46,12 +46,10 @@ pub(crate) fn sdi_text(sdi: Option<Sdi>) -> &'static str
 {
     match sdi {
         None => "any",
-        Some(sdi) => match sdi.value() {
-            0 => "0",
-            1 => "1",
-            2 => "2",
-            _ => "3",
-        },
+        Some(sdi) if sdi.value() == 0 => "0",
+        Some(sdi) if sdi.value() == 1 => "1",
+        Some(sdi) if sdi.value() == 2 => "2",
+        Some(_) => "3",
     }
 }
 

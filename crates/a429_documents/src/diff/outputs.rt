@@ -1,7 +1,7 @@
 //! What differs of the groups that two proposals have, and of their outputs.
 ghost use Rattle.std.specs.Prelude.{◌≡◌, ◌<◌, ◌≤◌, ◌++◌, IfOk, IfSome, OnOk, codes, length, string_bytes};
 ghost use Rattle.a429_slots.specs.Tables.{outputs_of};
-ghost use Rattle.a429_documents.specs.Diff.{both_of, count_rows, each_of, group_both_rows, group_moved, groups_rows, is_moved, kept_gap, kept_rows, moved_count, moved_in, only_rows, outputs_rows, pair_rows, size_change, size_rows};
+ghost use Rattle.a429_documents.specs.Diff.{both_of, count_rows, each_of, group_both_rows, group_moved, groups_rows, is_moved, kept_gap, kept_rows, moved_count, moved_in, only_rows, outputs_rows, pair_rows, rate_in, size_change, size_rows};
 
 use crate::diff::names::number_named;
 use crate::diff::rows::{Gap, Subject, add_change, add_row};
@@ -172,22 +172,30 @@ fn add_size(alloc: Global, rows: &mut Rows, group: &Both<'_>) -> Result<(), Allo
     Ok(())
 }
 
+/// The bit rate of a group in bit/s.
+fn rate_of(proposal: &Proposal<OUTPUTS>, group: usize) -> u32
+    requires { group < length proposal.now.station.groups }
+    ensures rate { result ≡ rate_in proposal.now group }
+    ensures some { 1 ≤ result }
+{
+    let equipment = proposal.equipment();
+    equipment.rows_are_sound();
+    equipment.group_rate(group)
+}
+
 /// A group of the first proposal, if the second has one of its name.
 fn both_of<'a>(a: &'a Proposal<OUTPUTS>, b: &'a Proposal<OUTPUTS>, group: usize) -> Option<Both<'a>>
     requires { group < length a.now.station.groups }
     ensures both { result ≡ both_of a.now b.now group }
     ensures rate { IfSome result (λ both. 1 ≤ both.rate) }
 {
-    a.equipment().rows_are_sound();
-    let row = &a.equipment().groups()[group];
-    let others = b.equipment().groups();
-    let name = row.name.as_str();
-    match number_named(others, name) {
+    let name = a.equipment().groups()[group].name.as_str();
+    match number_named(b.equipment().groups(), name) {
         None => None,
         Some(other) => Some(Both {
             name,
-            rate: row.rate,
-            new_rate: others[other].rate,
+            rate: rate_of(a, group),
+            new_rate: rate_of(b, other),
             first: Side::of(a, group),
             second: Side::of(b, other),
         }),

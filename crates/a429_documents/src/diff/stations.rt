@@ -163,9 +163,10 @@ impl Named for GroupRow {
 pub fn add_station(rows: &mut Rows, a: &Equipment, b: &Equipment)
     ensures { rows.new ≡ rows.old ++ station_rows a.now b.now }
 {
-    if !a.same_station(b) {
-        add_row(rows, &Subject::of_kind("station"), "another");
+    if a.same_station(b) {
+        return;
     }
+    add_row(rows, &Subject::of_kind("station"), "another");
 }
 
 /// Adds the rows of receivers and sources, and of the groups that only one table has. Error: an allocation failed.
