@@ -1,6 +1,6 @@
 -- Lists of rows that have none.
-use Rattle.std.proofs.Common.{◌≡◌, ℕ, zero, suc, ◌+◌, ◌<◌, Bool, true, false, List, [], ◌∷◌, ◌++◌, Option, Some, None, ap, ap₂, sym, refl, arith, inl, inr, ◌⊎◌, eq-eqb, ◌∙◌}
-use Rattle.std.specs.Prelude.{◌&&◌, ◌||◌, codes, cond, if◌then◌else◌, not, slice_get}
+use Rattle.std.proofs.Common.{◌≡◌, ℕ, zero, suc, ◌+◌, ◌<◌, ◌≤◌, Bool, true, false, List, [], ◌∷◌, ◌++◌, length, Option, Some, None, ap, ap₂, sym, refl, arith, inl, inr, ◌⊎◌, eq-eqb, ◌∙◌}
+use Rattle.std.specs.Prelude.{◌&&◌, ◌||◌, ◌==◌, codes, cond, if◌then◌else◌, not, slice_get}
 use Rattle.std.specs.List.{count_by, flat_map, range_with_len, sum_by}
 use Rattle.std.proofs.lemmas.Bool.{eqb-true}
 use Rattle.std.proofs.lemmas.List.Sums.{sum_by-cons}
@@ -51,20 +51,23 @@ each_none rows n each =
 
 -- ---- a row
 
--- there is a row if and only if the text says something
-pub row_none : (subject : Subject) (change : List ℕ) → change_rows subject change ≡ [] → change ≡ []
-unfolding change_rows
-row_none subject [] h = refl
-row_none subject (c ∷ cs) h = absurd cc
-
-pub none_row : (subject : Subject) (change : List ℕ) → change ≡ [] → change_rows subject change ≡ []
-unfolding change_rows
-none_row subject change h = rw h refl
-
 -- of one row
 pub one_none : (b : Bool) (row : List Field) → (if b then [] else row ∷ []) ≡ [] → b ≡ true
 one_none true row h = refl
 one_none false row h = absurd cc
+
+nothing_in : {X : Type 0} (xs : List X) → length xs ≡ 0 → xs ≡ []
+nothing_in [] h = refl
+nothing_in (x ∷ xs) h = absurd (omega (arith, h))
+
+-- there is a row if and only if the text says something
+pub row_none : (subject : Subject) (change : List ℕ) → change_rows subject change ≡ [] → change ≡ []
+unfolding change_rows
+row_none subject change h = nothing_in change (eqb-true (length change) 0 (one_none (length change == 0) (change_row subject change) h))
+
+pub none_row : (subject : Subject) (change : List ℕ) → change ≡ [] → change_rows subject change ≡ []
+unfolding change_rows
+none_row subject change h = rw h refl
 
 -- ---- a text
 
