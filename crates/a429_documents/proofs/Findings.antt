@@ -10,7 +10,7 @@ use Rattle.std.proofs.lemmas.Slice.Zip.{AllZip-long}
 use Rattle.std.specs.declared.alloc.Global.{Global}
 use Rattle.std.specs.declared.vec.Vec.{Vec}
 use Rattle.a429_word.proofs.Lists.{range_next, read_is, take_next}
-use Rattle.a429_text.specs.Fields.{Field, Number}
+use Rattle.a429_text.specs.Fields.{Field, Number, Absent}
 use Rattle.a429_equipment.specs.TableRecord.{TableRecord, outputs_in}
 use Rattle.a429_equipment.specs.declared.rows.GroupRow.{GroupRow}
 use Rattle.a429_equipment.specs.declared.rows.OutputRow.{OutputRow}
@@ -71,10 +71,10 @@ module _ (e : TableRecord) (asked : List (List Demand)) (g : ℕ) (row : GroupRo
       let same : group_asks.0 ≡ demands = same_Some _ _ (sym group_asks.1 ∙ there) in
       AllZip-long (IsAsked row.rate e.sources) rows demands (subst (AllZip (IsAsked row.rate e.sources) rows) same group_asks.2)
 
-  pub group_is : (kind : GroupFinding) (demands : List Demand) → slice_get asked g ≡ Some demands → group_rows e asked kind g ≡ group_finding e.sources kind row.name rows demands
+  pub group_is : (kind : GroupFinding) (demands : List Demand) → slice_get asked g ≡ Some demands → group_rows e asked kind g ≡ group_finding e.sources kind row rows demands
   group_is kind demands there =
-      ap (λ (r : Option GroupRow). option_map_or (λ (h : GroupRow). group_finding e.sources kind h.name (outputs_in e g) (asked_in asked g)) r []) at.here
-      ∙ ap₂ (λ (os : List OutputRow) (ds : List Demand). group_finding e.sources kind row.name os ds)
+      ap (λ (r : Option GroupRow). option_map_or (λ (h : GroupRow). group_finding e.sources kind h (outputs_in e g) (asked_in asked g)) r []) at.here
+      ∙ ap₂ (λ (os : List OutputRow) (ds : List Demand). group_finding e.sources kind row os ds)
       (get_or_from_slice_get e.outputs g rows [] at.listed) (get_or_from_slice_get asked g demands [] there)
 
 -- what is read of the lists that are kept
@@ -84,13 +84,13 @@ kept_at asked g v below is = slice_get-map (λ v. v.items) asked g ∙ ap (optio
 -- ---- a filter that passes no source
 
 pub blind_is : (sources : List SourceRow) (r : ℕ) (name : List ℕ) (filters : List Filter) (n : ℕ) (f : Filter) → slice_get filters n ≡ Some f → sees_source sources r f ≡ false
-    → receiver_row (codes "blind") name (Number (n + 1)) ∷ [] ≡ blind_rows sources r name filters n
+    → receiver_row (codes "blind") name Absent (Number (n + 1)) ∷ [] ≡ blind_rows sources r name filters n
 blind_is sources r name filters n f there unseen =
-    let rows : List (List Field) = receiver_row (codes "blind") name (Number (n + 1)) ∷ [] in
+    let rows : List (List Field) = receiver_row (codes "blind") name Absent (Number (n + 1)) ∷ [] in
     sym (ap (λ (o : Option Filter). option_map_or (λ f. if sees_source sources r f then [] else rows) o []) there ∙ ap (λ (b : Bool). if b then [] else rows) unseen)
 
 pub seen_is : (sources : List SourceRow) (r : ℕ) (name : List ℕ) (filters : List Filter) (n : ℕ) (f : Filter) → slice_get filters n ≡ Some f → sees_source sources r f ≡ true
     → blind_rows sources r name filters n ≡ []
 seen_is sources r name filters n f there seen =
-    let rows : List (List Field) = receiver_row (codes "blind") name (Number (n + 1)) ∷ [] in
+    let rows : List (List Field) = receiver_row (codes "blind") name Absent (Number (n + 1)) ∷ [] in
     ap (λ (o : Option Filter). option_map_or (λ f. if sees_source sources r f then [] else rows) o []) there ∙ ap (λ (b : Bool). if b then [] else rows) seen
