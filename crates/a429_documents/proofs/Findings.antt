@@ -1,5 +1,5 @@
 -- What the rows of `lint` are made of.
-use Rattle.std.proofs.Common.{◌≡◌, ℕ, zero, suc, ◌+◌, ◌<◌, Bool, true, false, List, [], ◌∷◌, ◌++◌, length, map, take, get_or, codes, Option, Some, ap, ap₂, sym, subst, refl, arith, ◌∙◌}
+use Rattle.std.proofs.Common.{◌≡◌, ℕ, zero, suc, ◌+◌, ◌-◌, ◌*◌, ◌^◌, ◌<◌, Bool, true, false, List, [], ◌∷◌, ◌++◌, length, map, take, get_or, codes, Option, Some, ap, ap₂, sym, subst, refl, arith, ◌∙◌}
 use Rattle.std.specs.Prelude.{◌||◌, if◌then◌else◌, option_map, slice_get}
 use Rattle.std.specs.List.{AllZip, flat_map, list_any, range_with_len}
 use Rattle.std.specs.Option.{option_map_or}
@@ -16,12 +16,14 @@ use Rattle.a429_equipment.specs.declared.rows.GroupRow.{GroupRow}
 use Rattle.a429_equipment.specs.declared.rows.OutputRow.{OutputRow}
 use Rattle.a429_equipment.specs.declared.rows.SourceRow.{SourceRow}
 use Rattle.a429_filter.specs.declared.filters.Filter.{Filter}
+use Rattle.a429_pack.specs.Demanded.{demand_of}
+use Rattle.a429_pack.specs.Demands.{exponents_of, greatest}
 use Rattle.a429_pack.specs.declared.demands.Demand.{Demand}
 use Rattle.a429_slots.specs.Asked.{IsAsked}
 use Rattle.a429_slots.specs.Planned.{rated_outputs}
 use Rattle.a429_slots.proofs.Planning.{rated_at}
 use Rattle.a429_documents.specs.declared.lint.GroupFinding.{GroupFinding}
-use Rattle.a429_documents.specs.Lint.{AreAsked, asked_in, blind_rows, receiver_row, group_finding, group_rows, sees_source}
+use Rattle.a429_documents.specs.Lint.{AreAsked, asked_in, blind_rows, crowded_row, crowded_rows, filled_from, receiver_row, group_finding, group_rows, sees_source}
 
 -- ---- one more
 
@@ -94,3 +96,14 @@ pub seen_is : (sources : List SourceRow) (r : ℕ) (name : List ℕ) (filters : 
 seen_is sources r name filters n f there seen =
     let rows : List (List Field) = receiver_row (codes "blind") name Absent (Number (n + 1)) ∷ [] in
     ap (λ (o : Option Filter). option_map_or (λ f. if sees_source sources r f then [] else rows) o []) there ∙ ap (λ (b : Bool). if b then [] else rows) seen
+
+-- ---- a bus that is crowded
+
+pub crowded_is : (group : List ℕ) (demands : List Demand) (bus frame cells left b whole : ℕ) → frame ≡ 2 ^ greatest (exponents_of demands) → whole ≡ demand_of (exponents_of demands) → b ≡ bus
+    → left ≡ whole - b * frame → cells ≡ filled_from left frame → crowded_row group bus frame cells ≡ crowded_rows group demands bus
+crowded_is group demands bus frame cells left b whole framed all same rest filled =
+    ap (λ (n : ℕ). crowded_row group bus frame n) filled
+    ∙ ap (λ (n : ℕ). crowded_row group bus frame (filled_from n frame)) rest
+    ∙ ap (λ (n : ℕ). crowded_row group bus frame (filled_from (whole - n * frame) frame)) same
+    ∙ ap (λ (n : ℕ). crowded_row group bus frame (filled_from (n - bus * frame) frame)) all
+    ∙ ap (λ (n : ℕ). crowded_row group bus n (filled_from (demand_of (exponents_of demands) - bus * n) n)) framed

@@ -128,10 +128,14 @@ lone_rows change name subject others x = if is_some (number_named name others (n
 abbrev pub of_both : {X : Type 0} → (X → List ℕ) → (X → Subject) → (X → X → List ℕ) → List X → X → List (List Field)
 of_both name subject change second x = option_map_or (λ y. change_rows (subject x) (change x y)) (item_named name second (name x)) []
 
--- the same of all things of the first list, by the receivers of both tables
-abbrev pub boths_rows : {X : Type 0} → (X → List ℕ) → (X → Subject) → (List ReceiverRow → List ReceiverRow → X → X → List ℕ)
-    → List ReceiverRow → List ReceiverRow → List X → List X → List (List Field)
-boths_rows name subject change own others second first = flat_map (of_both name subject (change own others) second) first
+-- the same by the receivers of both tables, of one thing and of all of the first list
+abbrev pub both_named : {X : Type 0} → (X → List ℕ) → (X → Subject) → (List ReceiverRow → List ReceiverRow → X → X → List ℕ)
+    → TableRecord → TableRecord → List X → X → List (List Field)
+both_named name subject change a b second x = of_both name subject (change a.receivers b.receivers) second x
+
+abbrev pub boths_named : {X : Type 0} → (X → List ℕ) → (X → Subject) → (List ReceiverRow → List ReceiverRow → X → X → List ℕ)
+    → TableRecord → TableRecord → List X → List X → List (List Field)
+boths_named name subject change a b second first = flat_map (both_named name subject change a b second) first
 
 -- the things that only the first list has, then those that only the second has, then those of both that change: their numbers do not count
 abbrev pub list_rows : {X : Type 0} → (X → List ℕ) → (X → Subject) → (X → X → List ℕ) → List X → List X → List (List Field)

@@ -224,20 +224,27 @@ blind_rows sources r name filters n =
 abbrev pub idle_rows : List SourceRow → ℕ → ReceiverRow → List (List Field)
 idle_rows sources n r = if has_source sources n then [] else receiver_row (codes "idle") r.name Absent Absent ∷ []
 
+-- the filters of a receiver that pass none of its sources
+abbrev pub all_blind_rows : List SourceRow → ℕ → ReceiverRow → List (List Field)
+all_blind_rows sources n r = of_each (length (filters_of r.filters)) (blind_rows sources n r.name (filters_of r.filters))
+
 -- both receivers have a list of filters, and it is the same
 abbrev pub are_twins : ReceiverRow → ReceiverRow → Bool
 are_twins r other = is_some r.filters && same_filters r.filters other.filters
 
 -- a receiver with a later one that has the same filters
+abbrev pub twin_row : ℕ → ReceiverRow → ℕ → ReceiverRow → List (List Field)
+twin_row n r m other =
+    if nat_lt n m && are_twins r other then receiver_row (codes "same-filters") r.name (Text other.name) Absent ∷ [] else []
+
+-- the same of the receiver with this number
 abbrev pub twin_rows : List ReceiverRow → ℕ → ReceiverRow → ℕ → List (List Field)
-twin_rows receivers n r m =
-    option_map_or (λ other. if nat_lt n m && are_twins r other then receiver_row (codes "same-filters") r.name (Text other.name) Absent ∷ [] else [])
-    (slice_get receivers m) []
+twin_rows receivers n r m = option_map_or (twin_row n r m) (slice_get receivers m) []
 
 -- the findings of one kind about a receiver, filters in order
 abbrev pub receiver_finding : List ReceiverRow → List SourceRow → ReceiverFinding → ℕ → ReceiverRow → List (List Field)
 receiver_finding receivers sources Idle n r = idle_rows sources n r
-receiver_finding receivers sources Blind n r = of_each (length (filters_of r.filters)) (blind_rows sources n r.name (filters_of r.filters))
+receiver_finding receivers sources Blind n r = all_blind_rows sources n r
 receiver_finding receivers sources SameFilters n r = of_each (length receivers) (twin_rows receivers n r)
 
 abbrev pub receiver_rows : TableRecord → ReceiverFinding → ℕ → List (List Field)

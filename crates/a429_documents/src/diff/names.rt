@@ -4,7 +4,7 @@ ghost use Rattle.std.specs.List.{flat_map};
 ghost use Rattle.a429_word.specs.Written.{Gains};
 ghost use Rattle.a429_equipment.specs.TableRecord.{TableRecord};
 ghost use Rattle.a429_equipment.specs.declared.rows.ReceiverRow.{ReceiverRow};
-ghost use Rattle.a429_documents.specs.Diff.{boths_rows, item_named, lone_rows, named_rows, number_named, of_both};
+ghost use Rattle.a429_documents.specs.Diff.{both_named, boths_named, item_named, lone_rows, named_rows, number_named};
 ghost use Rattle.a429_documents.specs.Diff as diff;
 
 use crate::diff::rows::{Subject, add_change, add_row};
@@ -82,7 +82,7 @@ fn add_both<T: Named>(
     second: &[T],
     item: &T,
 ) -> Result<(), AllocError>
-    ensures { Gains result rows.old rows.new (of_both T.name_of T.subject_of (T.change_of a.now.receivers b.now.receivers) second.now item.now) }
+    ensures { Gains result rows.old rows.new (both_named T.name_of T.subject_of T.change_of a.now b.now second.now item.now) }
 {
     if let Some(number) = number_named(second, item.name()) {
         let change = item.change(alloc, &second[number], a, b)?;
@@ -100,7 +100,7 @@ fn add_boths<T: Named>(
     first: &[T],
     second: &[T],
 ) -> Result<(), AllocError>
-    ensures { Gains result rows.old rows.new (boths_rows T.name_of T.subject_of T.change_of a.now.receivers b.now.receivers second.now first.now) }
+    ensures { Gains result rows.old rows.new (boths_named T.name_of T.subject_of T.change_of a.now b.now second.now first.now) }
 {
     for item in first {
         add_both(alloc, rows, a, b, second, item)?;

@@ -2,11 +2,11 @@
 ghost use Rattle.std.specs.Prelude.{◌≡◌, ◌<◌, ◌≤◌, ◌^◌, ◌++◌, ◌∷◌, [], length, map};
 ghost use Rattle.a429_text.specs.Sheets.{field_of};
 ghost use Rattle.a429_slots.specs.Planned.{HaveSources};
-ghost use Rattle.a429_documents.specs.Lint.{AreAsked, alike_row, alike_rows, are_alike, coarse_row, coarse_rows, crowded_row, crowded_rows, filled_from, finding_row, full_rows, group_finding, group_findings, is_coarse, is_full, load_row, max_of, needed_row, needs_too_many, of_each, one_is_any, output_name, planned_buses, too_many_rows, unfit_rows};
+ghost use Rattle.a429_documents.specs.Lint.{AreAsked, alike_row, alike_rows, are_alike, coarse_row, coarse_rows, crowded_row, crowded_rows, finding_row, full_rows, group_finding, group_findings, is_coarse, is_full, load_row, max_of, needed_row, needs_too_many, of_each, one_is_any, output_name, planned_buses, too_many_rows, unfit_rows};
 
 use crate::document::number;
 use crate::lint::GroupFinding;
-use crate::lint::demands::{are_fit, bus_count, cells_of, frame_of};
+use crate::lint::demands::{are_fit, bus_count, cells_of, filled_from, frame_of, planned_buses};
 use a429_equipment::{Equipment, GroupRow, OutputRow, SourceRow};
 use a429_grid::{Period, SLOT_TIME};
 use a429_pack::Demand;
@@ -307,27 +307,6 @@ fn add_coarses(
             period,
         );
     }
-}
-
-/// The buses of a group, if it can be planned; 0 otherwise.
-fn planned_buses(demands: &[Demand]) -> u32
-    requires few { length demands.now ≤ 128 }
-    ensures { result ≡ planned_buses demands.now }
-{
-    let buses = bus_count(demands);
-    if are_fit(demands) && buses <= 16 {
-        buses
-    } else {
-        0
-    }
-}
-
-/// The cells of a frame that are filled from the first of a bus on, if this number is left.
-fn filled_from(left: u64, frame: u64) -> u64
-    ensures value { result ≡ filled_from left frame }
-    ensures few { result ≤ frame }
-{
-    if left < frame { left } else { frame }
 }
 
 /// Adds a bus of which more than 80 per cent of the cells are filled.

@@ -1,8 +1,7 @@
 //! The findings about the receivers of an equipment.
-ghost use Rattle.std.specs.Prelude.{◌≡◌, ◌<◌, ◌++◌, ◌∷◌, [], length};
-ghost use Rattle.a429_filter.specs.Filters.{filters_of};
+ghost use Rattle.std.specs.Prelude.{◌≡◌, ◌<◌, ◌++◌, ◌∷◌, ◌&&◌, [], length, nat_lt};
 ghost use Rattle.a429_text.specs.Sheets.{field_of};
-ghost use Rattle.a429_documents.specs.Lint.{are_twins, blind_rows, has_source, idle_rows, of_each, receiver_finding, receiver_row, receiver_rows, sees_source, twin_rows};
+ghost use Rattle.a429_documents.specs.Lint.{all_blind_rows, are_twins, blind_rows, has_source, idle_rows, of_each, receiver_finding, receiver_row, receiver_rows, sees_source, twin_row, twin_rows};
 
 use crate::lint::ReceiverFinding;
 use a429_equipment::{Equipment, ReceiverRow, SourceRow, same_filters};
@@ -91,7 +90,7 @@ fn add_blinds(
 
 /// Adds the filters of a receiver that pass none of its sources.
 fn add_blind_filters(found: &mut Rows, sources: &[SourceRow], number: usize, receiver: &ReceiverRow)
-    ensures { found.new ≡ found.old ++ of_each (length (filters_of receiver.now.filters)) (blind_rows sources.now number receiver.now.name (filters_of receiver.now.filters)) }
+    ensures { found.new ≡ found.old ++ all_blind_rows sources.now number receiver.now }
 {
     let name = receiver.name.as_str();
     match receiver.filters.list() {
@@ -107,24 +106,29 @@ fn are_twins(receiver: &ReceiverRow, other: &ReceiverRow) -> bool
     receiver.filters.list().is_some() && same_filters(&receiver.filters, &other.filters)
 }
 
+/// Whether the second of two receivers is the later one, and has the same filters.
+fn is_later_twin(number: usize, receiver: &ReceiverRow, later: usize, other: &ReceiverRow) -> bool
+    ensures { result ≡ (nat_lt number later && are_twins receiver.now other.now) }
+{
+    number < later && are_twins(receiver, other)
+}
+
 /// Adds a receiver with a later one, if that has the same filters.
 fn add_twin(
     found: &mut Rows,
-    receivers: &[ReceiverRow],
     number: usize,
     receiver: &ReceiverRow,
     later: usize,
+    other: &ReceiverRow,
 )
-    ensures { found.new ≡ found.old ++ twin_rows receivers.now number receiver.now later }
+    ensures { found.new ≡ found.old ++ twin_row number receiver.now later other.now }
 {
-    let Some(other) = receivers.get(later) else {
+    if !is_later_twin(number, receiver, later, other) {
         return;
-    };
-    if number < later && are_twins(receiver, other) {
-        let name = receiver.name.as_str();
-        let other = Cell::Text(other.name.as_str());
-        add_finding(found, "same-filters", name, other, Cell::Absent);
     }
+    let name = receiver.name.as_str();
+    let other = Cell::Text(other.name.as_str());
+    add_finding(found, "same-filters", name, other, Cell::Absent);
 }
 
 /// Adds a receiver with each later one that has the same filters.
@@ -132,7 +136,7 @@ fn add_twins(found: &mut Rows, receivers: &[ReceiverRow], number: usize, receive
     ensures { found.new ≡ found.old ++ of_each (length receivers.now) (twin_rows receivers.now number receiver.now) }
 {
     for later in 0..receivers.len() {
-        add_twin(found, receivers, number, receiver, later);
+        add_twin(found, number, receiver, later, &receivers[later]);
     }
 }
 
