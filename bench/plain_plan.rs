@@ -304,8 +304,8 @@ fn slots_us(rate: u64, slots: u64) -> u64 {
 }
 
 const COLUMNS: [&str; 15] = [
-    "group", "rate", "source", "receiver", "label", "sdi", "bus", "slot", "period", "period_us", "min_us", "max_us", "hold",
-    "spacing", "latency_us",
+    "group", "rate", "source", "receiver", "label", "sdi", "bus", "offset", "period_slots", "period_us", "min_us", "max_us",
+    "hold", "spacing_slots", "latency_us",
 ];
 
 /// The rows of the interface control document, the columns' names first.
@@ -432,45 +432,48 @@ fn cells_of(plan: &Plan) -> Vec<Option<usize>> {
     cells
 }
 
-/// The row of some buses, by the cells of each that have an output.
-fn load_row(table: &Table, group: &Group, frame: u64, bus: String, loads: &[u64], longest: u64) -> Vec<String> {
+/// The rows of some buses, by the cells of each that have an output: how full they are, and the room for each period.
+fn load_rows(table: &Table, group: &Group, frame: u64, bus: String, loads: &[u64]) -> Vec<Vec<String>> {
     let (cells, all) = (loads.iter().sum::<u64>(), loads.len() as u64 * frame);
     let tenths = (1000 * cells).div_ceil(all);
     let words = (cells * table.rate).div_ceil(36 * frame);
     let mut row = vec![group.name.clone()];
-    row.extend([table.rate.to_string(), bus, frame.to_string(), cells.to_string(), (all - cells).to_string()]);
-    row.extend([format!("{}.{}", tenths / 10, tenths % 10), words.to_string(), String::new()]);
-    let mut period = 2;
-    while period <= longest {
-        let room = || loads.iter().map(|load| (frame - load) * period / frame).sum::<u64>();
-        row.push(if period > frame { String::new() } else { room().to_string() });
-        period *= 2;
+    row.extend([table.rate.to_string(), bus.clone(), frame.to_string(), cells.to_string(), (all - cells).to_string()]);
+    row.extend([format!("{}.{}", tenths / 10, tenths % 10), words.to_string()]);
+    row.resize(LOAD_COLUMNS.len(), String::new());
+    let mut rows = vec![row];
+    for period in (1..14).map(|digits| 1 << digits).filter(|period| *period <= frame) {
+        let room = loads.iter().map(|load| (frame - load) * period / frame).sum::<u64>();
+        let mut row = vec![group.name.clone(), String::new(), bus.clone()];
+        row.resize(LOAD_COLUMNS.len() - 2, String::new());
+        row.extend([period.to_string(), room.to_string()]);
+        rows.push(row);
     }
-    row
+    rows
 }
 
+const LOAD_COLUMNS: [&str; 11] = [
+    "group", "rate", "bus", "frame_slots", "cells", "free", "percent", "words_s", "needed", "period_slots", "room",
+];
+
 fn load_text(table: &Table) -> Result<String, Fault> {
-    let plans = table.groups.iter().map(|group| plan(table, group)).collect::<Result<Vec<_>, _>>()?;
-    let longest = plans.iter().map(|plan| plan.frame).max().unwrap_or(0);
-    let names = ["group", "rate", "bus", "frame", "cells", "free", "percent", "words_s", "needed"];
-    let mut heading = names.map(String::from).to_vec();
-    heading.extend((1..14).map(|digits| 1 << digits).filter(|period| *period <= longest).map(|period| format!("room_{period}")));
-    let mut rows = vec![heading];
-    for (group, plan) in table.groups.iter().zip(&plans) {
+    let mut rows = vec![LOAD_COLUMNS.map(String::from).to_vec()];
+    for group in &table.groups {
+        let plan = plan(table, group)?;
         let mut loads = vec![0; plan.buses as usize];
         for placed in &plan.placed {
             loads[placed.bus as usize] += plan.frame / placed.period;
         }
         for (bus, load) in loads.iter().enumerate() {
-            rows.push(load_row(table, group, plan.frame, bus.to_string(), &[*load], longest));
+            rows.extend(load_rows(table, group, plan.frame, bus.to_string(), &[*load]));
         }
-        rows.push(load_row(table, group, plan.frame, String::new(), &loads, longest));
+        rows.extend(load_rows(table, group, plan.frame, String::new(), &loads));
     }
     columns_text(&rows)
 }
 
 fn slots_text(table: &Table) -> Result<String, Fault> {
-    let names = ["group", "slot", "time_us", "bus", "label", "sdi", "source", "period"];
+    let names = ["group", "slot", "time_us", "bus", "label", "sdi", "source", "period_slots"];
     let mut rows = vec![names.map(String::from).to_vec()];
     for group in &table.groups {
         let mut plan = plan(table, group)?;

@@ -3,7 +3,7 @@ use Rattle.std.specs.Prelude.{◌≡◌, ℕ, Bool, true, false, List, Option, m
 use Rattle.a429_text.specs.Sheets.{sheet_text}
 use Rattle.a429_text.specs.declared.sheets.SheetForm.{SheetForm}
 use Rattle.a429_slots.specs.Proposed.{Proposed}
-use Rattle.a429_documents.specs.Load.{any_above, load_columns, load_rows, shown_for}
+use Rattle.a429_documents.specs.Load.{any_above, load_columns, load_rows}
 use Rattle.a429_arguments.specs.CommandLine.{most_percent}
 
 -- the limit in per cent: the rules of the command line let only 1 to 100 through
@@ -18,4 +18,4 @@ above_status false = 0
 -- the load of each bus of a proposal's plan, in a form
 abbrev pub IsLoad : Proposed → Option ℕ → SheetForm → ℕ → List ℕ → Type 0
 IsLoad q limit form status bytes =
-    (bytes ≡ sheet_text form (load_columns (shown_for q.plan)) (load_rows limit q.station q.plan)) × (status ≡ above_status (any_above limit q.plan))
+    (bytes ≡ sheet_text form load_columns (load_rows limit q.station q.plan)) × (status ≡ above_status (any_above limit q.plan))

@@ -85,7 +85,7 @@ fn diff_of(
 ) -> Result<Reply, AllocError>
     ensures { IfOk result (λ reply. IsFound form diff_columns (diff_rows first.now second.now all) reply.status reply.bytes.items) }
 {
-    let sheet = diff_sheet(alloc, first, second, all);
+    let sheet = diff_sheet(alloc, first, second, all)?;
     let reply = found_reply(alloc, &sheet, form)?;
     Ok(reply.with(Found::Rows(sheet)))
 }

@@ -1,7 +1,7 @@
 -- What the rows of `load` are made of.
 use Rattle.std.proofs.Common.{◌≡◌, ℕ, zero, suc, ◌+◌, ◌<◌, ◌≤◌, Bool, true, false, cond, List, [], ◌∷◌, ◌++◌, length, map, get_or, take, drop, set, sum, refl, inl, inr, sym, ap, arith, ◌∙◌, append_assoc, append-nil}
 use Rattle.std.specs.Prelude.{◌&&◌, ◌||◌, Option, Some, slice_get, is_some, max, count_by}
-use Rattle.std.specs.List.{list_all, list_any, range_with_len, sum_by}
+use Rattle.std.specs.List.{flat_map, list_all, list_any, range_with_len, sum_by}
 use Rattle.std.specs.Cmp.{nat_cmp_is}
 use Rattle.std.specs.Ordering.{nat_cmp, is_lt, ord_max}
 use Rattle.std.specs.declared.cmp.Ordering.TheVariants.{Less, Equal, Greater}
@@ -18,7 +18,8 @@ use Rattle.a429_equipment.specs.declared.rows.GroupRow.{GroupRow}
 use Rattle.a429_pack.specs.Demands.{greatest}
 use Rattle.a429_slots.specs.Tables.{SlotTable, buses_of, cell_at, frame_of}
 use Rattle.a429_documents.specs.Limits.{demand_from, if_from}
-use Rattle.a429_documents.specs.Load.{bus_row, cells_on, group_rows, groups_rows, load_row, loads_of, needed_field, total_row}
+use Rattle.a429_documents.proofs.Changes.{rows_more}
+use Rattle.a429_documents.specs.Load.{bus_rows, bus_rows_of, cells_on, group_rows, groups_rows, loads_of, needed_field, total_rows}
 
 -- ---- one more of a list
 
@@ -138,51 +139,48 @@ bus_load f n i xs is below = let same : 0 + i ≡ i = omega arith in ap (λ (l :
 
 -- ---- the rows of a group
 
--- the row of one more bus
-pub bus_more : (shown : ℕ) (g : GroupRow) (t : SlotTable) (frame : ℕ) (field : Field) (load bus : ℕ) (old rows new : List (List Field)) → frame ≡ frame_of t → field ≡ Number bus → load ≡ cells_on t bus
-    → rows ≡ old ++ map (bus_row shown g t) (range_with_len 0 bus) → new ≡ rows ++ load_row shown g frame field (load ∷ []) Absent ∷ []
-    → new ≡ old ++ map (bus_row shown g t) (range_with_len 0 (bus + 1))
-bus_more shown g t frame field load bus old rows new framed named loaded so now =
-    let row : load_row shown g frame field (load ∷ []) Absent ≡ bus_row shown g t bus =
-    ap (λ (f : ℕ). load_row shown g f field (load ∷ []) Absent) framed
-    ∙ ap (λ (f : Field). load_row shown g (frame_of t) f (load ∷ []) Absent) named
-    ∙ ap (λ (l : ℕ). load_row shown g (frame_of t) (Number bus) (l ∷ []) Absent) loaded in
-    now ∙ ap (λ (l : List (List Field)). l ++ load_row shown g frame field (load ∷ []) Absent ∷ []) so
-    ∙ append_assoc old (map (bus_row shown g t) (range_with_len 0 bus)) (load_row shown g frame field (load ∷ []) Absent ∷ [])
-    ∙ ap (λ (r : List Field). old ++ (map (bus_row shown g t) (range_with_len 0 bus) ++ r ∷ [])) row
-    ∙ sym (ap (λ (l : List (List Field)). old ++ l) (map-range_with_len_more (bus_row shown g t) 0 bus bus (omega arith)))
+-- the rows of one more bus
+pub bus_more : (g : GroupRow) (t : SlotTable) (frame : ℕ) (field : Field) (load bus : ℕ) (old rows new : List (List Field)) → frame ≡ frame_of t → field ≡ Number bus → load ≡ cells_on t bus
+    → rows ≡ old ++ flat_map (bus_rows g t) (range_with_len 0 bus) → new ≡ rows ++ bus_rows_of g frame field (load ∷ []) Absent
+    → new ≡ old ++ flat_map (bus_rows g t) (range_with_len 0 (bus + 1))
+bus_more g t frame field load bus old rows new framed named loaded so now =
+    let same : bus_rows_of g frame field (load ∷ []) Absent ≡ bus_rows g t bus =
+    ap (λ (f : ℕ). bus_rows_of g f field (load ∷ []) Absent) framed
+    ∙ ap (λ (f : Field). bus_rows_of g (frame_of t) f (load ∷ []) Absent) named
+    ∙ ap (λ (l : ℕ). bus_rows_of g (frame_of t) (Number bus) (l ∷ []) Absent) loaded in
+    rows_more (bus_rows g t) rows new old bus so (now ∙ ap (λ (l : List (List Field)). rows ++ l) same)
 
--- that of all of them
-pub total_is : (limit : Option ℕ) (shown : ℕ) (g : GroupRow) (t : SlotTable) (frame : ℕ) (loads : List ℕ) (needed : Field) (old new : List (List Field)) → frame ≡ frame_of t → loads ≡ loads_of t → needed ≡ needed_field limit t
-    → new ≡ old ++ load_row shown g frame Absent loads needed ∷ [] → new ≡ old ++ total_row limit shown g t ∷ []
-total_is limit shown g t frame loads needed old new framed loaded within now =
-    let row : load_row shown g frame Absent loads needed ≡ total_row limit shown g t =
-    ap (λ (f : ℕ). load_row shown g f Absent loads needed) framed
-    ∙ ap (λ (l : List ℕ). load_row shown g (frame_of t) Absent l needed) loaded
-    ∙ ap (λ (f : Field). load_row shown g (frame_of t) Absent (loads_of t) f) within in
-    now ∙ ap (λ (r : List Field). old ++ r ∷ []) row
+-- those of all of them
+pub total_is : (limit : Option ℕ) (g : GroupRow) (t : SlotTable) (frame : ℕ) (loads : List ℕ) (needed : Field) (old new : List (List Field)) → frame ≡ frame_of t → loads ≡ loads_of t → needed ≡ needed_field limit t
+    → new ≡ old ++ bus_rows_of g frame Absent loads needed → new ≡ old ++ total_rows limit g t
+total_is limit g t frame loads needed old new framed loaded within now =
+    let same : bus_rows_of g frame Absent loads needed ≡ total_rows limit g t =
+    ap (λ (f : ℕ). bus_rows_of g f Absent loads needed) framed
+    ∙ ap (λ (l : List ℕ). bus_rows_of g (frame_of t) Absent l needed) loaded
+    ∙ ap (λ (f : Field). bus_rows_of g (frame_of t) Absent (loads_of t) f) within in
+    now ∙ ap (λ (l : List (List Field)). old ++ l) same
 
 -- and both
-pub group_is : (limit : Option ℕ) (shown : ℕ) (g : GroupRow) (t : SlotTable) (old rows new : List (List Field))
-    → rows ≡ old ++ map (bus_row shown g t) (range_with_len 0 (buses_of t)) → new ≡ rows ++ total_row limit shown g t ∷ []
-    → new ≡ old ++ group_rows limit shown g t
-group_is limit shown g t old rows new so now =
-    now ∙ ap (λ (l : List (List Field)). l ++ total_row limit shown g t ∷ []) so
-    ∙ append_assoc old (map (bus_row shown g t) (range_with_len 0 (buses_of t))) (total_row limit shown g t ∷ [])
+pub group_is : (limit : Option ℕ) (g : GroupRow) (t : SlotTable) (old rows new : List (List Field))
+    → rows ≡ old ++ flat_map (bus_rows g t) (range_with_len 0 (buses_of t)) → new ≡ rows ++ total_rows limit g t
+    → new ≡ old ++ group_rows limit g t
+group_is limit g t old rows new so now =
+    now ∙ ap (λ (l : List (List Field)). l ++ total_rows limit g t) so
+    ∙ append_assoc old (flat_map (bus_rows g t) (range_with_len 0 (buses_of t))) (total_rows limit g t)
 
 -- ---- the rows of one more group
 
-pub groups_more : (limit : Option ℕ) (shown : ℕ) (gs : List GroupRow) (ts : List SlotTable) (i : ℕ) (g : GroupRow) (t : SlotTable) (old new whole : List (List Field)) → slice_get gs i ≡ Some g → slice_get ts i ≡ Some t
-    → old ++ groups_rows limit shown (drop i gs) (drop i ts) ≡ whole → new ≡ old ++ group_rows limit shown g t → new ++ groups_rows limit shown (drop (i + 1) gs) (drop (i + 1) ts) ≡ whole
+pub groups_more : (limit : Option ℕ) (gs : List GroupRow) (ts : List SlotTable) (i : ℕ) (g : GroupRow) (t : SlotTable) (old new whole : List (List Field)) → slice_get gs i ≡ Some g → slice_get ts i ≡ Some t
+    → old ++ groups_rows limit (drop i gs) (drop i ts) ≡ whole → new ≡ old ++ group_rows limit g t → new ++ groups_rows limit (drop (i + 1) gs) (drop (i + 1) ts) ≡ whole
 unfolding groups_rows
-groups_more limit shown gs ts i g t old new whole here there so now =
-    let rest : List (List Field) = groups_rows limit shown (drop (i + 1) gs) (drop (i + 1) ts) in
-    ap (λ (l : List (List Field)). l ++ rest) now ∙ append_assoc old (group_rows limit shown g t) rest
-    ∙ sym (ap (λ (l : List GroupRow). old ++ groups_rows limit shown l (drop i ts)) (drop_at gs i g here) ∙ ap (λ (l : List SlotTable). old ++ groups_rows limit shown (g ∷ drop (i + 1) gs) l) (drop_at ts i t there))
+groups_more limit gs ts i g t old new whole here there so now =
+    let rest : List (List Field) = groups_rows limit (drop (i + 1) gs) (drop (i + 1) ts) in
+    ap (λ (l : List (List Field)). l ++ rest) now ∙ append_assoc old (group_rows limit g t) rest
+    ∙ sym (ap (λ (l : List GroupRow). old ++ groups_rows limit l (drop i ts)) (drop_at gs i g here) ∙ ap (λ (l : List SlotTable). old ++ groups_rows limit (g ∷ drop (i + 1) gs) l) (drop_at ts i t there))
     ∙ so
 
-pub groups_whole : (limit : Option ℕ) (shown : ℕ) (gs : List GroupRow) (ts : List SlotTable) (i : ℕ) (old whole : List (List Field)) → length gs ≤ i
-    → old ++ groups_rows limit shown (drop i gs) (drop i ts) ≡ whole → old ≡ whole
+pub groups_whole : (limit : Option ℕ) (gs : List GroupRow) (ts : List SlotTable) (i : ℕ) (old whole : List (List Field)) → length gs ≤ i
+    → old ++ groups_rows limit (drop i gs) (drop i ts) ≡ whole → old ≡ whole
 unfolding groups_rows
-groups_whole limit shown gs ts i old whole past so =
-    sym (append-nil old) ∙ sym (ap (λ (l : List GroupRow). old ++ groups_rows limit shown l (drop i ts)) (drop_all i gs past)) ∙ so
+groups_whole limit gs ts i old whole past so =
+    sym (append-nil old) ∙ sym (ap (λ (l : List GroupRow). old ++ groups_rows limit l (drop i ts)) (drop_all i gs past)) ∙ so

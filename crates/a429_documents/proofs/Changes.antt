@@ -1,15 +1,17 @@
 -- What the rows of `diff` are made of.
-use Rattle.std.proofs.Common.{◌≡◌, ℕ, zero, suc, ◌+◌, Bool, true, false, List, [], ◌∷◌, ◌++◌, length, take, Some, None, ap, refl, sym, arith, ◌∙◌}
+use Rattle.std.proofs.Common.{◌≡◌, ℕ, zero, suc, ◌+◌, Bool, true, false, List, [], ◌∷◌, ◌++◌, length, take, Some, None, ◌≤◌, ap, inl, inr, refl, sym, arith, ◌∙◌}
 use Rattle.std.specs.Prelude.{Option, option_and_then, option_map, position, slice_get}
+use Rattle.std.specs.Option.{option_map_or}
 use Rattle.std.specs.List.{AllByRecursion, flat_map, position_or_len, range_with_len, sum_by}
 use Rattle.std.proofs.lemmas.Bool.{le-ltb, lt-ltb}
 use Rattle.std.proofs.lemmas.Option.{none-some, same_Some, slice_get_within}
 use Rattle.std.proofs.lemmas.List.{flat_map_more}
 use Rattle.std.proofs.lemmas.List.Sums.{sum_by_push}
 use Rattle.a429_word.proofs.Lists.{range_next}
+use Rattle.a429_equipment.specs.Sound.{IsRate}
 use Rattle.a429_equipment.specs.declared.rows.GroupRow.{GroupRow}
 use Rattle.a429_slots.specs.Proposed.{Proposed}
-use Rattle.a429_documents.specs.Diff.{Both, both_of, number_named, sent_by}
+use Rattle.a429_documents.specs.Diff.{Both, both_of, number_named, rate_in, sent_by}
 
 -- ---- the first that passes a test
 
@@ -48,7 +50,17 @@ sums_more f k = ap (λ (l : List ℕ). sum_by f l) (next_of k) ∙ sum_by_push f
 -- ---- a group that both have
 
 pub both_is : (a b : Proposed) (g h : ℕ) (row : GroupRow) → slice_get a.station.groups g ≡ Some row → number_named (λ (h : GroupRow). h.name) b.station.groups row.name ≡ Some h
-    → both_of a b g ≡ Some (record { name = row.name; first = sent_by a g; second = sent_by b h })
+    → both_of a b g ≡ Some (record { name = row.name; rate = rate_in a g; new_rate = rate_in b h; first = sent_by a g; second = sent_by b h })
 both_is a b g h row here named =
-    let both : GroupRow → Option ℕ → Option Both = λ row n. option_map (λ h. record { name = row.name; first = sent_by a g; second = sent_by b h }) n in
+    let both : GroupRow → Option ℕ → Option Both = λ row n. option_map (λ h. record { name = row.name; rate = rate_in a g; new_rate = rate_in b h; first = sent_by a g; second = sent_by b h }) n in
     ap (λ (r : Option GroupRow). option_and_then (λ (row : GroupRow). both row (number_named (λ (h : GroupRow). h.name) b.station.groups row.name)) r) here ∙ ap (both row) named
+
+-- ---- the bit rate of a group
+
+pub rated : (o : Option GroupRow) (r : ℕ) → option_map (λ (g : GroupRow). g.rate) o ≡ Some r → (option_map_or (λ (g : GroupRow). g.rate) o 0 ≡ r) × (row : GroupRow) × (o ≡ Some row) × (row.rate ≡ r)
+rated None r h = absurd (none-some r h)
+rated (Some row) r h = (same_Some row.rate r h, row, refl, same_Some row.rate r h)
+
+pub some_rate : (rate : ℕ) → IsRate rate → 1 ≤ rate
+some_rate rate (inl fast) = omega (arith, fast)
+some_rate rate (inr slow) = omega (arith, slow.0)

@@ -1,5 +1,5 @@
 -- What the rows of `lint` are made of.
-use Rattle.std.proofs.Common.{◌≡◌, ℕ, zero, suc, ◌+◌, ◌<◌, Bool, true, false, List, [], ◌∷◌, ◌++◌, length, map, take, get_or, codes, Option, Some, ap, ap₂, sym, subst, refl, arith, ◌∙◌}
+use Rattle.std.proofs.Common.{◌≡◌, ℕ, zero, suc, ◌+◌, ◌-◌, ◌*◌, ◌^◌, ◌<◌, Bool, true, false, List, [], ◌∷◌, ◌++◌, length, map, take, get_or, codes, Option, Some, ap, ap₂, sym, subst, refl, arith, ◌∙◌}
 use Rattle.std.specs.Prelude.{◌||◌, if◌then◌else◌, option_map, slice_get}
 use Rattle.std.specs.List.{AllZip, flat_map, list_any, range_with_len}
 use Rattle.std.specs.Option.{option_map_or}
@@ -10,18 +10,20 @@ use Rattle.std.proofs.lemmas.Slice.Zip.{AllZip-long}
 use Rattle.std.specs.declared.alloc.Global.{Global}
 use Rattle.std.specs.declared.vec.Vec.{Vec}
 use Rattle.a429_word.proofs.Lists.{range_next, read_is, take_next}
-use Rattle.a429_text.specs.Fields.{Field, Number}
+use Rattle.a429_text.specs.Fields.{Field, Number, Absent}
 use Rattle.a429_equipment.specs.TableRecord.{TableRecord, outputs_in}
 use Rattle.a429_equipment.specs.declared.rows.GroupRow.{GroupRow}
 use Rattle.a429_equipment.specs.declared.rows.OutputRow.{OutputRow}
 use Rattle.a429_equipment.specs.declared.rows.SourceRow.{SourceRow}
 use Rattle.a429_filter.specs.declared.filters.Filter.{Filter}
+use Rattle.a429_pack.specs.Demanded.{demand_of}
+use Rattle.a429_pack.specs.Demands.{exponents_of, greatest}
 use Rattle.a429_pack.specs.declared.demands.Demand.{Demand}
 use Rattle.a429_slots.specs.Asked.{IsAsked}
 use Rattle.a429_slots.specs.Planned.{rated_outputs}
 use Rattle.a429_slots.proofs.Planning.{rated_at}
 use Rattle.a429_documents.specs.declared.lint.GroupFinding.{GroupFinding}
-use Rattle.a429_documents.specs.Lint.{AreAsked, asked_in, blind_rows, receiver_row, group_finding, group_rows, sees_source}
+use Rattle.a429_documents.specs.Lint.{AreAsked, asked_in, blind_rows, crowded_row, crowded_rows, filled_from, receiver_row, group_finding, group_rows, sees_source}
 
 -- ---- one more
 
@@ -71,10 +73,10 @@ module _ (e : TableRecord) (asked : List (List Demand)) (g : ℕ) (row : GroupRo
       let same : group_asks.0 ≡ demands = same_Some _ _ (sym group_asks.1 ∙ there) in
       AllZip-long (IsAsked row.rate e.sources) rows demands (subst (AllZip (IsAsked row.rate e.sources) rows) same group_asks.2)
 
-  pub group_is : (kind : GroupFinding) (demands : List Demand) → slice_get asked g ≡ Some demands → group_rows e asked kind g ≡ group_finding e.sources kind row.name rows demands
+  pub group_is : (kind : GroupFinding) (demands : List Demand) → slice_get asked g ≡ Some demands → group_rows e asked kind g ≡ group_finding e.sources kind row rows demands
   group_is kind demands there =
-      ap (λ (r : Option GroupRow). option_map_or (λ (h : GroupRow). group_finding e.sources kind h.name (outputs_in e g) (asked_in asked g)) r []) at.here
-      ∙ ap₂ (λ (os : List OutputRow) (ds : List Demand). group_finding e.sources kind row.name os ds)
+      ap (λ (r : Option GroupRow). option_map_or (λ (h : GroupRow). group_finding e.sources kind h (outputs_in e g) (asked_in asked g)) r []) at.here
+      ∙ ap₂ (λ (os : List OutputRow) (ds : List Demand). group_finding e.sources kind row os ds)
       (get_or_from_slice_get e.outputs g rows [] at.listed) (get_or_from_slice_get asked g demands [] there)
 
 -- what is read of the lists that are kept
@@ -84,13 +86,24 @@ kept_at asked g v below is = slice_get-map (λ v. v.items) asked g ∙ ap (optio
 -- ---- a filter that passes no source
 
 pub blind_is : (sources : List SourceRow) (r : ℕ) (name : List ℕ) (filters : List Filter) (n : ℕ) (f : Filter) → slice_get filters n ≡ Some f → sees_source sources r f ≡ false
-    → receiver_row (codes "blind") name (Number (n + 1)) ∷ [] ≡ blind_rows sources r name filters n
+    → receiver_row (codes "blind") name Absent (Number (n + 1)) ∷ [] ≡ blind_rows sources r name filters n
 blind_is sources r name filters n f there unseen =
-    let rows : List (List Field) = receiver_row (codes "blind") name (Number (n + 1)) ∷ [] in
+    let rows : List (List Field) = receiver_row (codes "blind") name Absent (Number (n + 1)) ∷ [] in
     sym (ap (λ (o : Option Filter). option_map_or (λ f. if sees_source sources r f then [] else rows) o []) there ∙ ap (λ (b : Bool). if b then [] else rows) unseen)
 
 pub seen_is : (sources : List SourceRow) (r : ℕ) (name : List ℕ) (filters : List Filter) (n : ℕ) (f : Filter) → slice_get filters n ≡ Some f → sees_source sources r f ≡ true
     → blind_rows sources r name filters n ≡ []
 seen_is sources r name filters n f there seen =
-    let rows : List (List Field) = receiver_row (codes "blind") name (Number (n + 1)) ∷ [] in
+    let rows : List (List Field) = receiver_row (codes "blind") name Absent (Number (n + 1)) ∷ [] in
     ap (λ (o : Option Filter). option_map_or (λ f. if sees_source sources r f then [] else rows) o []) there ∙ ap (λ (b : Bool). if b then [] else rows) seen
+
+-- ---- a bus that is crowded
+
+pub crowded_is : (group : List ℕ) (demands : List Demand) (bus frame cells left b whole : ℕ) → frame ≡ 2 ^ greatest (exponents_of demands) → whole ≡ demand_of (exponents_of demands) → b ≡ bus
+    → left ≡ whole - b * frame → cells ≡ filled_from left frame → crowded_row group bus frame cells ≡ crowded_rows group demands bus
+crowded_is group demands bus frame cells left b whole framed all same rest filled =
+    ap (λ (n : ℕ). crowded_row group bus frame n) filled
+    ∙ ap (λ (n : ℕ). crowded_row group bus frame (filled_from n frame)) rest
+    ∙ ap (λ (n : ℕ). crowded_row group bus frame (filled_from (whole - n * frame) frame)) same
+    ∙ ap (λ (n : ℕ). crowded_row group bus frame (filled_from (n - bus * frame) frame)) all
+    ∙ ap (λ (n : ℕ). crowded_row group bus n (filled_from (demand_of (exponents_of demands) - bus * n) n)) framed

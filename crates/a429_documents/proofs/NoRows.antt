@@ -1,6 +1,6 @@
 -- Lists of rows that have none.
-use Rattle.std.proofs.Common.{◌≡◌, ℕ, zero, suc, ◌+◌, ◌<◌, Bool, true, false, List, [], ◌∷◌, ◌++◌, Option, Some, None, ap, ap₂, sym, refl, arith, inl, inr, ◌⊎◌, eq-eqb, ◌∙◌}
-use Rattle.std.specs.Prelude.{◌&&◌, codes, cond, if◌then◌else◌, not, slice_get}
+use Rattle.std.proofs.Common.{◌≡◌, ℕ, zero, suc, ◌+◌, ◌<◌, ◌≤◌, Bool, true, false, List, [], ◌∷◌, ◌++◌, length, Option, Some, None, ap, ap₂, sym, refl, arith, inl, inr, ◌⊎◌, eq-eqb, ◌∙◌}
+use Rattle.std.specs.Prelude.{◌&&◌, ◌||◌, ◌==◌, codes, cond, if◌then◌else◌, not, slice_get}
 use Rattle.std.specs.List.{count_by, flat_map, range_with_len, sum_by}
 use Rattle.std.proofs.lemmas.Bool.{eqb-true}
 use Rattle.std.proofs.lemmas.List.Sums.{sum_by-cons}
@@ -8,7 +8,7 @@ use Rattle.std.proofs.lemmas.List.FromFn.{length-range_with_len}
 use Rattle.std.proofs.lemmas.Option.{none-some, same_Some, slice_get_within}
 use Rattle.a429_word.proofs.Lists.{and_false, clash, not_false}
 use Rattle.a429_text.specs.Fields.{Field}
-use Rattle.a429_documents.specs.Diff.{Subject, change_row, compared_rows, each_of, has_moved, number_field, number_rows, same_number, unless}
+use Rattle.a429_documents.specs.Diff.{Subject, change_row, change_rows, comma_after, compared_change, each_of, has_moved, number_text, same_number, value_change, with_change, with_number}
 use Rattle.a429_documents.specs.declared.diff.sides.Compared.{Compared}
 
 -- ---- parts
@@ -51,12 +51,39 @@ each_none rows n each =
 
 -- ---- a row
 
-pub unless_same : (same : Bool) (row : List Field) → unless same row ≡ [] → same ≡ true
-unless_same true row h = refl
-unless_same false row h = absurd cc
+-- of one row
+pub one_none : (b : Bool) (row : List Field) → (if b then [] else row ∷ []) ≡ [] → b ≡ true
+one_none true row h = refl
+one_none false row h = absurd cc
 
-pub same_unless : (same : Bool) (row : List Field) → same ≡ true → unless same row ≡ []
-same_unless same row h = rw h refl
+nothing_in : {X : Type 0} (xs : List X) → length xs ≡ 0 → xs ≡ []
+nothing_in [] h = refl
+nothing_in (x ∷ xs) h = absurd (omega (arith, h))
+
+-- there is a row if and only if the text says something
+pub row_none : (subject : Subject) (change : List ℕ) → change_rows subject change ≡ [] → change ≡ []
+unfolding change_rows
+row_none subject change h = nothing_in change (eqb-true (length change) 0 (one_none (length change == 0) (change_row subject change) h))
+
+pub none_row : (subject : Subject) (change : List ℕ) → change ≡ [] → change_rows subject change ≡ []
+unfolding change_rows
+none_row subject change h = rw h refl
+
+-- ---- a text
+
+-- it says nothing if and only if it said nothing before, and both sides have the same value
+pub none_value : (same : Bool) (name first second text : List ℕ) → 1 ≤ length name → with_change same (value_change name first second) text ≡ [] → (same ≡ true) × (text ≡ [])
+unfolding with_change
+none_value true name first second text some h = (refl, h)
+none_value false name first second text some h =
+    let parts = none_parts text (comma_after text ++ value_change name first second) h in
+    let rest = none_parts (comma_after text) (value_change name first second) parts.1 in
+    let none = none_parts name (codes " " ++ (first ++ (codes " -> " ++ second))) rest.1 in
+    absurd (omega (arith, some, ap length none.0))
+
+pub value_none : (same : Bool) (change text : List ℕ) → same ≡ true → text ≡ [] → with_change same change text ≡ []
+unfolding with_change
+value_none same change text is none = rw is none
 
 pub number_is : (x y : Option ℕ) → same_number x y ≡ true → x ≡ y
 number_is None None h = refl
@@ -68,12 +95,16 @@ pub same_itself : (x : Option ℕ) → same_number x x ≡ true
 same_itself None = refl
 same_itself (Some a) = eq-eqb a a refl
 
-pub none_number : (change : List ℕ) (subject : Subject) (x y : Option ℕ) → number_rows change subject x y ≡ [] → x ≡ y
-none_number change subject x y h = number_is x y (unless_same (same_number x y) (change_row change subject (number_field x) (number_field y)) h)
+pub none_number : (name : List ℕ) (x y : Option ℕ) (text : List ℕ) → 1 ≤ length name → with_number name x y text ≡ [] → (x ≡ y) × (text ≡ [])
+none_number name x y text some h =
+    let both = none_value (same_number x y) name (number_text x) (number_text y) text some h in
+    (number_is x y both.0, both.1)
 
-pub number_none : (change : List ℕ) (subject : Subject) (x y : Option ℕ) → x ≡ y → number_rows change subject x y ≡ []
-number_none change subject x y same =
-    same_unless (same_number x y) (change_row change subject (number_field x) (number_field y)) (ap (same_number x) (sym same) ∙ same_itself x)
+same_if : (x y : Option ℕ) → x ≡ y → same_number x y ≡ true
+same_if x y same = ap (same_number x) (sym same) ∙ same_itself x
+
+pub number_none : (name : List ℕ) (x y : Option ℕ) (text : List ℕ) → x ≡ y → text ≡ [] → with_number name x y text ≡ []
+number_none name x y text same none = value_none (same_number x y) (value_change name (number_text x) (number_text y)) text (same_if x y same) none
 
 -- ---- what is compared of an output
 
@@ -81,54 +112,62 @@ and_left : (a b : Bool) → a ≡ true → (a && b) ≡ false → b ≡ false
 and_left true b holds h = h
 and_left false b holds h = absurd (clash holds)
 
-same_if : (x y : Option ℕ) → x ≡ y → same_number x y ≡ true
-same_if x y same = ap (same_number x) (sym same) ∙ same_itself x
+-- the numbers before the offset
+module _ (x y : Compared) where
+  abbrev to_min : List ℕ
+  to_min = with_number (codes "min_us") x.min_us y.min_us []
 
--- if there is no row, and it has not moved either
-pub compared_is : (all : Bool) (subject : Subject) (x y : Compared) → compared_rows all subject x y ≡ [] → (all ≡ true) ⊎ (has_moved x y ≡ false) → x ≡ y
-compared_is all subject x y h still =
-    let p1 = none_parts (number_rows (codes "min_us") subject x.min_us y.min_us) _ h in
-    let p2 = none_parts (number_rows (codes "max_us") subject x.max_us y.max_us) _ p1.1 in
-    let p3 = none_parts (number_rows (codes "period") subject x.period y.period) _ p2.1 in
-    let p4 = none_parts (number_rows (codes "hold") subject x.hold y.hold) _ p3.1 in
-    let p5 = none_parts (number_rows (codes "bus") subject x.bus y.bus) (if all then number_rows (codes "slot") subject x.slot y.slot else []) p4.1 in
-    let min_us : x.min_us ≡ y.min_us = none_number (codes "min_us") subject x.min_us y.min_us p1.0 in
-    let max_us : x.max_us ≡ y.max_us = none_number (codes "max_us") subject x.max_us y.max_us p2.0 in
-    let period : x.period ≡ y.period = none_number (codes "period") subject x.period y.period p3.0 in
-    let hold : x.hold ≡ y.hold = none_number (codes "hold") subject x.hold y.hold p4.0 in
-    let bus : x.bus ≡ y.bus = none_number (codes "bus") subject x.bus y.bus p5.0 in
-    let slot : x.slot ≡ y.slot = elim still [
-      | inl is ↦ none_number (codes "slot") subject x.slot y.slot (sym (ap (λ (b : Bool). if b then number_rows (codes "slot") subject x.slot y.slot else []) is) ∙ p5.1)
+  abbrev to_max : List ℕ
+  to_max = with_number (codes "max_us") x.max_us y.max_us to_min
+
+  abbrev to_period : List ℕ
+  to_period = with_number (codes "period_slots") x.period y.period to_max
+
+  abbrev to_hold : List ℕ
+  to_hold = with_number (codes "hold") x.hold y.hold to_period
+
+  abbrev to_bus : List ℕ
+  to_bus = with_number (codes "bus") x.bus y.bus to_hold
+
+-- if nothing is said, and it has not moved either
+pub compared_is : (all : Bool) (x y : Compared) → compared_change all x y ≡ [] → (all ≡ true) ⊎ (has_moved x y ≡ false) → x ≡ y
+compared_is all x y h still =
+    let p0 = none_value (not all || same_number x.offset y.offset) (codes "offset") (number_text x.offset) (number_text y.offset) (to_bus x y) (omega arith) h in
+    let p1 = none_number (codes "bus") x.bus y.bus (to_hold x y) (omega arith) p0.1 in
+    let p2 = none_number (codes "hold") x.hold y.hold (to_period x y) (omega arith) p1.1 in
+    let p3 = none_number (codes "period_slots") x.period y.period (to_max x y) (omega arith) p2.1 in
+    let p4 = none_number (codes "max_us") x.max_us y.max_us (to_min x y) (omega arith) p3.1 in
+    let p5 = none_number (codes "min_us") x.min_us y.min_us [] (omega arith) p4.1 in
+    let offset : x.offset ≡ y.offset = elim still [
+      | inl is ↦ number_is x.offset y.offset (sym (ap (λ (b : Bool). not b || same_number x.offset y.offset) is) ∙ p0.0)
       | inr stays ↦
-          let last : not (same_number x.slot y.slot) ≡ false =
-          and_left (same_number x.bus y.bus) _ (same_if x.bus y.bus bus) (and_left (same_number x.hold y.hold) _ (same_if x.hold y.hold hold)
-          (and_left (same_number x.period y.period) _ (same_if x.period y.period period) (and_left (same_number x.max_us y.max_us) _ (same_if x.max_us y.max_us max_us)
-          (and_left (same_number x.min_us y.min_us) _ (same_if x.min_us y.min_us min_us) stays)))) in
-          number_is x.slot y.slot (not_false (same_number x.slot y.slot) last)
+          let last : not (same_number x.offset y.offset) ≡ false =
+          and_left (same_number x.bus y.bus) _ (same_if x.bus y.bus p1.0) (and_left (same_number x.hold y.hold) _ (same_if x.hold y.hold p2.0)
+          (and_left (same_number x.period y.period) _ (same_if x.period y.period p3.0) (and_left (same_number x.max_us y.max_us) _ (same_if x.max_us y.max_us p4.0)
+          (and_left (same_number x.min_us y.min_us) _ (same_if x.min_us y.min_us p5.0) stays)))) in
+          number_is x.offset y.offset (not_false (same_number x.offset y.offset) last)
     ] in
-    λ i. record { min_us = min_us i; max_us = max_us i; period = period i; hold = hold i; bus = bus i; slot = slot i }
+    λ i. record { min_us = p5.0 i; max_us = p4.0 i; period = p3.0 i; hold = p2.0 i; bus = p1.0 i; offset = offset i }
 
-compared_itself : (all : Bool) (subject : Subject) (x : Compared) → compared_rows all subject x x ≡ []
-compared_itself all subject x =
-    none_both (number_rows (codes "min_us") subject x.min_us x.min_us) _ (number_none (codes "min_us") subject x.min_us x.min_us refl)
-    (none_both (number_rows (codes "max_us") subject x.max_us x.max_us) _ (number_none (codes "max_us") subject x.max_us x.max_us refl)
-    (none_both (number_rows (codes "period") subject x.period x.period) _ (number_none (codes "period") subject x.period x.period refl)
-    (none_both (number_rows (codes "hold") subject x.hold x.hold) _ (number_none (codes "hold") subject x.hold x.hold refl)
-    (none_both (number_rows (codes "bus") subject x.bus x.bus) _ (number_none (codes "bus") subject x.bus x.bus refl)
-    (either all (number_none (codes "slot") subject x.slot x.slot refl))))))
-  where
-    either : (b : Bool) → number_rows (codes "slot") subject x.slot x.slot ≡ [] → (if b then number_rows (codes "slot") subject x.slot x.slot else []) ≡ []
-    either true h = h
-    either false h = refl
+or_right : (a b : Bool) → b ≡ true → (a || b) ≡ true
+or_right true b h = refl
+or_right false b h = h
 
-pub compared_none : (all : Bool) (subject : Subject) (x y : Compared) → x ≡ y → compared_rows all subject x y ≡ []
-compared_none all subject x y same = ap (compared_rows all subject x) (sym same) ∙ compared_itself all subject x
+pub compared_none : (all : Bool) (x y : Compared) → x ≡ y → compared_change all x y ≡ []
+compared_none all x y same =
+    value_none (not all || same_number x.offset y.offset) (value_change (codes "offset") (number_text x.offset) (number_text y.offset)) (to_bus x y)
+    (or_right (not all) (same_number x.offset y.offset) (same_if x.offset y.offset (ap (λ (c : Compared). c.offset) same)))
+    (number_none (codes "bus") x.bus y.bus (to_hold x y) (ap (λ (c : Compared). c.bus) same)
+    (number_none (codes "hold") x.hold y.hold (to_period x y) (ap (λ (c : Compared). c.hold) same)
+    (number_none (codes "period_slots") x.period y.period (to_max x y) (ap (λ (c : Compared). c.period) same)
+    (number_none (codes "max_us") x.max_us y.max_us (to_min x y) (ap (λ (c : Compared). c.max_us) same)
+    (number_none (codes "min_us") x.min_us y.min_us [] (ap (λ (c : Compared). c.min_us) same) refl)))))
 
 pub not_moved : (x y : Compared) → x ≡ y → has_moved x y ≡ false
 not_moved x y same =
     ap (has_moved x) (sym same)
     ∙ and_false (same_number x.min_us x.min_us) _ (and_false (same_number x.max_us x.max_us) _ (and_false (same_number x.period x.period) _
-    (and_false (same_number x.hold x.hold) _ (and_false (same_number x.bus x.bus) (not (same_number x.slot x.slot)) (ap not (same_itself x.slot))))))
+    (and_false (same_number x.hold x.hold) _ (and_false (same_number x.bus x.bus) (not (same_number x.offset x.offset)) (ap not (same_itself x.offset))))))
 
 -- ---- sums
 

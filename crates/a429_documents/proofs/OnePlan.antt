@@ -29,14 +29,13 @@ use Rattle.a429_cert.proofs.Again.{FitsStated}
 use Rattle.a429_cert.proofs.LineLaws.{plan_again, rate_again}
 use Rattle.a429_cert.proofs.LinesOfText.{rate_is_line, version_is_line}
 use Rattle.a429_cert.proofs.OwnGroups.{FewestCarry, rate_short}
-use Rattle.a429_text.specs.Fields.{Absent}
-use Rattle.a429_documents.specs.Diff.{Both, Sent, both_of, both_rows, compared_at, compared_rows, count_rows, diff_rows, each_of, equipment_rows, group_both_rows, group_moved, only_rows, groups_rows, has_moved, is_moved, kept_rows, kept_subject, lone_rows, moved_count, moved_in, name_at, number_named, number_rows, of_group, of_output, other_of, output_named, outputs_rows, plan_rows, sent_by, size_rows, station_rows, table_rates, the_table, version_rows}
+use Rattle.a429_documents.specs.Diff.{Both, Sent, both_of, both_rows, change_row, change_rows, compared_at, compared_change, count_rows, diff_rows, each_of, equipment_rows, group_both_rows, group_moved, only_rows, groups_rows, has_moved, is_moved, kept_rows, kept_subject, lists_rows, moved_count, moved_in, name_at, no_gap, number_named, of_group, of_kind, of_output, other_of, output_named, outputs_rows, plan_rows, rate_in, sent_by, size_change, size_rows, station_rows, table_change, table_rows, with_number}
 use Rattle.a429_documents.specs.Unchanged.{HaveSameIntervals}
 use Rattle.a429_documents.proofs.Changes.{both_is}
-use Rattle.a429_documents.proofs.Differences.{named_at, one_is_none}
+use Rattle.a429_documents.proofs.Differences.{named_at, no_lists}
 use Rattle.a429_documents.proofs.Losses.{found_or_not}
 use Rattle.a429_documents.proofs.MarginGroups.{planned_group}
-use Rattle.a429_documents.proofs.NoRows.{compared_none, counted_none, each_none, each_sum, none_both, none_if, not_moved, number_none, same_unless}
+use Rattle.a429_documents.proofs.NoRows.{compared_none, counted_none, each_none, each_sum, none_both, none_if, none_row, not_moved, number_none}
 use Rattle.a429_documents.proofs.SameOrder.{Same}
 use Rattle.a429_documents.proofs.SameTables.{IsPlanned, each_once, group_of, one_named, row_of, sent, source_of_row}
 use Rattle.a429_documents.proofs.StatedTexts.{stated_back, stated_fits}
@@ -129,11 +128,11 @@ module _ (a b : TableRecord) (version : ℕ) (row : GroupRow) (rows others : Lis
       let interval = O.intervals o p mine.0 theirs.0 mine.1 theirs.1 source in
       let min_us = ap (option_map (λ (r : OutputRow). r.min_us)) mine.1 ∙ ap (λ (n : ℕ). Some n) interval.0 ∙ sym (ap (option_map (λ (r : OutputRow). r.min_us)) theirs.1) in
       let max_us = ap (option_map (λ (r : OutputRow). r.max_us)) mine.1 ∙ ap (λ (n : ℕ). Some n) interval.1 ∙ sym (ap (option_map (λ (r : OutputRow). r.max_us)) theirs.1) in
-      λ i. record { min_us = min_us i; max_us = max_us i; period = Some (2 ^ (S.place i).period); hold = S.hold i; bus = Some (S.place i).bus; slot = Some (S.place i).offset }
+      λ i. record { min_us = min_us i; max_us = max_us i; period = Some (2 ^ (S.place i).period); hold = S.hold i; bus = Some (S.place i).bus; offset = Some (S.place i).offset }
 
-  module _ (all has_gap : Bool) (name : List ℕ) where
+  module _ (all has_gap : Bool) (name : List ℕ) (rate new_rate : ℕ) (one_rate : rate ≡ new_rate) where
     abbrev g : Both
-    g = group_of name a rows t b others u
+    g = group_of name rate new_rate a rows t b others u
 
     -- the output of the second for one of the first
     partner : (o : ℕ) → o < length (outputs_of t) → (p : ℕ) × (other_of g o ≡ Some p) × (compared_at g.first o ≡ compared_at g.second p)
@@ -150,15 +149,15 @@ module _ (a b : TableRecord) (version : ℕ) (row : GroupRow) (rows others : Lis
     output_kept : (o : ℕ) → o < length (outputs_of t) → kept_rows all has_gap g o ≡ []
     output_kept o below =
         let (p, found, same) = partner o below in
-        ap (λ (q : Option ℕ). option_map_or (λ p. compared_rows all (kept_subject has_gap g o p) (compared_at g.first o) (compared_at g.second p)) q []) found
-        ∙ compared_none all (kept_subject has_gap g o p) (compared_at g.first o) (compared_at g.second p) same
+        ap (λ (q : Option ℕ). option_map_or (λ p. change_rows (kept_subject has_gap g o p) (compared_change all (compared_at g.first o) (compared_at g.second p))) q []) found
+        ∙ none_row (kept_subject has_gap g o p) (compared_change all (compared_at g.first o) (compared_at g.second p)) (compared_none all (compared_at g.first o) (compared_at g.second p) same)
 
-    output_there : (o : ℕ) → o < length (outputs_of t) → only_rows g.name false g.first g.second o ≡ []
+    output_there : (o : ℕ) → o < length (outputs_of t) → only_rows (codes "removed") g.name g.first g.second o ≡ []
     output_there o below =
         let (p, found, same) = partner o below in
-        none_if (is_some (other_of g o)) (lone_rows false (of_output g.name (name_at g.first o) Absent) (compared_at g.first o).period) (ap is_some found)
+        none_if (is_some (other_of g o)) (change_row (of_output g.name (name_at g.first o) no_gap) (codes "removed") ∷ []) (ap is_some found)
 
-    output_old : (p : ℕ) → p < length (outputs_of u) → only_rows g.name true g.second g.first p ≡ []
+    output_old : (p : ℕ) → p < length (outputs_of u) → only_rows (codes "added") g.name g.second g.first p ≡ []
     output_old p below =
         let once = each_once a row.rate rows t O.first in
         let twice = each_once b row.rate others u O.second in
@@ -168,21 +167,23 @@ module _ (a b : TableRecord) (version : ℕ) (row : GroupRow) (rows others : Lis
         let same : Same a.sources b.sources (placed_at t o) (placed_at u p) = subst (λ (k : ℕ). Same a.sources b.sources (placed_at t o) (placed_at u k)) place.2 (pair_at place.0 within) in
         let found : output_named g.first (name_at g.second p) ≡ Some o =
         output_found a row.rate rows t O.first o (once.below place.0 (omega (arith, within, once.length))) (name_at g.second p) same.name in
-        none_if (is_some (output_named g.first (name_at g.second p))) (lone_rows true (of_output g.name (name_at g.second p) Absent) (compared_at g.second p).period) (ap is_some found)
+        none_if (is_some (output_named g.first (name_at g.second p))) (change_row (of_output g.name (name_at g.second p) no_gap) (codes "added") ∷ []) (ap is_some found)
 
     same_size : size_rows g ≡ []
     same_size =
-        none_both (number_rows (codes "buses") (of_group name) (Some (buses_of t)) (Some (buses_of u))) (number_rows (codes "frame") (of_group name) (Some (frame_of t)) (Some (frame_of u)))
-        (number_none (codes "buses") (of_group name) (Some (buses_of t)) (Some (buses_of u)) (ap (λ (s : Stated). Some s.heading.buses) O.stated))
-        (number_none (codes "frame") (of_group name) (Some (frame_of t)) (Some (frame_of u)) (ap (λ (s : Stated). Some s.heading.frame) O.stated))
+        let rates : List ℕ = with_number (codes "rate") (Some rate) (Some new_rate) [] in
+        none_row (of_group name) (size_change g)
+        (number_none (codes "frame_slots") (Some (frame_of t)) (Some (frame_of u)) (with_number (codes "buses") (Some (buses_of t)) (Some (buses_of u)) rates) (ap (λ (s : Stated). Some s.heading.frame) O.stated)
+        (number_none (codes "buses") (Some (buses_of t)) (Some (buses_of u)) rates (ap (λ (s : Stated). Some s.heading.buses) O.stated)
+        (number_none (codes "rate") (Some rate) (Some new_rate) [] (ap (λ (n : ℕ). Some n) one_rate) refl)))
 
     pub group_kept : both_rows all has_gap g ≡ []
     group_kept =
         none_both (size_rows g) (outputs_rows all has_gap g) same_size
-        (none_both (each_of (length (outputs_of t)) (kept_rows all has_gap g)) (each_of (length (outputs_of t)) (only_rows g.name false g.first g.second) ++ each_of (length (outputs_of u)) (only_rows g.name true g.second g.first))
+        (none_both (each_of (length (outputs_of t)) (kept_rows all has_gap g)) (each_of (length (outputs_of t)) (only_rows (codes "removed") g.name g.first g.second) ++ each_of (length (outputs_of u)) (only_rows (codes "added") g.name g.second g.first))
         (each_none (kept_rows all has_gap g) (length (outputs_of t)) output_kept)
-        (none_both (each_of (length (outputs_of t)) (only_rows g.name false g.first g.second)) (each_of (length (outputs_of u)) (only_rows g.name true g.second g.first))
-        (each_none (only_rows g.name false g.first g.second) (length (outputs_of t)) output_there) (each_none (only_rows g.name true g.second g.first) (length (outputs_of u)) output_old)))
+        (none_both (each_of (length (outputs_of t)) (only_rows (codes "removed") g.name g.first g.second)) (each_of (length (outputs_of u)) (only_rows (codes "added") g.name g.second g.first))
+        (each_none (only_rows (codes "removed") g.name g.first g.second) (length (outputs_of t)) output_there) (each_none (only_rows (codes "added") g.name g.second g.first) (length (outputs_of u)) output_old)))
 
     pub none_moved : moved_in g ≡ 0
     none_moved =
@@ -316,7 +317,7 @@ module _ (a b : Proposed) (A : IsProposal a) (B : IsProposal b) (law : FewestCar
   rows_of e g rows there = get_or_from_slice_get e.outputs g rows [] there
 
   one_stated : (g : ℕ) → g < length a.station.groups → (row : GroupRow) × (rows : List OutputRow) × (news : List OutputRow) × (t : SlotTable) × (u : SlotTable)
-      × (both_of a b g ≡ Some (group_of row.name a.station rows t b.station news u)) × IsOneStated a.station b.station a.station.version row rows news t u
+      × (rate_in a g ≡ rate_in b g) × (both_of a b g ≡ Some (group_of row.name (rate_in a g) (rate_in b g) a.station rows t b.station news u)) × IsOneStated a.station b.station a.station.version row rows news t u
   one_stated g below =
       let row = get_within a.station.groups g below in
       let again : slice_get b.station.groups g ≡ Some row.0 = ap (λ (gs : List GroupRow). slice_get gs g) (sym groups) ∙ row.1 in
@@ -336,8 +337,9 @@ module _ (a b : Proposed) (A : IsProposal a) (B : IsProposal b) (law : FewestCar
         news.0,
         t.0,
         u.0,
+        ap (λ (o : Option GroupRow). option_map_or (λ (r : GroupRow). r.rate) o 0) (row.1 ∙ sym again),
         both_is a b g g row.0 row.1 (named_at (λ (h : GroupRow). h.name) b.station.groups B.sound.own_groups g row.0 again row.0.name refl)
-            ∙ ap₂ (λ (s v : Sent). Some (record { name = row.0.name; first = s; second = v })) first second,
+            ∙ ap₂ (λ (s v : Sent). Some (record { name = row.0.name; rate = rate_in a g; new_rate = rate_in b g; first = s; second = v })) first second,
         record {
           first = planned_at a A g row.0 rows.0 t.0 row.1 rows.1 t.1;
           second = planned_at b B g row.0 news.0 u.0 again news.1 u.1;
@@ -355,31 +357,39 @@ module _ (a b : Proposed) (A : IsProposal a) (B : IsProposal b) (law : FewestCar
   no_groups all has_gap =
       each_none (group_both_rows all has_gap a b) (length a.station.groups)
       (λ g below.
-      let (row, rows, news, t, u, both, one) = one_stated g below in
-      ap (λ (o : Option Both). option_map_or (both_rows all has_gap) o []) both ∙ group_kept a.station b.station a.station.version row rows news t u one all has_gap row.name)
+      let (row, rows, news, t, u, rate, both, one) = one_stated g below in
+      ap (λ (o : Option Both). option_map_or (both_rows all has_gap) o []) both ∙ group_kept a.station b.station a.station.version row rows news t u one all has_gap row.name (rate_in a g) (rate_in b g) rate)
 
   no_move : moved_count a b ≡ 0
   no_move =
       each_sum (group_moved a b) (length a.station.groups)
       (λ g below.
-      let (row, rows, news, t, u, both, one) = one_stated g below in
-      ap (λ (o : Option Both). option_map_or moved_in o 0) both ∙ none_moved a.station b.station a.station.version row rows news t u one true true row.name)
+      let (row, rows, news, t, u, rate, both, one) = one_stated g below in
+      ap (λ (o : Option Both). option_map_or moved_in o 0) both ∙ none_moved a.station b.station a.station.version row rows news t u one true true row.name (rate_in a g) (rate_in b g) rate)
 
-  no_rates : table_rates a.station b.station ≡ []
-  no_rates = either (length a.station.groups == 0 && length b.station.groups == 0) (number_none (codes "rate") the_table a.station.rate b.station.rate rest.0)
+  abbrev to_version : List ℕ
+  to_version = with_number (codes "version") (Some a.station.version) (Some b.station.version) []
+
+  no_version : to_version ≡ []
+  no_version = number_none (codes "version") (Some a.station.version) (Some b.station.version) [] (ap (λ (n : ℕ). Some n) version) refl
+
+  no_table_change : table_change a.station b.station ≡ []
+  no_table_change =
+      either (length a.station.groups == 0 && length b.station.groups == 0) (number_none (codes "rate") a.station.rate b.station.rate to_version rest.0 no_version) no_version
     where
-      either : (c : Bool) → number_rows (codes "rate") the_table a.station.rate b.station.rate ≡ [] → (if c then number_rows (codes "rate") the_table a.station.rate b.station.rate else []) ≡ []
-      either true h = h
-      either false h = refl
+      either : (c : Bool) → with_number (codes "rate") a.station.rate b.station.rate to_version ≡ [] → to_version ≡ [] → (if c then with_number (codes "rate") a.station.rate b.station.rate to_version else to_version) ≡ []
+      either true h none = h
+      either false h none = none
 
   pub no_rows : (all : Bool) → diff_rows a b all ≡ []
   no_rows all =
       none_both (equipment_rows a.station b.station) (plan_rows a b all)
-      (none_both (version_rows a.station.version b.station.version) (table_rates a.station b.station ++ station_rows a.station b.station)
-      (number_none (codes "version") the_table (Some a.station.version) (Some b.station.version) (ap (λ (n : ℕ). Some n) version))
-      (none_both (table_rates a.station b.station) (station_rows a.station b.station) no_rates (one_is_none a.station b.station A.sound B.sound station)))
+      (none_both (table_rows a.station b.station) (station_rows a.station b.station ++ lists_rows a.station b.station)
+      (none_row (of_kind (codes "table")) (table_change a.station b.station) no_table_change)
+      (none_both (station_rows a.station b.station) (lists_rows a.station b.station)
+      (none_if (same_station a.station b.station) (change_row (of_kind (codes "station")) (codes "another") ∷ []) station) (no_lists a.station b.station A.sound station)))
       (none_both (groups_rows all (same_station a.station b.station) a b) (if all then [] else count_rows (moved_count a b)) (no_groups all (same_station a.station b.station))
-      (either all (same_unless (moved_count a b == 0) _ (eq-eqb (moved_count a b) 0 no_move))))
+      (either all (none_if (moved_count a b == 0) _ (eq-eqb (moved_count a b) 0 no_move))))
     where
       either : (c : Bool) → count_rows (moved_count a b) ≡ [] → (if c then [] else count_rows (moved_count a b)) ≡ []
       either true h = refl

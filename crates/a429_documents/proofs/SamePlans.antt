@@ -6,7 +6,7 @@ use Rattle.std.specs.Option.{option_map_or}
 use Rattle.std.proofs.lemmas.Bool.{and_from, eqb-true}
 use Rattle.std.proofs.lemmas.Option.{get_or_from_slice_get, none-some, same_Some, slice_get_within}
 use Rattle.std.proofs.Common.{eq-eqb}
-use Rattle.a429_word.proofs.Lists.{all_at, get_within}
+use Rattle.a429_word.proofs.Lists.{all_at, clash, get_within}
 use Rattle.a429_equipment.specs.SameStation.{same_station}
 use Rattle.a429_equipment.specs.Sound.{HaveOwnSources, IsSound}
 use Rattle.a429_equipment.specs.TableRecord.{TableRecord}
@@ -20,12 +20,12 @@ use Rattle.a429_slots.specs.Tables.{SlotTable, groups_of, no_table}
 use Rattle.a429_cert.specs.Checked.{Stated, stated_text}
 use Rattle.a429_cert.specs.PlanText.{head_text, plan_text_of, stated_groups, stated_of}
 use Rattle.a429_cert.specs.Spelling.{rate_text, version_text}
-use Rattle.a429_documents.specs.Diff.{Both, Sent, both_of, both_rows, count_rows, diff_rows, equipment_rows, group_both_rows, group_moved, groups_rows, moved_count, moved_in, number_rows, plan_rows, sent_by, station_rows, table_rates, the_table, version_rows}
+use Rattle.a429_documents.specs.Diff.{Both, Sent, both_of, both_rows, change_row, count_rows, diff_rows, equipment_rows, group_both_rows, group_moved, groups_rows, lists_rows, moved_count, moved_in, of_kind, plan_rows, rate_in, sent_by, station_rows, table_change, table_rows, with_number, with_rates}
 use Rattle.a429_documents.specs.Unchanged.{HaveSameIntervals}
 use Rattle.a429_documents.proofs.Changes.{both_is}
-use Rattle.a429_documents.proofs.Differences.{named_at, none_is_one}
+use Rattle.a429_documents.proofs.Differences.{named_at}
 use Rattle.a429_documents.proofs.MarginGroups.{planned_group}
-use Rattle.a429_documents.proofs.NoRows.{none_each, none_number, none_parts, sum_each, unless_same}
+use Rattle.a429_documents.proofs.NoRows.{none_each, none_number, none_parts, one_none, row_none, sum_each}
 use Rattle.a429_documents.proofs.SameTables.{IsUnchanged, group_of, same_interval, sent, stated_is}
 
 -- ---- what the groups state
@@ -47,7 +47,7 @@ one_rate : (r k : ℕ) (groups : List GroupRow) → AllByRecursion (λ (g : Grou
 one_rate r k [] all others none = none refl
 one_rate r k (g ∷ groups) all others none = sym all.0 ∙ others.0
 
-same_rates : (a b : TableRecord) → IsSound a → IsSound b → a.version ≡ b.version → a.groups ≡ b.groups → table_rates a b ≡ [] → a.rate ≡ b.rate
+same_rates : (a b : TableRecord) → IsSound a → IsSound b → a.version ≡ b.version → a.groups ≡ b.groups → ((length a.groups == 0 && length b.groups == 0) ≡ true → a.rate ≡ b.rate) → a.rate ≡ b.rate
 same_rates a b sound other version groups none = elim sound.version [
   | inl one ↦
       let (r, first, all) = sound.one_rate one in
@@ -57,17 +57,21 @@ same_rates a b sound other version groups none = elim sound.version [
       (λ empty.
       let both : (length a.groups == 0 && length b.groups == 0) ≡ true =
       and_from (length a.groups == 0) (length b.groups == 0) (eq-eqb (length a.groups) 0 empty) (eq-eqb (length b.groups) 0 (sym (ap length groups) ∙ empty)) in
-      let row = sym (ap (λ (c : Bool). if c then number_rows (codes "rate") the_table a.rate b.rate else []) both) ∙ none in
-      same_Some r k (sym first ∙ none_number (codes "rate") the_table a.rate b.rate row ∙ second)) in
+      same_Some r k (sym first ∙ none both ∙ second)) in
       first ∙ ap (λ (n : ℕ). Some n) same ∙ sym second
   | inr two ↦ sound.own_rates two ∙ sym (other.own_rates (sym version ∙ two))
 ]
+
+-- if nothing is said of two bit rates, and they are compared, they are one
+one_if_asked : (asked : Bool) (x y : Option ℕ) (text : List ℕ) → (if asked then with_number (codes "rate") x y text else text) ≡ [] → (text ≡ []) × (asked ≡ true → x ≡ y)
+one_if_asked true x y text h = let both = none_number (codes "rate") x y text (omega arith) h in (both.1, λ is. both.0)
+one_if_asked false x y text h = (h, λ is. absurd (clash is))
 
 -- ---- what is asked for
 
 still_of : (all : Bool) (n : ℕ) → (if all then [] else count_rows n) ≡ [] → (all ≡ true) ⊎ (n ≡ 0)
 still_of true n h = inl refl
-still_of false n h = inr (eqb-true n 0 (unless_same (n == 0) _ h))
+still_of false n h = inr (eqb-true n 0 (one_none (n == 0) _ h))
 
 -- a row of a group is in the rows of that group
 rows_there : (xss : List (List OutputRow)) (g o : ℕ) (x : OutputRow) → slice_get (slice_index_or xss g []) o ≡ Some x → (rows : List OutputRow) × (slice_get xss g ≡ Some rows) × (slice_index_or xss g [] ≡ rows)
@@ -84,20 +88,28 @@ module _ (a b : Proposed) (all : Bool) (sound : IsSound a.station) (other : IsSo
   halves : (equipment_rows a.station b.station ≡ []) × (plan_rows a b all ≡ [])
   halves = none_parts (equipment_rows a.station b.station) (plan_rows a b all) no_row
 
-  tables : (version_rows a.station.version b.station.version ≡ []) × (table_rates a.station b.station ++ station_rows a.station b.station ≡ [])
-  tables = none_parts (version_rows a.station.version b.station.version) (table_rates a.station b.station ++ station_rows a.station b.station) halves.0
+  tables : (table_rows a.station b.station ≡ []) × (station_rows a.station b.station ++ lists_rows a.station b.station ≡ [])
+  tables = none_parts (table_rows a.station b.station) (station_rows a.station b.station ++ lists_rows a.station b.station) halves.0
 
-  stations : (table_rates a.station b.station ≡ []) × (station_rows a.station b.station ≡ [])
-  stations = none_parts (table_rates a.station b.station) (station_rows a.station b.station) tables.1
+  stations : (station_rows a.station b.station ≡ []) × (lists_rows a.station b.station ≡ [])
+  stations = none_parts (station_rows a.station b.station) (lists_rows a.station b.station) tables.1
+
+  abbrev to_version : List ℕ
+  to_version = with_number (codes "version") (Some a.station.version) (Some b.station.version) []
+
+  silent : (to_version ≡ []) × ((length a.station.groups == 0 && length b.station.groups == 0) ≡ true → a.station.rate ≡ b.station.rate)
+  silent =
+      one_if_asked (length a.station.groups == 0 && length b.station.groups == 0) a.station.rate b.station.rate to_version
+      (row_none (of_kind (codes "table")) (table_change a.station b.station) tables.0)
 
   plans : (groups_rows all has_gap a b ≡ []) × ((if all then [] else count_rows (moved_count a b)) ≡ [])
   plans = none_parts (groups_rows all has_gap a b) (if all then [] else count_rows (moved_count a b)) halves.1
 
   same_version : a.station.version ≡ b.station.version
-  same_version = same_Some a.station.version b.station.version (none_number (codes "version") the_table (Some a.station.version) (Some b.station.version) tables.0)
+  same_version = same_Some a.station.version b.station.version (none_number (codes "version") (Some a.station.version) (Some b.station.version) [] (omega arith) silent.0).0
 
   pub one_station : same_station a.station b.station ≡ true
-  one_station = none_is_one a.station b.station sound other stations.1
+  one_station = one_none (same_station a.station b.station) (change_row (of_kind (codes "station")) (codes "another")) stations.0
 
   sources : a.station.sources ≡ b.station.sources
   sources = ((same_station_is a.station b.station).0 one_station).1
@@ -114,13 +126,15 @@ module _ (a b : Proposed) (all : Bool) (sound : IsSound a.station) (other : IsSo
       ap₂ (λ (os : List OutputRow) (v : SlotTable). sent a.station.sources os v) (get_or_from_slice_get a.station.outputs g rows [] listed) (get_or_from_slice_get (groups_of a.plan) g t no_table there) in
       let second : sent_by b g ≡ sent b.station.sources news u =
       ap₂ (λ (os : List OutputRow) (v : SlotTable). sent b.station.sources os v) (get_or_from_slice_get b.station.outputs g news [] renewed) (get_or_from_slice_get (groups_of b.plan) g u no_table beside) in
-      let both : both_of a b g ≡ Some (group_of row.name a.station rows t b.station news u) =
+      let both : both_of a b g ≡ Some (group_of row.name (rate_in a g) (rate_in b g) a.station rows t b.station news u) =
       both_is a b g g row here (named_at (λ (h : GroupRow). h.name) b.station.groups other.own_groups g row again row.name refl)
-      ∙ ap₂ (λ (s v : Sent). Some (record { name = row.name; first = s; second = v })) first second in
+      ∙ ap₂ (λ (s v : Sent). Some (record { name = row.name; rate = rate_in a g; new_rate = rate_in b g; first = s; second = v })) first second in
       record {
         all = all;
         has_gap = has_gap;
         name = row.name;
+        own_rate = rate_in a g;
+        new_rate = rate_in b g;
         first = record {
           sound = sound;
           planned = planned_group a.station a.plan g row rows t own here listed there;
@@ -155,7 +169,7 @@ module _ (a b : Proposed) (all : Bool) (sound : IsSound a.station) (other : IsSo
       same_groups a.station.version a.station.sources b.station.sources a.station.groups (groups_of a.plan) (groups_of b.plan) long group_states
       ∙ ap₂ (λ (v : ℕ) (gs : List GroupRow). stated_groups v b.station.sources gs (groups_of b.plan)) same_version groups in
       let head : head_text a.station ≡ head_text b.station =
-      ap₂ (λ (v : ℕ) (r : Option ℕ). version_text v ++ option_map_or rate_text r []) same_version (same_rates a.station b.station sound other same_version groups stations.0) in
+      ap₂ (λ (v : ℕ) (r : Option ℕ). version_text v ++ option_map_or rate_text r []) same_version (same_rates a.station b.station sound other same_version groups silent.1) in
       ap₂ (λ (x y : List ℕ). x ++ y) head (ap (flat_map stated_text) stated)
 
   pub one_interval : HaveSameIntervals a.station b.station

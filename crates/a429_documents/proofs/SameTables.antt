@@ -11,7 +11,7 @@ use Rattle.std.proofs.lemmas.Nat.{le-div, pow_pos}
 use Rattle.std.proofs.lemmas.Option.{get_or_from_slice_get, none-some, same_Some, slice_get-get_or, slice_get-map, slice_get_within}
 use Rattle.std.proofs.lemmas.Simd.{map-map}
 use Rattle.std.proofs.lemmas.Slice.Eq.{bytes_eq-Decides}
-use Rattle.a429_word.proofs.Lists.{all_at, get_within, same_power}
+use Rattle.a429_word.proofs.Lists.{all_at, clash, get_within, same_power}
 use Rattle.a429_equipment.specs.Sound.{HaveOwnSources, IsSound}
 use Rattle.a429_equipment.specs.TableRecord.{TableRecord}
 use Rattle.a429_equipment.specs.declared.rows.GroupRow.{GroupRow}
@@ -31,13 +31,12 @@ use Rattle.a429_slots.proofs.Cells.{output_is}
 use Rattle.a429_cert.specs.PlanText.{listing_of, placed_listing, source_name, stated_of}
 use Rattle.a429_cert.specs.Spelling.{Listing}
 use Rattle.a429_cert.proofs.OwnGroups.{order_moved}
-use Rattle.a429_text.specs.Fields.{Absent}
 use Rattle.a429_documents.specs.declared.diff.sides.Compared.{Compared}
-use Rattle.a429_documents.specs.Diff.{Both, Sent, both_rows, compared_at, compared_rows, each_of, only_rows, has_moved, is_moved, kept_rows, kept_subject, lone_rows, moved_in, name_at, number_named, number_rows, of_group, of_output, other_of, output_named, outputs_rows, size_rows}
+use Rattle.a429_documents.specs.Diff.{Both, Sent, both_rows, change_row, change_rows, compared_at, compared_change, each_of, only_rows, has_moved, is_moved, kept_rows, kept_subject, moved_in, name_at, no_gap, number_named, of_group, of_output, other_of, output_named, outputs_rows, size_change, size_rows, with_number}
 use Rattle.a429_documents.proofs.DocumentRows.{served_length}
 use Rattle.a429_documents.proofs.Findings.{paired}
 use Rattle.a429_documents.proofs.Losses.{found_or_not}
-use Rattle.a429_documents.proofs.NoRows.{compared_is, none_counted, none_each, none_number, none_parts}
+use Rattle.a429_documents.proofs.NoRows.{compared_is, none_counted, none_each, none_number, none_parts, one_none, row_none}
 use Rattle.a429_documents.proofs.SameOrder.{Found, Finds, Laid, Same, laid_from, same_order, share}
 
 -- ---- the outputs of a group that both have
@@ -65,40 +64,37 @@ kept_same g o p K =
     let y : Placed = placed_at g.second.table p in
     let period : x.place.period ≡ y.place.period = same_power x.place.period y.place.period (same_Some _ _ (ap (λ (c : Compared). c.period) K.compared)) in
     let bus : x.place.bus ≡ y.place.bus = same_Some _ _ (ap (λ (c : Compared). c.bus) K.compared) in
-    let offset : x.place.offset ≡ y.place.offset = same_Some _ _ (ap (λ (c : Compared). c.slot) K.compared) in
+    let offset : x.place.offset ≡ y.place.offset = same_Some _ _ (ap (λ (c : Compared). c.offset) K.compared) in
     record {
       name = K.name;
       place = λ i. record { bus = bus i; offset = offset i; period = period i };
       hold = ap (λ (c : Compared). c.hold) K.compared;
     }
 
+-- an output without a row that it is the only one has one of its name
+has_other : (change group : List ℕ) (s u : Sent) (o : ℕ) → only_rows change group s u o ≡ [] → is_some (output_named u (name_at s o)) ≡ true
+has_other change group s u o = one_none (is_some (output_named u (name_at s o))) (change_row (of_output group (name_at s o) no_gap) change)
+
 -- an output of the first without a row is kept, unless it has moved
-kept : (all has_gap : Bool) (g : Both) (o : ℕ) → kept_rows all has_gap g o ≡ [] → only_rows g.name false g.first g.second o ≡ [] → (all ≡ true) ⊎ (is_moved g o ≡ false) → (p : ℕ) × IsKept g o p
+kept : (all has_gap : Bool) (g : Both) (o : ℕ) → kept_rows all has_gap g o ≡ [] → only_rows (codes "removed") g.name g.first g.second o ≡ [] → (all ≡ true) ⊎ (is_moved g o ≡ false) → (p : ℕ) × IsKept g o p
 kept all has_gap g o row gone still = elim (found_or_not (other_of g o)) [
-  | inl none ↦
-      let subject = of_output g.name (name_at g.first o) Absent in
-      let told : number_rows (codes "output") subject (compared_at g.first o).period None ≡ [] =
-      sym (ap (λ (q : Option ℕ). if is_some q then [] else lone_rows false subject (compared_at g.first o).period) none) ∙ gone in
-      absurd (none-some _ (sym (none_number (codes "output") subject (compared_at g.first o).period None told)))
+  | inl none ↦ absurd (clash (sym (ap is_some none) ∙ has_other (codes "removed") g.name g.first g.second o gone))
   | inr (p, found) ↦
       let named = output_is_named g.second (name_at g.first o) p found in
-      let here : compared_rows all (kept_subject has_gap g o p) (compared_at g.first o) (compared_at g.second p) ≡ [] =
-      sym (ap (λ (q : Option ℕ). option_map_or (λ p. compared_rows all (kept_subject has_gap g o p) (compared_at g.first o) (compared_at g.second p)) q []) found) ∙ row in
+      let here : change_rows (kept_subject has_gap g o p) (compared_change all (compared_at g.first o) (compared_at g.second p)) ≡ [] =
+      sym (ap (λ (q : Option ℕ). option_map_or (λ p. change_rows (kept_subject has_gap g o p) (compared_change all (compared_at g.first o) (compared_at g.second p))) q []) found) ∙ row in
       let stays : (all ≡ true) ⊎ (has_moved (compared_at g.first o) (compared_at g.second p) ≡ false) = elim still [
         | inl is ↦ inl is
         | inr stayed ↦ inr (sym (ap (λ (q : Option ℕ). option_map_or (λ p. has_moved (compared_at g.first o) (compared_at g.second p)) q false) found) ∙ stayed)
       ] in
-      (p, record { below = named.0; name = sym named.1; compared = compared_is all (kept_subject has_gap g o p) (compared_at g.first o) (compared_at g.second p) here stays })
+      let silent = row_none (kept_subject has_gap g o p) (compared_change all (compared_at g.first o) (compared_at g.second p)) here in
+      (p, record { below = named.0; name = sym named.1; compared = compared_is all (compared_at g.first o) (compared_at g.second p) silent stays })
 ]
 
 -- an output of the second without a row has one of the first with its name
-not_added : (g : Both) (p : ℕ) → only_rows g.name true g.second g.first p ≡ [] → (o : ℕ) × (o < length (outputs_of g.first.table)) × (name_at g.first o ≡ name_at g.second p)
+not_added : (g : Both) (p : ℕ) → only_rows (codes "added") g.name g.second g.first p ≡ [] → (o : ℕ) × (o < length (outputs_of g.first.table)) × (name_at g.first o ≡ name_at g.second p)
 not_added g p row = elim (found_or_not (output_named g.first (name_at g.second p))) [
-  | inl none ↦
-      let subject = of_output g.name (name_at g.second p) Absent in
-      let told : number_rows (codes "output") subject None (compared_at g.second p).period ≡ [] =
-      sym (ap (λ (q : Option ℕ). if is_some q then [] else lone_rows true subject (compared_at g.second p).period) none) ∙ row in
-      absurd (none-some _ (none_number (codes "output") subject None (compared_at g.second p).period told))
+  | inl none ↦ absurd (clash (sym (ap is_some none) ∙ has_other (codes "added") g.name g.second g.first p row))
   | inr (o, found) ↦
       let named = output_is_named g.first (name_at g.second p) o found in
       (o, named.0, named.1)
@@ -199,41 +195,50 @@ same_shares h own others (x ∷ xs) (y ∷ ys) all =
 
 -- ---- what the tables state
 
--- a group that both tables have
-abbrev pub group_of : List ℕ → TableRecord → List OutputRow → SlotTable → TableRecord → List OutputRow → SlotTable → Both
-group_of name a rows t b others u = record { name = name; first = sent a.sources rows t; second = sent b.sources others u }
+-- a group that both tables have, with its bit rate in each
+abbrev pub group_of : List ℕ → ℕ → ℕ → TableRecord → List OutputRow → SlotTable → TableRecord → List OutputRow → SlotTable → Both
+group_of name rate new_rate a rows t b others u =
+    record { name = name; rate = rate; new_rate = new_rate; first = sent a.sources rows t; second = sent b.sources others u }
 
 -- two planned tables of a group, of which `diff` has no row
 pub record IsUnchanged (a b : TableRecord) (rate : ℕ) (rows others : List OutputRow) (t u : SlotTable) : Type 0 where
   pub all : Bool
   pub has_gap : Bool
   pub name : List ℕ
+  pub own_rate : ℕ
+  pub new_rate : ℕ
   pub first : IsPlanned a rate rows t
   pub second : IsPlanned b rate others u
-  pub no_row : both_rows all has_gap (group_of name a rows t b others u) ≡ []
-  pub still : (all ≡ true) ⊎ (moved_in (group_of name a rows t b others u) ≡ 0)
+  pub no_row : both_rows all has_gap (group_of name own_rate new_rate a rows t b others u) ≡ []
+  pub still : (all ≡ true) ⊎ (moved_in (group_of name own_rate new_rate a rows t b others u) ≡ 0)
 
 module _ (a b : TableRecord) (rate : ℕ) (rows others : List OutputRow) (t u : SlotTable) (U : IsUnchanged a b rate rows others t u) where
   abbrev g : Both
-  g = group_of U.name a rows t b others u
+  g = group_of U.name U.own_rate U.new_rate a rows t b others u
 
   parts : (size_rows g ≡ []) × (outputs_rows U.all U.has_gap g ≡ [])
   parts = none_parts (size_rows g) (outputs_rows U.all U.has_gap g) U.no_row
 
-  size : (number_rows (codes "buses") (of_group g.name) (Some (buses_of t)) (Some (buses_of u)) ≡ []) × (number_rows (codes "frame") (of_group g.name) (Some (frame_of t)) (Some (frame_of u)) ≡ [])
-  size = none_parts (number_rows (codes "buses") (of_group g.name) (Some (buses_of t)) (Some (buses_of u))) (number_rows (codes "frame") (of_group g.name) (Some (frame_of t)) (Some (frame_of u))) parts.0
+  size : size_change g ≡ []
+  size = row_none (of_group g.name) (size_change g) parts.0
+
+  abbrev to_rate : List ℕ
+  to_rate = with_number (codes "rate") (Some g.rate) (Some g.new_rate) []
+
+  framed : (Some (frame_of t) ≡ Some (frame_of u)) × (with_number (codes "buses") (Some (buses_of t)) (Some (buses_of u)) to_rate ≡ [])
+  framed = none_number (codes "frame_slots") (Some (frame_of t)) (Some (frame_of u)) (with_number (codes "buses") (Some (buses_of t)) (Some (buses_of u)) to_rate) (omega arith) size
 
   frames : t.frame ≡ u.frame
-  frames = same_power t.frame u.frame (same_Some (frame_of t) (frame_of u) (none_number (codes "frame") (of_group g.name) (Some (frame_of t)) (Some (frame_of u)) size.1))
+  frames = same_power t.frame u.frame (same_Some (frame_of t) (frame_of u) framed.0)
 
   buses : buses_of t ≡ buses_of u
-  buses = same_Some (buses_of t) (buses_of u) (none_number (codes "buses") (of_group g.name) (Some (buses_of t)) (Some (buses_of u)) size.0)
+  buses = same_Some (buses_of t) (buses_of u) (none_number (codes "buses") (Some (buses_of t)) (Some (buses_of u)) to_rate (omega arith) framed.1).0
 
-  old : (each_of (length (outputs_of t)) (kept_rows U.all U.has_gap g) ≡ []) × (each_of (length (outputs_of t)) (only_rows g.name false g.first g.second) ++ each_of (length (outputs_of u)) (only_rows g.name true g.second g.first) ≡ [])
-  old = none_parts (each_of (length (outputs_of t)) (kept_rows U.all U.has_gap g)) (each_of (length (outputs_of t)) (only_rows g.name false g.first g.second) ++ each_of (length (outputs_of u)) (only_rows g.name true g.second g.first)) parts.1
+  old : (each_of (length (outputs_of t)) (kept_rows U.all U.has_gap g) ≡ []) × (each_of (length (outputs_of t)) (only_rows (codes "removed") g.name g.first g.second) ++ each_of (length (outputs_of u)) (only_rows (codes "added") g.name g.second g.first) ≡ [])
+  old = none_parts (each_of (length (outputs_of t)) (kept_rows U.all U.has_gap g)) (each_of (length (outputs_of t)) (only_rows (codes "removed") g.name g.first g.second) ++ each_of (length (outputs_of u)) (only_rows (codes "added") g.name g.second g.first)) parts.1
 
-  only : (each_of (length (outputs_of t)) (only_rows g.name false g.first g.second) ≡ []) × (each_of (length (outputs_of u)) (only_rows g.name true g.second g.first) ≡ [])
-  only = none_parts (each_of (length (outputs_of t)) (only_rows g.name false g.first g.second)) (each_of (length (outputs_of u)) (only_rows g.name true g.second g.first)) old.1
+  only : (each_of (length (outputs_of t)) (only_rows (codes "removed") g.name g.first g.second) ≡ []) × (each_of (length (outputs_of u)) (only_rows (codes "added") g.name g.second g.first) ≡ [])
+  only = none_parts (each_of (length (outputs_of t)) (only_rows (codes "removed") g.name g.first g.second)) (each_of (length (outputs_of u)) (only_rows (codes "added") g.name g.second g.first)) old.1
 
   kept_of : (o : ℕ) → o < length (outputs_of t) → (p : ℕ) × IsKept g o p
   kept_of o below =
@@ -241,14 +246,14 @@ module _ (a b : TableRecord) (rate : ℕ) (rows others : List OutputRow) (t u : 
         | inl is ↦ inl is
         | inr none ↦ inr (none_counted (is_moved g) (length (outputs_of t)) none o below)
       ] in
-      kept U.all U.has_gap g o (none_each (kept_rows U.all U.has_gap g) (length (outputs_of t)) old.0 o below) (none_each (only_rows g.name false g.first g.second) (length (outputs_of t)) only.0 o below) stays
+      kept U.all U.has_gap g o (none_each (kept_rows U.all U.has_gap g) (length (outputs_of t)) old.0 o below) (none_each (only_rows (codes "removed") g.name g.first g.second) (length (outputs_of t)) only.0 o below) stays
 
   match_of : (o : ℕ) → o < length (outputs_of t) → (p : ℕ) × (p < length (outputs_of u)) × Same a.sources b.sources (placed_at t o) (placed_at u p)
   match_of o below = let found = kept_of o below in (found.0, found.1.below, kept_same g o found.0 found.1)
 
   matched_by : (p : ℕ) → p < length (outputs_of u) → (o : ℕ) × (o < length (outputs_of t)) × Same a.sources b.sources (placed_at t o) (placed_at u p)
   matched_by p below =
-      let old = not_added g p (none_each (only_rows g.name true g.second g.first) (length (outputs_of u)) only.1 p below) in
+      let old = not_added g p (none_each (only_rows (codes "added") g.name g.second g.first) (length (outputs_of u)) only.1 p below) in
       let back = match_of old.0 old.1 in
       let one : back.0 ≡ p = one_named b rate others u U.second back.0 p back.1 below (sym back.2.name ∙ old.2) in
       (old.0, old.1, subst (λ (k : ℕ). Same a.sources b.sources (placed_at t old.0) (placed_at u k)) one back.2)

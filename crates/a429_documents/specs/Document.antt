@@ -1,5 +1,5 @@
 -- The interface control document of a plan: the names of its columns, and a row for each output (profile: docs/FORMATS.md, Output of `icd`).
-use Rattle.std.specs.Prelude.{ℕ, ◌^◌, Bool, true, false, List, [], ◌∷◌, ◌++◌, Option, None, Some, codes, slice_get}
+use Rattle.std.specs.Prelude.{ℕ, ◌+◌, ◌^◌, ◌==◌, Bool, true, false, List, [], ◌∷◌, ◌++◌, Option, None, Some, codes, if◌then◌else◌, slice_get}
 use Rattle.std.specs.Option.{option_map_or}
 use Rattle.a429_text.specs.Fields.{Field, Text, Number, Absent}
 use Rattle.a429_text.specs.Texts.{formula}
@@ -20,13 +20,13 @@ use Rattle.a429_slots.specs.Times.{latency_us, slots_us}
 abbrev pub sent_columns : List (List ℕ)
 sent_columns = codes "group" ∷ codes "rate" ∷ codes "source" ∷ codes "receiver" ∷ codes "label" ∷ codes "sdi" ∷ []
 
--- its place: the bus, the first slot from the start of the frame, and the period in slots and in microseconds
+-- its place: the bus, its offset (its first slot from the start of the frame), and the period in slots and in microseconds
 abbrev pub place_columns : List (List ℕ)
-place_columns = codes "bus" ∷ codes "slot" ∷ codes "period" ∷ codes "period_us" ∷ []
+place_columns = codes "bus" ∷ codes "offset" ∷ codes "period_slots" ∷ codes "period_us" ∷ []
 
 -- its limits: the interval in microseconds, the most times that one accepted word is sent, and the minimum number of slots between two sends
 abbrev pub limit_columns : List (List ℕ)
-limit_columns = codes "min_us" ∷ codes "max_us" ∷ codes "hold" ∷ codes "spacing" ∷ []
+limit_columns = codes "min_us" ∷ codes "max_us" ∷ codes "hold" ∷ codes "spacing_slots" ∷ []
 
 -- the maximum age of a word when it was sent completely, in microseconds
 abbrev pub latency_columns : List (List ℕ)
@@ -42,10 +42,13 @@ icd_columns = sent_columns ++ (place_columns ++ (limit_columns ++ latency_column
 abbrev pub receiver_name : List ReceiverRow → ℕ → List ℕ
 receiver_name receivers n = option_map_or (λ r. r.name) (slice_get receivers n) []
 
--- a number, or `any`
+-- an SDI as a text: 0 to 3, or `any`
+abbrev pub sdi_text : Option ℕ → List ℕ
+sdi_text None = codes "any"
+sdi_text (Some sdi) = if sdi == 0 then codes "0" else if sdi == 1 then codes "1" else if sdi == 2 then codes "2" else codes "3"
+
 abbrev pub sdi_field : Option ℕ → Field
-sdi_field None = Text (codes "any")
-sdi_field (Some sdi) = Number sdi
+sdi_field sdi = Text (sdi_text sdi)
 
 -- a label in octal; as a formula if a spreadsheet is to keep its zeros
 abbrev pub label_field : Bool → ℕ → Field

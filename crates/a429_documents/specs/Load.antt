@@ -1,13 +1,12 @@
 -- What each bus carries and has room for: the rows of `load` (profile: docs/FORMATS.md, Output of `load`).
-use Rattle.std.specs.Prelude.{ℕ, ◌+◌, ◌-◌, ◌*◌, ◌/◌, ◌^◌, ◌≡◌, ◌≤◌, List, [], ◌∷◌, ◌++◌, Bool, false, Option, None, Some, codes, count_by, if◌then◌else◌, is_none, is_some, length, map, nat_le, nat_lt, sum, take}
+use Rattle.std.specs.Prelude.{ℕ, ◌+◌, ◌-◌, ◌*◌, ◌/◌, ◌^◌, ◌≡◌, ◌≤◌, List, [], ◌∷◌, ◌++◌, Bool, false, Option, None, Some, codes, count_by, if◌then◌else◌, is_none, is_some, length, map, nat_le, nat_lt, replicate, sum}
 use Rattle.std.specs.Int.{div_ceil}
-use Rattle.std.specs.List.{list_all, list_any, range_with_len}
+use Rattle.std.specs.List.{flat_map, list_all, list_any, range_with_len}
 use Rattle.a429_text.specs.Fields.{Field, Text, Number, Tenths, Absent}
 use Rattle.a429_equipment.specs.TableRecord.{TableRecord}
 use Rattle.a429_equipment.specs.declared.rows.GroupRow.{GroupRow}
 use Rattle.a429_equipment.specs.declared.rows.OutputRow.{OutputRow}
 use Rattle.a429_equipment.specs.declared.rows.SourceRow.{SourceRow}
-use Rattle.a429_pack.specs.Demands.{greatest}
 use Rattle.a429_slots.specs.Planned.{IsPlannedFor}
 use Rattle.a429_slots.specs.Tables.{SlotTable, PlanTable, cell_at, frame_of, buses_of, groups_of, outputs_of}
 use Rattle.a429_documents.specs.Limits.{AreNeeded, needed_buses}
@@ -34,7 +33,7 @@ room_on t bus period = count_by (is_open t bus period) (range_with_len 0 period)
 
 -- the group and its bit rate in bit/s, the bus, and its frame in slots
 abbrev pub bus_columns : List (List ℕ)
-bus_columns = codes "group" ∷ codes "rate" ∷ codes "bus" ∷ codes "frame" ∷ []
+bus_columns = codes "group" ∷ codes "rate" ∷ codes "bus" ∷ codes "frame_slots" ∷ []
 
 -- the cells with an output and those without, the former in per cent of all, and the words that are sent in a second
 abbrev pub cell_columns : List (List ℕ)
@@ -44,25 +43,18 @@ cell_columns = codes "cells" ∷ codes "free" ∷ codes "percent" ∷ codes "wor
 abbrev pub limit_columns : List (List ℕ)
 limit_columns = codes "needed" ∷ []
 
--- how many more outputs there is room for, by the slots of their period
+-- how many more outputs of a period in slots there is room for
 abbrev pub room_columns : List (List ℕ)
-room_columns =
-    codes "room_2" ∷ codes "room_4" ∷ codes "room_8" ∷ codes "room_16" ∷ codes "room_32" ∷ codes "room_64" ∷ codes "room_128" ∷ codes "room_256" ∷ codes "room_512"
-    ∷ codes "room_1024" ∷ codes "room_2048" ∷ codes "room_4096" ∷ codes "room_8192" ∷ []
+room_columns = codes "period_slots" ∷ codes "room" ∷ []
 
--- all of them, with this number of the last
-abbrev pub load_columns : ℕ → List (List ℕ)
-load_columns shown = take (9 + shown) (bus_columns ++ (cell_columns ++ (limit_columns ++ room_columns)))
+abbrev pub load_columns : List (List ℕ)
+load_columns = bus_columns ++ (cell_columns ++ (limit_columns ++ room_columns))
 
--- the periods of these columns, in slots
+-- the periods from 2 on, in slots
 abbrev pub room_periods : List ℕ
 room_periods = 2 ∷ 4 ∷ 8 ∷ 16 ∷ 32 ∷ 64 ∷ 128 ∷ 256 ∷ 512 ∷ 1024 ∷ 2048 ∷ 4096 ∷ 8192 ∷ []
 
--- how many of them are shown: those up to the longest frame of the plan
-unfoldable pub shown_for : PlanTable → ℕ
-shown_for p = count_by (λ period. nat_le period (greatest (map frame_of (groups_of p)))) room_periods
-
--- ---- the row of some buses
+-- ---- the rows of some buses
 
 -- The cells with an output in per cent of all cells of a frame, in tenths, rounded up.
 abbrev pub percent_field : ℕ → List ℕ → Field
@@ -72,19 +64,24 @@ percent_field frame loads = Tenths (div_ceil (1000 * sum loads) (length loads * 
 abbrev pub words_field : ℕ → ℕ → List ℕ → Field
 words_field rate frame loads = Number (div_ceil (sum loads * rate) (36 * frame))
 
--- How many more outputs of a period the buses take: each has a whole number of cells of one bus. A period above the frame has nothing.
-abbrev pub room_field : ℕ → List ℕ → ℕ → Field
-room_field frame loads period =
-    if nat_le period frame then Number (sum (map (λ load. (frame - load) / (frame / period)) loads)) else Absent
+-- How many more outputs of a period the buses take: each has a whole number of cells of one bus.
+abbrev pub room_within : ℕ → List ℕ → ℕ → ℕ
+room_within frame loads period = sum (map (λ load. (frame - load) / (frame / period)) loads)
+
+-- the row of that room; a period above the frame has none
+abbrev pub room_rows : GroupRow → ℕ → Field → List ℕ → ℕ → List (List Field)
+room_rows g frame bus loads period =
+    if nat_le period frame then (Text g.name ∷ Absent ∷ bus ∷ replicate 6 Absent ++ (Number period ∷ Number (room_within frame loads period) ∷ [])) ∷ [] else []
 
 -- the row of some buses of a group with a frame of this number of slots, by the cells of each that have an output
-abbrev pub load_fields : GroupRow → ℕ → Field → List ℕ → Field → List Field
-load_fields g frame bus loads needed =
+abbrev pub load_row : GroupRow → ℕ → Field → List ℕ → Field → List Field
+load_row g frame bus loads needed =
     Text g.name ∷ Number g.rate ∷ bus ∷ Number frame ∷ Number (sum loads) ∷ Number (length loads * frame - sum loads)
-    ∷ percent_field frame loads ∷ words_field g.rate frame loads ∷ needed ∷ map (room_field frame loads) room_periods
+    ∷ percent_field frame loads ∷ words_field g.rate frame loads ∷ needed ∷ Absent ∷ Absent ∷ []
 
-abbrev pub load_row : ℕ → GroupRow → ℕ → Field → List ℕ → Field → List Field
-load_row shown g frame bus loads needed = take (9 + shown) (load_fields g frame bus loads needed)
+-- that row, and the room for each period
+abbrev pub bus_rows_of : GroupRow → ℕ → Field → List ℕ → Field → List (List Field)
+bus_rows_of g frame bus loads needed = load_row g frame bus loads needed ∷ flat_map (room_rows g frame bus loads) room_periods
 
 -- ---- the limit
 
@@ -101,9 +98,9 @@ has_above (Some limit) t = is_above limit (frame_of t) (loads_of t)
 abbrev pub shares_of : SlotTable → List ℕ
 shares_of t = map (λ o. frame_of t / 2 ^ o.place.period) (outputs_of t)
 
--- the fewest buses, or `none` if one output alone is above the limit
+-- the fewest buses; 0 if one output alone is above the limit
 abbrev pub buses_field : Option ℕ → Field
-buses_field None = Text (codes "none")
+buses_field None = Number 0
 buses_field (Some buses) = Number buses
 
 -- the fewest buses within the limit, if a bus is above it. A bus may have this part of its cells filled, rounded down.
@@ -114,27 +111,27 @@ needed_field (Some limit) t =
 
 -- ---- the rows
 
--- the row of a bus
-abbrev pub bus_row : ℕ → GroupRow → SlotTable → ℕ → List Field
-bus_row shown g t bus = load_row shown g (frame_of t) (Number bus) (cells_on t bus ∷ []) Absent
+-- the rows of a bus
+abbrev pub bus_rows : GroupRow → SlotTable → ℕ → List (List Field)
+bus_rows g t bus = bus_rows_of g (frame_of t) (Number bus) (cells_on t bus ∷ []) Absent
 
--- the row of all buses of a group together
-abbrev pub total_row : Option ℕ → ℕ → GroupRow → SlotTable → List Field
-total_row limit shown g t = load_row shown g (frame_of t) Absent (loads_of t) (needed_field limit t)
+-- the rows of all buses of a group together
+abbrev pub total_rows : Option ℕ → GroupRow → SlotTable → List (List Field)
+total_rows limit g t = bus_rows_of g (frame_of t) Absent (loads_of t) (needed_field limit t)
 
--- a row for each bus of a group, and then that of all its buses
-abbrev pub group_rows : Option ℕ → ℕ → GroupRow → SlotTable → List (List Field)
-group_rows limit shown g t = map (bus_row shown g t) (range_with_len 0 (buses_of t)) ++ total_row limit shown g t ∷ []
+-- the rows of each bus of a group, and then those of all its buses
+abbrev pub group_rows : Option ℕ → GroupRow → SlotTable → List (List Field)
+group_rows limit g t = flat_map (bus_rows g t) (range_with_len 0 (buses_of t)) ++ total_rows limit g t
 
 -- the rows of each group, in table order
-unfoldable pub groups_rows : Option ℕ → ℕ → List GroupRow → List SlotTable → List (List Field)
-groups_rows limit shown [] ts = []
-groups_rows limit shown (g ∷ gs) [] = []
-groups_rows limit shown (g ∷ gs) (t ∷ ts) = group_rows limit shown g t ++ groups_rows limit shown gs ts
+unfoldable pub groups_rows : Option ℕ → List GroupRow → List SlotTable → List (List Field)
+groups_rows limit [] ts = []
+groups_rows limit (g ∷ gs) [] = []
+groups_rows limit (g ∷ gs) (t ∷ ts) = group_rows limit g t ++ groups_rows limit gs ts
 
 -- the rows of a plan
 abbrev pub load_rows : Option ℕ → TableRecord → PlanTable → List (List Field)
-load_rows limit e p = groups_rows limit (shown_for p) e.groups (groups_of p)
+load_rows limit e p = groups_rows limit e.groups (groups_of p)
 
 -- some bus of the plan is above the limit
 abbrev pub any_above : Option ℕ → PlanTable → Bool
@@ -142,13 +139,13 @@ any_above limit p = list_any (has_above limit) (groups_of p)
 
 -- ---- laws
 
--- The number of more outputs in a row is exact. The cells of an output are those of one offset, and the layout leaves whole offsets empty.
+-- The number of more outputs in the column `room` is exact. The cells of an output are those of one offset, and the layout leaves whole offsets empty.
 abbrev pub RoomsAreExact : Type 0
 RoomsAreExact =
     (rate : ℕ) (sources : List SourceRow) (rows : List OutputRow) (t : SlotTable) → IsPlannedFor rate sources rows t
     → (bus k : ℕ) → k ≤ t.frame → room_on t bus (2 ^ k) ≡ (frame_of t - cells_on t bus) / (frame_of t / 2 ^ k)
 
--- The number of buses in `needed` is the fewest.
+-- The number of buses in the column `needed` is the fewest.
 abbrev pub NeededBusesAreFewest : Type 0
 NeededBusesAreFewest =
     (rate : ℕ) (sources : List SourceRow) (rows : List OutputRow) (t : SlotTable) → IsPlannedFor rate sources rows t

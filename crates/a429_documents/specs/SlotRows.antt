@@ -19,7 +19,7 @@ use Rattle.a429_documents.specs.Margins.{nothing}
 
 -- the cell, and its output
 abbrev pub slot_columns : List (List ℕ)
-slot_columns = codes "group" ∷ codes "slot" ∷ codes "time_us" ∷ codes "bus" ∷ codes "label" ∷ codes "sdi" ∷ codes "source" ∷ codes "period" ∷ []
+slot_columns = codes "group" ∷ codes "slot" ∷ codes "time_us" ∷ codes "bus" ∷ codes "label" ∷ codes "sdi" ∷ codes "source" ∷ codes "period_slots" ∷ []
 
 -- ---- the row of a cell
 

@@ -4,7 +4,7 @@ ghost use Rattle.a429_text.specs.Fields.{Number};
 ghost use Rattle.a429_text.specs.Sheets.{field_of};
 ghost use Rattle.a429_slots.specs.Tables.{outputs_of, placed_at};
 ghost use Rattle.a429_slots.specs.Planned.{HaveSources};
-ghost use Rattle.a429_documents.specs.Document.{icd_columns, icd_row, icd_rows, label_field, limit_field, output_row, output_rows, receiver_name, sdi_field};
+ghost use Rattle.a429_documents.specs.Document.{icd_columns, icd_row, icd_rows, label_field, limit_field, output_row, output_rows, receiver_name, sdi_field, sdi_text};
 
 use a429_equipment::{Equipment, GroupRow, OutputRow, ReceiverRow, SourceRow};
 use a429_slots::{
@@ -23,13 +23,13 @@ const COLUMNS: &[&str] = &[
     "label",
     "sdi",
     "bus",
-    "slot",
-    "period",
+    "offset",
+    "period_slots",
     "period_us",
     "min_us",
     "max_us",
     "hold",
-    "spacing",
+    "spacing_slots",
     "latency_us",
 ];
 
@@ -40,14 +40,24 @@ pub fn number(value: u32) -> Cell<'static>
     Cell::Number(u64::from(value))
 }
 
-/// The cell of an SDI: `any` for `None`.
+/// An SDI as a text: `0` to `3`, or `any` for `None`.
+pub(crate) fn sdi_text(sdi: Option<Sdi>) -> &'static str
+    ensures { result.now ≡ sdi_text sdi }
+{
+    match sdi {
+        None => "any",
+        Some(sdi) if sdi.value() == 0 => "0",
+        Some(sdi) if sdi.value() == 1 => "1",
+        Some(sdi) if sdi.value() == 2 => "2",
+        Some(_) => "3",
+    }
+}
+
+/// The cell of an SDI, a text.
 pub fn sdi_cell(sdi: Option<Sdi>) -> Cell<'static>
     ensures { field_of result ≡ sdi_field sdi }
 {
-    match sdi {
-        None => Cell::Text("any"),
-        Some(sdi) => Cell::Number(u64::from(sdi.value())),
-    }
+    Cell::Text(sdi_text(sdi))
 }
 
 /// The cell of a label, in octal; as a formula if a spreadsheet is to keep its zeros.
@@ -183,7 +193,7 @@ fn add_groups(rows: &mut Rows, keeps_zeros: bool, proposal: &Proposal<OUTPUTS>)
 }
 
 /// The interface control document of a proposal's plan: a row for each output, groups and outputs in table order. The bit
-/// rate is in bit/s. A slot is counted from 0 at the start of the frame, and lasts 36 bit times. A period is in slots, and
+/// rate is in bit/s. An offset is counted in slots from 0 at the start of the frame; a slot lasts 36 bit times. A period is in slots, and
 /// in whole microseconds, rounded up. The latency is the longest time, within one plan, from the acceptance of a word until
 /// it, or a later word of its source, was sent completely: a period and one slot, in whole microseconds, rounded up. A label
 /// is in octal; as a formula, such as `="003"`, if a spreadsheet is to keep its zeros.

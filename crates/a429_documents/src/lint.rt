@@ -28,6 +28,10 @@ pub enum GroupFinding {
     Alike,
     /// No cell of a frame is empty.
     Full,
+    /// The grid period of an output is shorter than two thirds of its maximum interval.
+    Coarse,
+    /// More than 80 per cent of a bus are filled.
+    Crowded,
 }
 
 /// A finding of a source.
@@ -46,6 +50,8 @@ pub enum ReceiverFinding {
     Idle,
     /// A filter passes no label of its sources.
     Blind,
+    /// A later receiver has the same filters.
+    SameFilters,
 }
 
 /// A kind of finding.
@@ -57,7 +63,7 @@ pub enum Finding {
 }
 
 /// The kinds, in the order of the rows.
-const FINDINGS: [Finding; 8] = [
+const FINDINGS: [Finding; 11] = [
     Finding::OfGroup(GroupFinding::Unfit),
     Finding::OfGroup(GroupFinding::TooManyBuses),
     Finding::OfSource(SourceFinding::Unheard),
@@ -66,10 +72,15 @@ const FINDINGS: [Finding; 8] = [
     Finding::OfReceiver(ReceiverFinding::Blind),
     Finding::OfGroup(GroupFinding::Alike),
     Finding::OfGroup(GroupFinding::Full),
+    Finding::OfGroup(GroupFinding::Coarse),
+    Finding::OfReceiver(ReceiverFinding::SameFilters),
+    Finding::OfGroup(GroupFinding::Crowded),
 ];
 
 /// The names of the columns.
-const COLUMNS: &[&str] = &["finding", "group", "receiver", "source", "other", "number"];
+const COLUMNS: &[&str] = &[
+    "finding", "group", "receiver", "source", "other", "number", "percent",
+];
 
 /// Adds the findings of one kind, in table order.
 fn add_finding(found: &mut Rows, equipment: &Equipment, asked: &[Vec<Demand>], finding: Finding)
@@ -95,8 +106,9 @@ fn add_findings(found: &mut Rows, equipment: &Equipment, asked: &[Vec<Demand>], 
 
 /// The findings of an equipment (profile: lint), one row each. First come the outputs without a grid period and the
 /// groups that need more than 16 buses. Then come the sources that no filter passes, the sources that no group sends, the
-/// receivers without a source, and the filters that pass no source. Last come the outputs that a display cannot
-/// distinguish, and the groups without an empty cell. If nothing is found, there is no row. Error: an allocation failed.
+/// receivers without a source, and the filters that pass no source. Then come the outputs that a display cannot
+/// distinguish, and the groups without an empty cell. Last come what costs load: periods far below their maximum interval,
+/// receivers with the same filters, and buses that are filled to more than 80 per cent. If nothing is found, there is no row. Error: an allocation failed.
 pub fn lint_sheet(alloc: Global, equipment: &Equipment) -> Result<Sheet, AllocError>
     ensures columns { IfOk result (λ sheet. map (λ name. name.now) sheet.columns.now ≡ lint_columns) }
     ensures rows { IfOk result (λ sheet. AreFindings equipment.now sheet.rows) }

@@ -18,7 +18,14 @@ use std::alloc::Global;
 
 /// The names of the columns.
 const COLUMNS: &[&str] = &[
-    "group", "slot", "time_us", "bus", "label", "sdi", "source", "period",
+    "group",
+    "slot",
+    "time_us",
+    "bus",
+    "label",
+    "sdi",
+    "source",
+    "period_slots",
 ];
 
 /// When a slot of a group begins, from the start of the frame: in microseconds, rounded up.

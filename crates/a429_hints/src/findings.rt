@@ -4,7 +4,7 @@ use crate::hint::HintText;
 use a429_text::Rows;
 
 /// The kinds of findings, in the order in which `lint` prints them, with what each means and what to do about it.
-static ADVICE: [&str; 8] = [
+static ADVICE: [&str; 11] = [
     "unfit: no transmit period lies within the interval, so the table has no plan: `a429 plan` prints intervals that work",
     "too-many-buses: a group can have at most 16 buses, so the table has no plan: give some of its outputs a longer max_us, or move them to another group",
     "unheard: no filter of the receiver passes the source's label, so its words are never accepted: add a filter LLL/377, or remove the filters",
@@ -13,6 +13,9 @@ static ADVICE: [&str; 8] = [
     "blind: the filter passes no label of the receiver's sources: correct it, or remove it",
     "alike: two outputs send the same label, one of them with sdi = \"any\", so an LRU cannot always distinguish them: give both sources a number as `sdi`, or send them in two groups",
     "full: the group's buses have no empty cell, so one more output needs one more bus: `a429 margin` prints what would free cells",
+    "coarse: the period is shorter than two thirds of max_us, since periods are powers of two of slots: a little more max_us may halve the load of the output, and `a429 margin` prints how much",
+    "same-filters: both receivers pass the same labels: if they hear one bus, one of them is enough; otherwise each source needs an SDI or a receiver of its own",
+    "crowded: more than 80 per cent of the bus are filled: `a429 load --limit 80` prints the fewest buses that keep to that",
 ];
 
 /// The kinds of findings that can be corrected in receivers, filters or sources.
@@ -57,32 +60,9 @@ fn has_one_of(rows: &Rows, kinds: &[&'static str]) -> bool {
     false
 }
 
-/// The kinds of rows of `diff` about the station, but for the bit rate of a group.
-static CHANGED_STATION: [&str; 7] = [
-    "receiver",
-    "filters",
-    "source",
-    "source-receiver",
-    "label",
-    "sdi",
-    "group",
-];
-
-/// Whether a row says that the bit rate of a group changes. That of two tables without groups has no group.
-fn has_group_rate(rows: &Rows) -> bool {
-    for row in 0..usize::MAX {
-        match (rows.text(row, 0), rows.text(row, 1)) {
-            (Ok(Some(kind)), Ok(Some(_))) if kind == "rate".as_bytes() => return true,
-            (Ok(Some(_)), Ok(_)) => {}
-            _ => return false,
-        }
-    }
-    false
-}
-
 /// Says that the second of two tables is of another station, by the rows of `diff`.
 pub fn tell_changes(rows: &Rows, hint: &HintText) {
-    if has_one_of(rows, &CHANGED_STATION) || has_group_rate(rows) {
+    if has_row(rows, "station") {
         hint.say_line(
             "it is a table of another station: a station that runs with the first table takes no plan of it",
         );

@@ -8,7 +8,7 @@ use Rattle.std.specs.Option.{option_map}
 use Rattle.std.specs.Str.{bytes_eq}
 use Rattle.std.proofs.lemmas.Bool.{and_parts, leb-true}
 use Rattle.std.proofs.lemmas.Bool.Decides.{nat_tests}
-use Rattle.std.proofs.lemmas.Fmt.{decimal_digit, decimal_nonempty}
+use Rattle.std.proofs.lemmas.Fmt.{decimal_nonempty}
 use Rattle.std.proofs.lemmas.Option.{none-some}
 use Rattle.std.proofs.lemmas.Str.{IsUtf8-from_ascii, IsUtf8-nil, is_utf8-from_IsUtf8}
 use Rattle.std.proofs.lemmas.Str.Ascii.{IsAscii-cons, IsAscii-nil}
@@ -88,7 +88,11 @@ any_back = refl
 
 sdi_back : (sdi : Option ℕ) → IfSome sdi (λ k. k < 4) → sdi_in (field_text [] (sdi_field sdi)) ≡ Some sdi
 sdi_back None small = any_back
-sdi_back (Some k) small = ap sdi_in (decimal_digit k (omega (arith, small))) ∙ digit_back k small
+sdi_back (Some zero) small = digit_back zero small
+sdi_back (Some (suc zero)) small = digit_back (suc zero) small
+sdi_back (Some (suc (suc zero))) small = digit_back (suc (suc zero)) small
+sdi_back (Some (suc (suc (suc zero)))) small = digit_back (suc (suc (suc zero))) small
+sdi_back (Some (suc (suc (suc (suc k))))) small = absurd (omega (arith, small))
 
 no_number : decimal_number (codes "none") ≡ None
 unfolding decimal_number is_numeral

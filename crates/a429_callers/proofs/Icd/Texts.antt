@@ -53,7 +53,7 @@ records_back (row ∷ rows) (r ∷ records) h =
 -- ---- the names of the columns come first
 
 abbrev names : List ℕ
-names = codes "group,rate,source,receiver,label,sdi,bus,slot,period,period_us,min_us,max_us,hold,spacing,latency_us"
+names = codes "group,rate,source,receiver,label,sdi,bus,offset,period_slots,period_us,min_us,max_us,hold,spacing_slots,latency_us"
 
 heading_text : row_text default_writer icd_columns ≡ names ++ 10 ∷ []
 unfolding is_blank escaped fields_text

@@ -1,15 +1,16 @@
 //! Lists of things with a name, in both tables.
-ghost use Rattle.std.specs.Prelude.{◌≡◌, ◌<◌, ◌++◌, List, ℕ, IfSome, length, option_copied};
+ghost use Rattle.std.specs.Prelude.{◌≡◌, ◌<◌, ◌++◌, List, ℕ, IfOk, IfSome, codes, length, option_copied, string_bytes};
 ghost use Rattle.std.specs.List.{flat_map};
-ghost use Rattle.a429_text.specs.Fields.{Field};
+ghost use Rattle.a429_word.specs.Written.{Gains};
 ghost use Rattle.a429_equipment.specs.TableRecord.{TableRecord};
 ghost use Rattle.a429_equipment.specs.declared.rows.ReceiverRow.{ReceiverRow};
-ghost use Rattle.a429_documents.specs.Diff.{item_named, new_rows, number_named, of_both, place_rows, table_rows};
+ghost use Rattle.a429_documents.specs.Diff.{both_named, boths_named, item_named, lone_rows, named_rows, number_named};
 ghost use Rattle.a429_documents.specs.Diff as diff;
 
-use crate::diff::rows::{Subject, add_number};
+use crate::diff::rows::{Subject, add_change, add_row};
 use a429_equipment::Equipment;
 use a429_text::Rows;
+use std::alloc::{AllocError, Global};
 
 /// A row of a table that has a name.
 pub trait Named {
@@ -19,8 +20,8 @@ pub trait Named {
 
     ghost subject_of: { Self → diff.Subject };
 
-    /// The rows of the differences between two rows of one name, given the receivers of both tables.
-    ghost change_rows: { List ReceiverRow → List ReceiverRow → Self → Self → List (List Field) };
+    /// What changes from one row to another of the same name, given the receivers of both tables.
+    ghost change_of: { List ReceiverRow → List ReceiverRow → Self → Self → List ℕ };
 
     /// All of a table.
     fn list(equipment: &Equipment) -> &[Self]
@@ -34,9 +35,15 @@ pub trait Named {
     fn subject(&self) -> Subject<'_>
         ensures { result ≡ subject_of self.now };
 
-    /// Adds a row for each difference between this row and one of the same name.
-    fn add_changes(&self, other: &Self, rows: &mut Rows, a: &Equipment, b: &Equipment)
-        ensures { rows.new ≡ rows.old ++ change_rows a.now.receivers b.now.receivers self.now other.now };
+    /// What changes from this row to one of the same name. Error: an allocation failed.
+    fn change(
+        &self,
+        alloc: Global,
+        other: &Self,
+        a: &Equipment,
+        b: &Equipment,
+    ) -> Result<String, AllocError>
+        ensures { IfOk result (λ text. string_bytes text ≡ change_of a.now.receivers b.now.receivers self.now other.now) };
 }
 
 /// The number of the row with this name. `None` if there is none.
@@ -48,77 +55,71 @@ pub fn number_named<T: Named>(list: &[T], name: &str) -> Option<usize>
     list.iter().position(|item| item.name() == name)
 }
 
-/// The number of the row with this name, as rows write it. `None` if there is none.
-fn place_of<T: Named>(list: &[T], name: &str) -> Option<u64>
-    ensures { result ≡ number_named T.name_of list.now name.now }
+/// Adds the row of a name that the other list does not have.
+fn add_lone<T: Named>(rows: &mut Rows, change: &str, others: &[T], item: &T)
+    ensures { rows.new ≡ rows.old ++ lone_rows change.now T.name_of T.subject_of others.now item.now }
 {
-    match number_named(list, name) {
-        None => None,
-        Some(number) => Some(number as u64),
+    if number_named(others, item.name()).is_none() {
+        add_row(rows, &item.subject(), change);
     }
 }
 
-/// Adds a row if the number in the second list is another one than in the first, or if only one list has the name.
-fn add_place<T: Named>(rows: &mut Rows, change: &str, first: &[T], second: &[T], item: &T)
-    ensures { rows.new ≡ rows.old ++ place_rows change.now T.name_of T.subject_of first.now second.now item.now }
+/// Adds the rows of the names that the other list does not have.
+fn add_lones<T: Named>(rows: &mut Rows, change: &str, list: &[T], others: &[T])
+    ensures { rows.new ≡ rows.old ++ flat_map (lone_rows change.now T.name_of T.subject_of others.now) list.now }
 {
-    let name = item.name();
-    let (own, other) = (place_of(first, name), place_of(second, name));
-    add_number(rows, change, &item.subject(), own, other);
-}
-
-/// Adds the row of a name that the first list does not have.
-fn add_new<T: Named>(rows: &mut Rows, change: &str, first: &[T], second: &[T], item: &T)
-    ensures { rows.new ≡ rows.old ++ new_rows change.now T.name_of T.subject_of first.now second.now item.now }
-{
-    if number_named(first, item.name()).is_none() {
-        add_place(rows, change, first, second, item);
+    for item in list {
+        add_lone(rows, change, others, item);
     }
 }
 
-/// Adds the differences of one name, if the second list has it too.
-fn add_both<T: Named>(rows: &mut Rows, a: &Equipment, b: &Equipment, second: &[T], item: &T)
-    ensures { rows.new ≡ rows.old ++ of_both T.name_of (T.change_rows a.now.receivers b.now.receivers) second.now item.now }
+/// Adds what changes of one name, if the second list has it too.
+fn add_both<T: Named>(
+    alloc: Global,
+    rows: &mut Rows,
+    a: &Equipment,
+    b: &Equipment,
+    second: &[T],
+    item: &T,
+) -> Result<(), AllocError>
+    ensures { Gains result rows.old rows.new (both_named T.name_of T.subject_of T.change_of a.now b.now second.now item.now) }
 {
     if let Some(number) = number_named(second, item.name()) {
-        item.add_changes(&second[number], rows, a, b);
+        let change = item.change(alloc, &second[number], a, b)?;
+        add_change(rows, &item.subject(), &change);
     }
+    Ok(())
 }
 
-/// Adds the rows of the names of the first list.
-fn add_places<T: Named>(rows: &mut Rows, change: &str, first: &[T], second: &[T])
-    ensures { rows.new ≡ rows.old ++ flat_map (place_rows change.now T.name_of T.subject_of first.now second.now) first.now }
+/// Adds what changes of the names that both lists have.
+fn add_boths<T: Named>(
+    alloc: Global,
+    rows: &mut Rows,
+    a: &Equipment,
+    b: &Equipment,
+    first: &[T],
+    second: &[T],
+) -> Result<(), AllocError>
+    ensures { Gains result rows.old rows.new (boths_named T.name_of T.subject_of T.change_of a.now b.now second.now first.now) }
 {
     for item in first {
-        add_place(rows, change, first, second, item);
+        add_both(alloc, rows, a, b, second, item)?;
     }
+    Ok(())
 }
 
-/// Adds the rows of the names that only the second list has.
-fn add_news<T: Named>(rows: &mut Rows, change: &str, first: &[T], second: &[T])
-    ensures { rows.new ≡ rows.old ++ flat_map (new_rows change.now T.name_of T.subject_of first.now second.now) second.now }
-{
-    for item in second {
-        add_new(rows, change, first, second, item);
-    }
-}
-
-/// Adds the differences of the names that both lists have.
-fn add_boths<T: Named>(rows: &mut Rows, a: &Equipment, b: &Equipment, first: &[T], second: &[T])
-    ensures { rows.new ≡ rows.old ++ flat_map (of_both T.name_of (T.change_rows a.now.receivers b.now.receivers) second.now) first.now }
-{
-    for item in first {
-        add_both(rows, a, b, second, item);
-    }
-}
-
-/// Adds a row for each name whose number in the second table is another one than in the first, or that only one table has.
-/// Then adds the differences of the names that both have.
-pub fn add_list<T: Named>(rows: &mut Rows, change: &str, a: &Equipment, b: &Equipment)
-    ensures { rows.new ≡ rows.old ++ table_rows change.now T.name_of T.subject_of T.change_rows T.list_of a.now b.now }
+/// Adds a row for each name that only the first table has, then for each that only the second has. Then adds what changes
+/// of the names that both have. Error: an allocation failed.
+pub fn add_list<T: Named>(
+    alloc: Global,
+    rows: &mut Rows,
+    a: &Equipment,
+    b: &Equipment,
+) -> Result<(), AllocError>
+    ensures { Gains result rows.old rows.new (named_rows T.name_of T.subject_of T.change_of T.list_of a.now b.now) }
 {
     let (first, second) = (T::list(a), T::list(b));
-    add_places(rows, change, first, second);
-    add_news(rows, change, first, second);
-    add_boths(rows, a, b, first, second);
+    add_lones(rows, "removed", first, second);
+    add_lones(rows, "added", second, first);
+    add_boths(alloc, rows, a, b, first, second)
 }

@@ -1,19 +1,23 @@
 //! What differs of the groups that two proposals have, and of their outputs.
-ghost use Rattle.std.specs.Prelude.{◌≡◌, ◌<◌, ◌≤◌, ◌++◌, length};
+ghost use Rattle.std.specs.Prelude.{◌≡◌, ◌<◌, ◌≤◌, ◌++◌, IfOk, IfSome, OnOk, codes, length, string_bytes};
 ghost use Rattle.a429_slots.specs.Tables.{outputs_of};
-ghost use Rattle.a429_documents.specs.Diff.{both_of, compared_rows, count_rows, each_of, group_both_rows, group_moved, groups_rows, is_moved, kept_rows, moved_count, moved_in, only_rows, outputs_rows, pair_rows, size_rows};
+ghost use Rattle.a429_documents.specs.Diff.{both_of, count_rows, each_of, group_both_rows, group_moved, groups_rows, is_moved, kept_gap, kept_rows, moved_count, moved_in, only_rows, outputs_rows, pair_rows, rate_in, size_change, size_rows};
 
 use crate::diff::names::number_named;
-use crate::diff::rows::{Subject, add_number, add_unless};
-use crate::diff::sides::{Compared, Side};
+use crate::diff::rows::{Gap, Subject, add_change, add_row};
+use crate::diff::sides::Side;
+use crate::diff::texts::put_number_change;
 use a429_slots::{OUTPUTS, OutputId, Proposal};
-use a429_text::{Cell, Rows};
+use a429_text::Rows;
+use std::alloc::{AllocError, Global};
 use std::marker::Model;
 
-/// A group that both proposals have: its name, and what each of them has for it.
+/// A group that both proposals have: its name, its bit rate in each, and what each of them has for it.
 #[derive(Drop)]
 struct Both<'a> {
     name: &'a str,
+    rate: u32,
+    new_rate: u32,
     first: Side<'a>,
     second: Side<'a>,
 }
@@ -23,136 +27,175 @@ impl<'a> Model for Both<'a> {
 
     ghost Value = { diff.Both };
 
-    ghost view = { λ g. record { name = g.name.now; first = g.first; second = g.second } };
+    ghost view = { λ g. record { name = g.name.now; rate = g.rate; new_rate = g.new_rate; first = g.first; second = g.second } };
 }
 
-/// Adds a row for each number of an output that differs. The slot has a row only if all slots are requested.
-fn add_compared(rows: &mut Rows, all: bool, subject: &Subject<'_>, x: &Compared, y: &Compared)
-    ensures { rows.new ≡ rows.old ++ compared_rows all subject.now x.now y.now }
+/// The gap of an output of both plans, if the second can follow the first.
+fn gap(has_gap: bool, group: &Both<'_>, output: OutputId, other: OutputId) -> Gap
+    requires rate { 1 ≤ group.now.rate }
+    requires own { output < length (outputs_of group.now.first.table) }
+    requires other { other < length (outputs_of group.now.second.table) }
+    ensures { result ≡ kept_gap has_gap group.now output other }
 {
-    add_number(rows, "min_us", subject, x.min_us, y.min_us);
-    add_number(rows, "max_us", subject, x.max_us, y.max_us);
-    add_number(rows, "period", subject, x.period, y.period);
-    add_number(rows, "hold", subject, x.hold, y.hold);
-    add_number(rows, "bus", subject, x.bus, y.bus);
-    if all {
-        add_number(rows, "slot", subject, x.slot, y.slot);
+    if !has_gap {
+        return Gap::none();
     }
+    let slots = group.first.gap(output, &group.second, other);
+    Gap::of(group.rate, slots, group.second.compared(other).max_us)
 }
 
-/// Adds the rows of an output of both plans.
+/// Adds what changes of an output of both plans.
 fn add_pair(
+    alloc: Global,
     rows: &mut Rows,
     all: bool,
     has_gap: bool,
     group: &Both<'_>,
     output: OutputId,
     other: OutputId,
-)
+) -> Result<(), AllocError>
+    requires rate { 1 ≤ group.now.rate }
     requires own { output < length (outputs_of group.now.first.table) }
     requires other { other < length (outputs_of group.now.second.table) }
-    ensures { rows.new ≡ rows.old ++ pair_rows all has_gap group.now output other }
+    ensures { OnOk result (rows.new ≡ rows.old ++ pair_rows all has_gap group.now output other) }
 {
-    let gap = group.first.gap(output, &group.second, other, has_gap);
+    let gap = gap(has_gap, group, output, other);
     let subject = Subject::of_output(group.name, group.first.name(output), gap);
     let (first, second) = (group.first.compared(output), group.second.compared(other));
-    add_compared(rows, all, &subject, &first, &second);
+    let change = first.change(alloc, all, &second)?;
+    add_change(rows, &subject, &change);
+    Ok(())
 }
 
-/// Adds the rows of an output of the first plan, if the second has it too.
-fn add_kept(rows: &mut Rows, all: bool, has_gap: bool, group: &Both<'_>, output: OutputId)
-    requires { output < length (outputs_of group.now.first.table) }
-    ensures { rows.new ≡ rows.old ++ kept_rows all has_gap group.now output }
+/// Adds what changes of an output of the first plan, if the second has it too.
+fn add_kept(
+    alloc: Global,
+    rows: &mut Rows,
+    all: bool,
+    has_gap: bool,
+    group: &Both<'_>,
+    output: OutputId,
+) -> Result<(), AllocError>
+    requires rate { 1 ≤ group.now.rate }
+    requires known { output < length (outputs_of group.now.first.table) }
+    ensures { OnOk result (rows.new ≡ rows.old ++ kept_rows all has_gap group.now output) }
 {
-    if let Some(other) = group.second.output_named(group.first.name(output)) {
-        add_pair(rows, all, has_gap, group, output, other);
+    match group.second.output_named(group.first.name(output)) {
+        None => Ok(()),
+        Some(other) => add_pair(alloc, rows, all, has_gap, group, output, other),
     }
 }
 
 /// Adds the row of an output of one plan, if the other does not have it.
 fn add_lone<'x>(
     rows: &mut Rows,
+    change: &str,
     group: &'x str,
-    is_second: bool,
     own: &Side<'x>,
     other: &Side<'_>,
     output: OutputId,
 )
     requires { output < length (outputs_of own.now.table) }
-    ensures { rows.new ≡ rows.old ++ only_rows group.now is_second own.now other.now output }
+    ensures { rows.new ≡ rows.old ++ only_rows change.now group.now own.now other.now output }
 {
     let name = own.name(output);
     if other.output_named(name).is_some() {
         return;
     }
-    let subject = Subject::of_output(group, name, Cell::Absent);
-    let period = own.compared(output).period;
-    if is_second {
-        add_number(rows, "output", &subject, None, period);
-    } else {
-        add_number(rows, "output", &subject, period, None);
-    }
+    add_row(rows, &Subject::of_output(group, name, Gap::none()), change);
 }
 
-/// Adds the rows of outputs that both plans have.
-fn add_kepts(rows: &mut Rows, all: bool, has_gap: bool, group: &Both<'_>)
-    ensures { rows.new ≡ rows.old ++ each_of (length (outputs_of group.now.first.table)) (kept_rows all has_gap group.now) }
+/// Adds what changes of the outputs that both plans have.
+fn add_kepts(
+    alloc: Global,
+    rows: &mut Rows,
+    all: bool,
+    has_gap: bool,
+    group: &Both<'_>,
+) -> Result<(), AllocError>
+    requires { 1 ≤ group.now.rate }
+    ensures { OnOk result (rows.new ≡ rows.old ++ each_of (length (outputs_of group.now.first.table)) (kept_rows all has_gap group.now)) }
 {
     for number in 0..group.first.outputs() {
-        add_kept(rows, all, has_gap, group, OutputId::new(number));
+        add_kept(alloc, rows, all, has_gap, group, OutputId::new(number))?;
     }
+    Ok(())
 }
 
 /// Adds the rows of outputs that only one of the plans has.
-fn add_only<'x>(rows: &mut Rows, group: &'x str, is_second: bool, own: &Side<'x>, other: &Side<'_>)
-    ensures { rows.new ≡ rows.old ++ each_of (length (outputs_of own.now.table)) (only_rows group.now is_second own.now other.now) }
+fn add_only<'x>(rows: &mut Rows, change: &str, group: &'x str, own: &Side<'x>, other: &Side<'_>)
+    ensures { rows.new ≡ rows.old ++ each_of (length (outputs_of own.now.table)) (only_rows change.now group.now own.now other.now) }
 {
     for number in 0..own.outputs() {
-        add_lone(rows, group, is_second, own, other, OutputId::new(number));
+        add_lone(rows, change, group, own, other, OutputId::new(number));
     }
 }
 
 /// Adds the rows of the outputs of a group.
-fn add_outputs(rows: &mut Rows, all: bool, has_gap: bool, group: &Both<'_>)
-    ensures { rows.new ≡ rows.old ++ outputs_rows all has_gap group.now }
+fn add_outputs(
+    alloc: Global,
+    rows: &mut Rows,
+    all: bool,
+    has_gap: bool,
+    group: &Both<'_>,
+) -> Result<(), AllocError>
+    requires { 1 ≤ group.now.rate }
+    ensures { OnOk result (rows.new ≡ rows.old ++ outputs_rows all has_gap group.now) }
 {
-    add_kepts(rows, all, has_gap, group);
-    add_only(rows, group.name, false, &group.first, &group.second);
-    add_only(rows, group.name, true, &group.second, &group.first);
+    add_kepts(alloc, rows, all, has_gap, group)?;
+    add_only(rows, "removed", group.name, &group.first, &group.second);
+    add_only(rows, "added", group.name, &group.second, &group.first);
+    Ok(())
 }
 
-/// Adds the rows of the buses and the frame of a group.
-fn add_size(rows: &mut Rows, group: &Both<'_>)
-    ensures { rows.new ≡ rows.old ++ size_rows group.now }
+/// What changes of a group as a whole: its bit rate, its buses and its frame.
+fn size_change(alloc: Global, group: &Both<'_>) -> Result<String, AllocError>
+    ensures { IfOk result (λ text. string_bytes text ≡ size_change group.now) }
 {
-    let subject = Subject::of_group(group.name);
     let (first, second) = (&group.first, &group.second);
-    add_number(
-        rows,
-        "buses",
-        &subject,
-        Some(first.buses()),
-        Some(second.buses()),
-    );
-    add_number(
-        rows,
-        "frame",
-        &subject,
-        Some(first.frame()),
-        Some(second.frame()),
-    );
+    let (rate, new_rate) = (u64::from(group.rate), u64::from(group.new_rate));
+    let (buses, new_buses) = (first.buses(), second.buses());
+    let (frame, new_frame) = (first.frame(), second.frame());
+    let mut text = String::new(alloc);
+    put_number_change(&mut text, "rate", Some(rate), Some(new_rate))?;
+    put_number_change(&mut text, "buses", Some(buses), Some(new_buses))?;
+    put_number_change(&mut text, "frame_slots", Some(frame), Some(new_frame))?;
+    Ok(text)
+}
+
+/// Adds what changes of a group as a whole.
+fn add_size(alloc: Global, rows: &mut Rows, group: &Both<'_>) -> Result<(), AllocError>
+    ensures { OnOk result (rows.new ≡ rows.old ++ size_rows group.now) }
+{
+    let change = size_change(alloc, group)?;
+    add_change(rows, &Subject::of_group(group.name), &change);
+    Ok(())
+}
+
+/// The bit rate of a group in bit/s.
+fn rate_of(proposal: &Proposal<OUTPUTS>, group: usize) -> u32
+    requires { group < length proposal.now.station.groups }
+    ensures rate { result ≡ rate_in proposal.now group }
+    ensures some { 1 ≤ result }
+{
+    let equipment = proposal.equipment();
+    equipment.rows_are_sound();
+    equipment.group_rate(group)
 }
 
 /// A group of the first proposal, if the second has one of its name.
 fn both_of<'a>(a: &'a Proposal<OUTPUTS>, b: &'a Proposal<OUTPUTS>, group: usize) -> Option<Both<'a>>
     requires { group < length a.now.station.groups }
-    ensures { result ≡ both_of a.now b.now group }
+    ensures both { result ≡ both_of a.now b.now group }
+    ensures rate { IfSome result (λ both. 1 ≤ both.rate) }
 {
     let name = a.equipment().groups()[group].name.as_str();
     match number_named(b.equipment().groups(), name) {
         None => None,
         Some(other) => Some(Both {
             name,
+            rate: rate_of(a, group),
+            new_rate: rate_of(b, other),
             first: Side::of(a, group),
             second: Side::of(b, other),
         }),
@@ -161,20 +204,22 @@ fn both_of<'a>(a: &'a Proposal<OUTPUTS>, b: &'a Proposal<OUTPUTS>, group: usize)
 
 /// Adds the rows of a group of the first proposal, if the second has it too.
 fn add_group(
+    alloc: Global,
     rows: &mut Rows,
     all: bool,
     has_gap: bool,
     a: &Proposal<OUTPUTS>,
     b: &Proposal<OUTPUTS>,
     group: usize,
-)
+) -> Result<(), AllocError>
     requires { group < length a.now.station.groups }
-    ensures { rows.new ≡ rows.old ++ group_both_rows all has_gap a.now b.now group }
+    ensures { OnOk result (rows.new ≡ rows.old ++ group_both_rows all has_gap a.now b.now group) }
 {
     if let Some(group) = both_of(a, b, group) {
-        add_size(rows, &group);
-        add_outputs(rows, all, has_gap, &group);
+        add_size(alloc, rows, &group)?;
+        add_outputs(alloc, rows, all, has_gap, &group)?;
     }
+    Ok(())
 }
 
 /// How many groups a proposal has.
@@ -187,24 +232,26 @@ fn groups(proposal: &Proposal<OUTPUTS>) -> usize
     equipment.groups().len()
 }
 
-/// Adds the rows of the groups that both proposals have.
+/// Adds the rows of the groups that both proposals have. Error: an allocation failed.
 pub fn add_groups(
+    alloc: Global,
     rows: &mut Rows,
     all: bool,
     has_gap: bool,
     a: &Proposal<OUTPUTS>,
     b: &Proposal<OUTPUTS>,
-)
-    ensures { rows.new ≡ rows.old ++ groups_rows all has_gap a.now b.now }
+) -> Result<(), AllocError>
+    ensures { OnOk result (rows.new ≡ rows.old ++ groups_rows all has_gap a.now b.now) }
 {
     for group in 0..groups(a) {
-        add_group(rows, all, has_gap, a, b, group);
+        add_group(alloc, rows, all, has_gap, a, b, group)?;
     }
+    Ok(())
 }
 
 // ---- outputs that have moved
 
-/// Whether both plans have an output, and only its slot differs.
+/// Whether both plans have an output, and only its offset differs.
 fn is_moved(group: &Both<'_>, output: OutputId) -> bool
     requires { output < length (outputs_of group.now.first.table) }
     ensures { result ≡ is_moved group.now output }
@@ -255,11 +302,20 @@ fn moved_count(a: &Proposal<OUTPUTS>, b: &Proposal<OUTPUTS>) -> u64
     moved
 }
 
-/// Adds the row with the number of moved outputs, if there are any.
-pub fn add_moved(rows: &mut Rows, a: &Proposal<OUTPUTS>, b: &Proposal<OUTPUTS>)
-    ensures { rows.new ≡ rows.old ++ count_rows (moved_count a.now b.now) }
+/// Adds the row with the number of moved outputs, if there are any. Error: an allocation failed.
+pub fn add_moved(
+    alloc: Global,
+    rows: &mut Rows,
+    a: &Proposal<OUTPUTS>,
+    b: &Proposal<OUTPUTS>,
+) -> Result<(), AllocError>
+    ensures { OnOk result (rows.new ≡ rows.old ++ count_rows (moved_count a.now b.now)) }
 {
     let moved = moved_count(a, b);
-    let (count, none) = (Cell::Number(moved), Cell::Absent);
-    add_unless(rows, moved == 0, "moved", &Subject::table(), count, none);
+    if moved == 0 {
+        return Ok(());
+    }
+    let change = format!(in alloc; "outputs {moved}")?;
+    add_row(rows, &Subject::of_kind("moved"), &change);
+    Ok(())
 }

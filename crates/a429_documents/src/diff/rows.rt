@@ -1,18 +1,75 @@
 //! Rows of what changes.
-ghost use Rattle.std.specs.Prelude.{◌≡◌, ◌∷◌, ◌++◌, []};
+ghost use Rattle.std.specs.Prelude.{◌≡◌, ◌≤◌, ◌^◌, ◌∷◌, ◌++◌, []};
 ghost use Rattle.a429_text.specs.Sheets.{field_of};
-ghost use Rattle.a429_documents.specs.Diff.{change_row, number_field, number_rows, of_group, of_name, of_output, same_number, the_table, unless};
+ghost use Rattle.a429_documents.specs.Diff.{change_row, change_rows, gap_of_slots, no_gap, of_group, of_kind, of_name, of_output, over_time};
 
+use a429_grid::SLOT_TIME;
 use a429_text::{Cell, Rows};
 use std::marker::Model;
 
-/// The subject of a row: a group, a receiver, a source or an output. For an output also the number of slots between its
-/// last send by the first plan and its next send by the second.
+/// From the last send of an output by the first plan to its next send by the second: in slots, in microseconds, and whether
+/// it is above the new maximum.
+#[derive(Drop)]
+pub struct Gap {
+    slots: Cell<'static>,
+    time: Cell<'static>,
+    over_max: Cell<'static>,
+}
+
+impl Model for Gap {
+    ghost use Rattle.a429_text.specs.Sheets.{field_of};
+    ghost use Rattle.a429_documents.specs.Diff as diff;
+
+    ghost Value = { diff.Gap };
+
+    ghost view = { λ g. record { slots = field_of g.slots; time = field_of g.time; over_max = field_of g.over_max } };
+}
+
+/// Whether this time in microseconds is above a maximum, if there is one: `yes` or `no`.
+fn over_cell(time: u64, max_us: Option<u64>) -> Cell<'static>
+    ensures { field_of result ≡ over_time time max_us }
+{
+    match max_us {
+        None => Cell::Absent,
+        Some(max_us) if max_us < time => Cell::Text("yes"),
+        Some(_) => Cell::Text("no"),
+    }
+}
+
+impl Gap {
+    /// There is none.
+    pub fn none() -> Gap
+        ensures { result ≡ no_gap }
+    {
+        Gap {
+            slots: Cell::Absent,
+            time: Cell::Absent,
+            over_max: Cell::Absent,
+        }
+    }
+
+    /// This number of slots at a bit rate in bit/s, and the new maximum.
+    pub fn of(rate: u32, slots: u64, max_us: Option<u64>) -> Gap
+        requires rate { 1 ≤ rate }
+        requires few { slots ≤ 2 ^ 34 }
+        ensures { result ≡ gap_of_slots rate slots max_us }
+    {
+        let time = (SLOT_TIME * slots).div_ceil(u64::from(rate));
+        Gap {
+            slots: Cell::Number(slots),
+            time: Cell::Number(time),
+            over_max: over_cell(time, max_us),
+        }
+    }
+}
+
+/// What a row is about: a kind of thing, the name of its group, and its own name.
 #[derive(Drop)]
 pub struct Subject<'a> {
+    kind: &'static str,
     group: Cell<'a>,
     name: Cell<'a>,
-    gap: Cell<'a>,
+    gap: Gap,
 }
 
 impl<'a> Model for Subject<'a> {
@@ -21,110 +78,81 @@ impl<'a> Model for Subject<'a> {
 
     ghost Value = { diff.Subject };
 
-    ghost view = { λ s. record { group = field_of s.group; name = field_of s.name; gap = field_of s.gap } };
+    ghost view = { λ s. record { kind = s.kind.now; group = field_of s.group; name = field_of s.name; gap = s.gap } };
 }
 
 impl<'a> Subject<'a> {
-    fn new(group: Cell<'a>, name: Cell<'a>, gap: Cell<'a>) -> Subject<'a>
-        ensures { result ≡ record { group = field_of group.entry; name = field_of name.entry; gap = field_of gap.entry } }
+    /// A kind of which there is one.
+    pub fn of_kind(kind: &'static str) -> Subject<'a>
+        ensures { result ≡ of_kind kind.now }
     {
-        Subject { group, name, gap }
+        Subject {
+            kind,
+            group: Cell::Absent,
+            name: Cell::Absent,
+            gap: Gap::none(),
+        }
     }
 
-    /// The table itself.
-    pub fn table() -> Subject<'a>
-        ensures { result ≡ the_table }
+    /// A thing of this kind and name that is in no group.
+    pub fn of_name(kind: &'static str, name: &'a str) -> Subject<'a>
+        ensures { result ≡ of_name kind.now name.now }
     {
-        Subject::new(Cell::Absent, Cell::Absent, Cell::Absent)
-    }
-
-    /// A receiver or a source with this name.
-    pub fn of_name(name: &'a str) -> Subject<'a>
-        ensures { result ≡ of_name name.now }
-    {
-        Subject::new(Cell::Absent, Cell::Text(name), Cell::Absent)
+        Subject {
+            kind,
+            group: Cell::Absent,
+            name: Cell::Text(name),
+            gap: Gap::none(),
+        }
     }
 
     /// The group of this name.
     pub fn of_group(group: &'a str) -> Subject<'a>
         ensures { result ≡ of_group group.now }
     {
-        Subject::new(Cell::Text(group), Cell::Absent, Cell::Absent)
+        Subject {
+            kind: "group",
+            group: Cell::Text(group),
+            name: Cell::Absent,
+            gap: Gap::none(),
+        }
     }
 
     /// The output of a group, by the name of its source.
-    pub fn of_output(group: &'a str, name: &'a str, gap: Cell<'a>) -> Subject<'a>
-        ensures { result ≡ of_output group.now name.now (field_of gap.entry) }
+    pub fn of_output(group: &'a str, name: &'a str, gap: Gap) -> Subject<'a>
+        ensures { result ≡ of_output group.now name.now gap }
     {
-        Subject::new(Cell::Text(group), Cell::Text(name), gap)
+        Subject {
+            kind: "output",
+            group: Cell::Text(group),
+            name: Cell::Text(name),
+            gap,
+        }
     }
 }
 
-/// Adds a row, unless both tables have the same value. The row has the change, the subject and both values.
-pub fn add_unless(
-    rows: &mut Rows,
-    same: bool,
-    change: &str,
-    subject: &Subject<'_>,
-    first: Cell<'_>,
-    second: Cell<'_>,
-)
-    ensures { rows.new ≡ rows.old ++ unless same (change_row change.now subject.now (field_of first.entry) (field_of second.entry)) }
+/// Adds a row of a subject.
+pub fn add_row(rows: &mut Rows, subject: &Subject<'_>, change: &str)
+    ensures { rows.new ≡ rows.old ++ change_row subject.now change.now ∷ [] }
 {
-    if !same {
-        let (group, name, gap) = (subject.group, subject.name, subject.gap);
-        rows.add(&[Cell::Text(change), group, name, first, second, gap]);
-    }
+    let gap = &subject.gap;
+    rows.add(&[
+        Cell::Text(subject.kind),
+        subject.group,
+        subject.name,
+        Cell::Text(change),
+        gap.slots,
+        gap.time,
+        gap.over_max,
+    ]);
 }
 
-/// The cell of a number, which says nothing for `None`.
-pub fn number_cell(number: Option<u64>) -> Cell<'static>
-    ensures { field_of result ≡ number_field number }
+/// Adds a row of what changes of a subject, unless the text says nothing.
+#[tactic(auto, unfolding(crate::specs::Diff::change_rows))]
+pub fn add_change(rows: &mut Rows, subject: &Subject<'_>, change: &str)
+    ensures { rows.new ≡ rows.old ++ change_rows subject.now change.now }
 {
-    match number {
-        None => Cell::Absent,
-        Some(number) => Cell::Number(number),
+    if !change.is_empty() {
+        add_row(rows, subject, change);
     }
-}
-
-/// Whether both are the same number, or both are `None`.
-pub fn same_number(first: Option<u64>, second: Option<u64>) -> bool
-    ensures { result ≡ same_number first second }
-{
-    match (first, second) {
-        (None, None) => true,
-        (Some(first), Some(second)) => first == second,
-        _ => false,
-    }
-}
-
-/// A number of 32 bits, as rows write it; `None` stays `None`.
-pub fn wide(number: Option<u32>) -> Option<u64>
-    ensures { result ≡ number }
-{
-    match number {
-        None => None,
-        Some(number) => Some(u64::from(number)),
-    }
-}
-
-/// Adds the row of a number that differs, or that one side does not have.
-pub fn add_number(
-    rows: &mut Rows,
-    change: &str,
-    subject: &Subject<'_>,
-    first: Option<u64>,
-    second: Option<u64>,
-)
-    ensures { rows.new ≡ rows.old ++ number_rows change.now subject.now first second }
-{
-    let same = same_number(first, second);
-    add_unless(
-        rows,
-        same,
-        change,
-        subject,
-        number_cell(first),
-        number_cell(second),
-    );
 }

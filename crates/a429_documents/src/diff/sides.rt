@@ -1,14 +1,13 @@
 //! A group of one proposal, and its outputs.
-ghost use Rattle.std.specs.Prelude.{◌≡◌, ◌<◌, ◌≤◌, IfSome, Some, length, option_map, slice_get};
-ghost use Rattle.a429_text.specs.Sheets.{field_of};
+ghost use Rattle.std.specs.Prelude.{◌≡◌, ◌<◌, ◌≤◌, ◌^◌, IfOk, IfSome, Some, length, option_map, slice_get, string_bytes};
 ghost use Rattle.a429_slots.specs.Tables.{buses_of, frame_of, outputs_of, placed_at};
 ghost use Rattle.a429_cert.specs.PlanText.{source_name};
-ghost use Rattle.a429_documents.specs.Diff.{compared_at, compared_of, gap_field, has_moved, name_at, output_named, sent_by};
+ghost use Rattle.a429_documents.specs.Diff.{compared_at, compared_change, compared_of, gap_of, has_moved, name_at, output_named, sent_by};
 
-use crate::diff::rows::{same_number, wide};
+use crate::diff::texts::{put_counts, put_number_change, same_number, wide};
 use a429_equipment::{OutputRow, SourceRow};
 use a429_slots::{GroupPlan, OUTPUTS, OutputId, Proposal, SendLimits, SlotPlace};
-use a429_text::Cell;
+use std::alloc::{AllocError, Global};
 use std::marker::Model;
 
 /// The values of an output that are compared.
@@ -20,11 +19,11 @@ pub struct Compared {
     pub period: Option<u64>,
     pub hold: Option<u64>,
     pub bus: Option<u64>,
-    pub slot: Option<u64>,
+    pub offset: Option<u64>,
 }
 
 impl Compared {
-    /// Whether only the slot differs.
+    /// Whether only the offset differs.
     pub fn has_moved(&self, other: &Compared) -> bool
         ensures { result ≡ has_moved self.now other.now }
     {
@@ -33,7 +32,23 @@ impl Compared {
             && same_number(self.period, other.period)
             && same_number(self.hold, other.hold)
             && same_number(self.bus, other.bus)
-            && !same_number(self.slot, other.slot)
+            && !same_number(self.offset, other.offset)
+    }
+
+    /// Each number that differs from that of another output, as a text; the offset only if all are requested. Error: an
+    /// allocation failed.
+    pub fn change(&self, alloc: Global, all: bool, other: &Compared) -> Result<String, AllocError>
+        ensures { IfOk result (λ text. string_bytes text ≡ compared_change all self.now other.now) }
+    {
+        let still = !all || same_number(self.offset, other.offset);
+        let mut text = String::new(alloc);
+        put_number_change(&mut text, "min_us", self.min_us, other.min_us)?;
+        put_number_change(&mut text, "max_us", self.max_us, other.max_us)?;
+        put_number_change(&mut text, "period_slots", self.period, other.period)?;
+        put_number_change(&mut text, "hold", self.hold, other.hold)?;
+        put_number_change(&mut text, "bus", self.bus, other.bus)?;
+        put_counts(&mut text, still, "offset", self.offset, other.offset)?;
+        Ok(text)
     }
 }
 
@@ -88,7 +103,7 @@ fn compared_of(
         period: Some(u64::from(place.period.slots())),
         hold: wide(hold),
         bus: Some(u64::from(place.bus)),
-        slot: Some(u64::from(place.offset)),
+        offset: Some(u64::from(place.offset)),
     }
 }
 
@@ -169,29 +184,21 @@ impl<'a> Side<'a> {
     }
 
     /// The number of slots from an output's last send by this plan to its next send by the other plan, if no hold is used
-    /// up. It is absent if the other plan cannot follow.
-    pub fn gap(
-        &self,
-        output: OutputId,
-        other: &Side<'_>,
-        next: OutputId,
-        has_gap: bool,
-    ) -> Cell<'static>
+    /// up.
+    pub fn gap(&self, output: OutputId, other: &Side<'_>, next: OutputId) -> u64
         requires own { output < length (outputs_of self.now.table) }
         requires other { next < length (outputs_of other.now.table) }
-        ensures { field_of result ≡ gap_field has_gap (placed_at self.now.table output) (placed_at other.now.table next) }
+        ensures value { result ≡ gap_of (placed_at self.now.table output) (placed_at other.now.table next) }
+        ensures few { result ≤ 2 ^ 34 }
     {
-        if !has_gap {
-            return Cell::Absent;
-        }
         let (place, _limits) = self.placed(output);
         let (next_place, limits) = other.placed(next);
         let left = place.period.slots().saturating_sub(place.offset);
         let first = u64::from(left) + u64::from(next_place.offset);
         if first < u64::from(limits.spacing) {
-            Cell::Number(first + u64::from(next_place.period.slots()))
+            first + u64::from(next_place.period.slots())
         } else {
-            Cell::Number(first)
+            first
         }
     }
 }

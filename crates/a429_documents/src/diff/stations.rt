@@ -1,23 +1,23 @@
 //! What differs of the stations of two tables.
-ghost use Rattle.std.specs.Prelude.{◌≡◌, ◌==◌, ◌<◌, ◌++◌, length};
-ghost use Rattle.a429_text.specs.Sheets.{field_of};
-ghost use Rattle.a429_documents.specs.Diff.{filter_count, filter_rows, label_rows, of_group, of_name, rate_rows, sdi_or_any, sdi_rows, source_receiver_rows, source_rows, station_rows};
+ghost use Rattle.std.specs.Prelude.{◌≡◌, ◌==◌, ◌<◌, ◌++◌, IfOk, OnOk, codes, length, string_bytes};
+ghost use Rattle.a429_documents.specs.Diff.{filter_change, filter_count, lists_rows, no_change, of_group, of_name, source_change, station_rows, with_label, with_receiver, with_sdi};
 
 use crate::diff::names::{Named, add_list};
-use crate::diff::rows::{Subject, add_number, add_unless};
-use crate::document::receiver_name;
+use crate::diff::rows::{Subject, add_row};
+use crate::diff::texts::{put_change, put_counts};
+use crate::document::{receiver_name, sdi_text};
 use a429_equipment::{Equipment, GroupRow, ReceiverRow, SourceRow, same_filters, same_sdi};
 use a429_filter::FilterSet;
-use a429_text::{Cell, Rows};
-use a429_word::Sdi;
+use a429_text::Rows;
+use std::alloc::{AllocError, Global};
 
 /// The number of filters, if there is a list.
-fn filter_count(filters: &FilterSet) -> Cell<'static>
-    ensures { field_of result ≡ filter_count filters.now }
+fn filter_count(filters: &FilterSet) -> Option<u64>
+    ensures { result ≡ filter_count filters.now }
 {
     match filters.list() {
-        None => Cell::Absent,
-        Some(list) => Cell::Number(list.len() as u64),
+        None => None,
+        Some(list) => Some(list.len() as u64),
     }
 }
 
@@ -26,9 +26,9 @@ impl Named for ReceiverRow {
 
     ghost name_of = { λ r. r.name };
 
-    ghost subject_of = { λ r. of_name r.name };
+    ghost subject_of = { λ r. of_name (codes "receiver") r.name };
 
-    ghost change_rows = { λ own others. filter_rows };
+    ghost change_of = { λ own others. filter_change };
 
     fn list(equipment: &Equipment) -> &[Self] {
         equipment.receivers()
@@ -39,82 +39,54 @@ impl Named for ReceiverRow {
     }
 
     fn subject(&self) -> Subject<'_> {
-        Subject::of_name(self.name.as_str())
+        Subject::of_name("receiver", self.name.as_str())
     }
 
-    fn add_changes(&self, other: &Self, rows: &mut Rows, _a: &Equipment, _b: &Equipment) {
+    fn change(
+        &self,
+        alloc: Global,
+        other: &Self,
+        _a: &Equipment,
+        _b: &Equipment,
+    ) -> Result<String, AllocError> {
         let same = same_filters(&self.filters, &other.filters);
         let (own, others) = (filter_count(&self.filters), filter_count(&other.filters));
-        add_unless(rows, same, "filters", &self.subject(), own, others);
+        let mut text = String::new(alloc);
+        put_counts(&mut text, same, "filters", own, others)?;
+        Ok(text)
     }
 }
 
-/// An SDI, or `any`.
-fn sdi_or_any(sdi: Option<Sdi>) -> Cell<'static>
-    ensures { field_of result ≡ sdi_or_any sdi }
+/// Writes the receiver of a source, if its name differs.
+fn put_receiver(text: &mut String, own: &str, other: &str) -> Result<(), AllocError>
+    ensures { OnOk result (string_bytes text.new ≡ with_receiver own.now other.now (string_bytes text.old)) }
 {
-    match sdi {
-        None => Cell::Text("any"),
-        Some(sdi) => Cell::Number(u64::from(sdi.value())),
-    }
+    put_change(text, own == other, "receiver", own, other)
 }
 
-/// Adds the row of the receiver of a source, if its name differs.
-fn add_receiver(
-    rows: &mut Rows,
-    a: &Equipment,
-    b: &Equipment,
+/// Writes the label of a source, if it differs.
+fn put_label(
+    alloc: Global,
+    text: &mut String,
     source: &SourceRow,
     other: &SourceRow,
-)
-    ensures { rows.new ≡ rows.old ++ source_receiver_rows a.now.receivers b.now.receivers source.now other.now }
+) -> Result<(), AllocError>
+    ensures { OnOk result (string_bytes text.new ≡ with_label source.now.label other.now.label (string_bytes text.old)) }
 {
-    let (own, others) = (
-        receiver_name(a.receivers(), source.receiver),
-        receiver_name(b.receivers(), other.receiver),
-    );
-    let (first, second) = (Cell::Text(own), Cell::Text(others));
-    add_unless(
-        rows,
-        own == others,
-        "source-receiver",
-        &source.subject(),
-        first,
-        second,
-    );
+    let first = format!(in alloc; "{}", source.label)?;
+    let second = format!(in alloc; "{}", other.label)?;
+    let same = source.label == other.label;
+    put_change(text, same, "label", &first, &second)
 }
 
-/// Adds the row of the label of a source, if it differs.
-fn add_label(rows: &mut Rows, source: &SourceRow, other: &SourceRow)
-    ensures { rows.new ≡ rows.old ++ label_rows source.now other.now }
+/// Writes the SDI of a source, if it differs.
+fn put_sdi(text: &mut String, source: &SourceRow, other: &SourceRow) -> Result<(), AllocError>
+    ensures { OnOk result (string_bytes text.new ≡ with_sdi source.now.sdi other.now.sdi (string_bytes text.old)) }
 {
-    let (first, second) = (
-        Cell::Octal(source.label.value()),
-        Cell::Octal(other.label.value()),
-    );
-    add_unless(
-        rows,
-        source.label == other.label,
-        "label",
-        &source.subject(),
-        first,
-        second,
-    );
-}
-
-/// Adds the row of the SDI of a source, if it differs.
-fn add_sdi(rows: &mut Rows, source: &SourceRow, other: &SourceRow)
-    ensures { rows.new ≡ rows.old ++ sdi_rows source.now other.now }
-{
-    let (first, second) = (sdi_or_any(source.sdi), sdi_or_any(other.sdi));
-    add_unless(
-        rows,
-        same_sdi(source.sdi, other.sdi),
-        "sdi",
-        &source.subject(),
-        first,
-        second,
-    );
+    let same = same_sdi(source.sdi, other.sdi);
+    let first = sdi_text(source.sdi);
+    let second = sdi_text(other.sdi);
+    put_change(text, same, "sdi", first, second)
 }
 
 impl Named for SourceRow {
@@ -122,9 +94,9 @@ impl Named for SourceRow {
 
     ghost name_of = { λ s. s.name };
 
-    ghost subject_of = { λ s. of_name s.name };
+    ghost subject_of = { λ s. of_name (codes "source") s.name };
 
-    ghost change_rows = { source_rows };
+    ghost change_of = { source_change };
 
     fn list(equipment: &Equipment) -> &[Self] {
         equipment.sources()
@@ -135,13 +107,23 @@ impl Named for SourceRow {
     }
 
     fn subject(&self) -> Subject<'_> {
-        Subject::of_name(self.name.as_str())
+        Subject::of_name("source", self.name.as_str())
     }
 
-    fn add_changes(&self, other: &Self, rows: &mut Rows, a: &Equipment, b: &Equipment) {
-        add_receiver(rows, a, b, self, other);
-        add_label(rows, self, other);
-        add_sdi(rows, self, other);
+    fn change(
+        &self,
+        alloc: Global,
+        other: &Self,
+        a: &Equipment,
+        b: &Equipment,
+    ) -> Result<String, AllocError> {
+        let own = receiver_name(a.receivers(), self.receiver);
+        let others = receiver_name(b.receivers(), other.receiver);
+        let mut text = String::new(alloc);
+        put_receiver(&mut text, own, others)?;
+        put_label(alloc, &mut text, self, other)?;
+        put_sdi(&mut text, self, other)?;
+        Ok(text)
     }
 }
 
@@ -152,7 +134,7 @@ impl Named for GroupRow {
 
     ghost subject_of = { λ g. of_group g.name };
 
-    ghost change_rows = { λ own others. rate_rows };
+    ghost change_of = { λ own others. no_change };
 
     fn list(equipment: &Equipment) -> &[Self] {
         equipment.groups()
@@ -166,17 +148,37 @@ impl Named for GroupRow {
         Subject::of_group(self.name.as_str())
     }
 
-    fn add_changes(&self, other: &Self, rows: &mut Rows, _a: &Equipment, _b: &Equipment) {
-        let (own, others) = (u64::from(self.rate), u64::from(other.rate));
-        add_number(rows, "rate", &self.subject(), Some(own), Some(others));
+    fn change(
+        &self,
+        alloc: Global,
+        _other: &Self,
+        _a: &Equipment,
+        _b: &Equipment,
+    ) -> Result<String, AllocError> {
+        Ok(String::new(alloc))
     }
 }
 
-/// Adds the rows of the station. There is no such row if and only if the two tables are of one station.
+/// Adds the row that the two tables are of two stations, if they are.
 pub fn add_station(rows: &mut Rows, a: &Equipment, b: &Equipment)
     ensures { rows.new ≡ rows.old ++ station_rows a.now b.now }
 {
-    add_list::<ReceiverRow>(rows, "receiver", a, b);
-    add_list::<SourceRow>(rows, "source", a, b);
-    add_list::<GroupRow>(rows, "group", a, b);
+    if a.same_station(b) {
+        return;
+    }
+    add_row(rows, &Subject::of_kind("station"), "another");
+}
+
+/// Adds the rows of receivers and sources, and of the groups that only one table has. Error: an allocation failed.
+pub fn add_lists(
+    alloc: Global,
+    rows: &mut Rows,
+    a: &Equipment,
+    b: &Equipment,
+) -> Result<(), AllocError>
+    ensures { OnOk result (rows.new ≡ rows.old ++ lists_rows a.now b.now) }
+{
+    add_list::<ReceiverRow>(alloc, rows, a, b)?;
+    add_list::<SourceRow>(alloc, rows, a, b)?;
+    add_list::<GroupRow>(alloc, rows, a, b)
 }

@@ -2,7 +2,7 @@
 ghost use Rattle.std.specs.Prelude.{◌≡◌, ◌≤◌, IfOk, length, map};
 ghost use Rattle.a429_pack.specs.Demanded.{demand_of};
 ghost use Rattle.a429_pack.specs.Demands.{exponent_of, exponents_of, frame_of};
-ghost use Rattle.a429_documents.specs.Lint.{AreAsked, are_fit, bus_count};
+ghost use Rattle.a429_documents.specs.Lint.{AreAsked, are_fit, bus_count, filled_from, planned_buses};
 
 use a429_equipment::Equipment;
 use a429_grid::Period;
@@ -75,4 +75,25 @@ pub fn bus_count(demands: &[Demand]) -> u32
 {
     let frame = frame_of(demands);
     cells_of(demands, frame).div_ceil(frame.slots())
+}
+
+/// The buses of a group, if it can be planned; 0 otherwise.
+pub fn planned_buses(demands: &[Demand]) -> u32
+    requires few { length demands.now ≤ 128 }
+    ensures { result ≡ planned_buses demands.now }
+{
+    let buses = bus_count(demands);
+    if are_fit(demands) && buses <= 16 {
+        buses
+    } else {
+        0
+    }
+}
+
+/// The cells of a frame that are filled from the first of a bus on, if this number is left.
+pub fn filled_from(left: u64, frame: u64) -> u64
+    ensures value { result ≡ filled_from left frame }
+    ensures few { result ≤ frame }
+{
+    if left < frame { left } else { frame }
 }

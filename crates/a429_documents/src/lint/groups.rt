@@ -1,12 +1,14 @@
 //! The findings in the groups of an equipment.
-ghost use Rattle.std.specs.Prelude.{◌≡◌, ◌<◌, ◌≤◌, ◌++◌, ◌∷◌, [], length, map};
+ghost use Rattle.std.specs.Prelude.{◌≡◌, ◌<◌, ◌≤◌, ◌^◌, ◌++◌, ◌∷◌, [], length, map};
+ghost use Rattle.a429_text.specs.Sheets.{field_of};
 ghost use Rattle.a429_slots.specs.Planned.{HaveSources};
-ghost use Rattle.a429_documents.specs.Lint.{AreAsked, alike_row, alike_rows, are_alike, finding_row, full_rows, group_finding, group_findings, is_full, needed_row, needs_too_many, of_each, one_is_any, output_name, too_many_rows, unfit_rows};
+ghost use Rattle.a429_documents.specs.Lint.{AreAsked, alike_row, alike_rows, are_alike, coarse_row, coarse_rows, crowded_row, crowded_rows, finding_row, full_rows, group_finding, group_findings, is_coarse, is_full, load_row, max_of, needed_row, needs_too_many, of_each, one_is_any, output_name, planned_buses, too_many_rows, unfit_rows};
 
 use crate::document::number;
 use crate::lint::GroupFinding;
-use crate::lint::demands::{are_fit, bus_count, cells_of, frame_of};
-use a429_equipment::{Equipment, OutputRow, SourceRow};
+use crate::lint::demands::{are_fit, bus_count, cells_of, filled_from, frame_of, planned_buses};
+use a429_equipment::{Equipment, GroupRow, OutputRow, SourceRow};
+use a429_grid::{Period, SLOT_TIME};
 use a429_pack::Demand;
 use a429_text::{Cell, Rows};
 use a429_word::Sdi;
@@ -39,6 +41,30 @@ fn add_finding<'a>(
         source,
         other,
         number,
+        nothing,
+    ]);
+}
+
+/// Adds a load of a group in tenths of a per cent of a bus: of one of its sources, or of a bus.
+fn add_load<'a>(
+    found: &mut Rows,
+    finding: &'a str,
+    group: &'a str,
+    source: Cell<'a>,
+    bus: Cell<'a>,
+    tenths: u64,
+)
+    ensures { found.new ≡ found.old ++ load_row finding.now group.now (field_of source.entry) (field_of bus.entry) tenths ∷ [] }
+{
+    let nothing = Cell::Absent;
+    found.add(&[
+        Cell::Text(finding),
+        Cell::Text(group),
+        nothing,
+        source,
+        nothing,
+        bus,
+        Cell::Tenths(tenths),
     ]);
 }
 
@@ -218,12 +244,104 @@ fn add_full(found: &mut Rows, group: &str, demands: &[Demand])
     }
 }
 
+/// The maximum interval of an output, in microseconds; 0 if there is no such output.
+fn max_of(rows: &[OutputRow], output: usize) -> u32
+    ensures { result ≡ max_of rows.now output }
+{
+    match rows.get(output) {
+        None => 0,
+        Some(row) => row.max_us,
+    }
+}
+
+/// Whether a grid period is shorter than two thirds of a maximum interval in microseconds, at a bit rate in bit/s.
+fn is_coarse(rate: u32, max_us: u32, period: Period) -> bool
+    ensures { result ≡ is_coarse rate max_us period }
+{
+    3 * SLOT_TIME * u64::from(period.slots()) / 2 < u64::from(max_us) * u64::from(rate)
+}
+
+/// Adds the period of an output, if it is shorter than two thirds of the maximum interval.
+fn add_period<'a>(
+    found: &mut Rows,
+    group: &'a str,
+    source: &'a str,
+    rate: u32,
+    max_us: u32,
+    period: Option<Period>,
+)
+    ensures { found.new ≡ found.old ++ coarse_row group.now source.now rate max_us period }
+{
+    let Some(period) = period else {
+        return;
+    };
+    if is_coarse(rate, max_us, period) {
+        let tenths = 1000u64.div_ceil(u64::from(period.slots()));
+        let source = Cell::Text(source);
+        add_load(found, "coarse", group, source, Cell::Absent, tenths);
+    }
+}
+
+/// Adds the outputs whose period is shorter than two thirds of their maximum interval.
+fn add_coarses(
+    found: &mut Rows,
+    sources: &[SourceRow],
+    group: &GroupRow,
+    rows: &[OutputRow],
+    demands: &[Demand],
+)
+    requires known { HaveSources sources.now rows.now }
+    requires each { length demands.now ≡ length rows.now }
+    ensures { found.new ≡ found.old ++ of_each (length rows.now) (coarse_rows sources.now group.now.name group.now.rate rows.now demands.now) }
+{
+    for output in 0..rows.len() {
+        let source = output_name(sources, rows, output);
+        let period = demands[output].period;
+        let name = group.name.as_str();
+        add_period(
+            found,
+            name,
+            source,
+            group.rate,
+            max_of(rows, output),
+            period,
+        );
+    }
+}
+
+/// Adds a bus of which more than 80 per cent of the cells are filled.
+fn add_crowded(found: &mut Rows, group: &str, bus: u32, frame: u64, cells: u64)
+    requires some { 1 ≤ frame }
+    requires frame { frame ≤ 2 ^ 32 }
+    requires cells { cells ≤ frame }
+    ensures { found.new ≡ found.old ++ crowded_row group.now bus frame cells }
+{
+    if 80 * frame < 100 * cells {
+        let tenths = (1000 * cells).div_ceil(frame);
+        add_load(found, "crowded", group, Cell::Absent, number(bus), tenths);
+    }
+}
+
+/// Adds the buses of a group of which more than 80 per cent of the cells are filled.
+fn add_buses(found: &mut Rows, group: &str, demands: &[Demand])
+    requires few { length demands.now ≤ 128 }
+    ensures { found.new ≡ found.old ++ of_each (planned_buses demands.now) (crowded_rows group.now demands.now) }
+{
+    let period = frame_of(demands);
+    let frame = u64::from(period.slots());
+    let cells = u64::from(cells_of(demands, period));
+    for bus in 0..planned_buses(demands) {
+        let left = cells.saturating_sub(u64::from(bus) * frame);
+        add_crowded(found, group, bus, frame, filled_from(left, frame));
+    }
+}
+
 /// Adds the findings of one kind in a group.
 fn add_group(
     found: &mut Rows,
     sources: &[SourceRow],
     kind: GroupFinding,
-    group: &str,
+    group: &GroupRow,
     rows: &[OutputRow],
     demands: &[Demand],
 )
@@ -232,11 +350,14 @@ fn add_group(
     requires few { length demands.now ≤ 128 }
     ensures { found.new ≡ found.old ++ group_finding sources.now kind group.now rows.now demands.now }
 {
+    let name = group.name.as_str();
     match kind {
-        GroupFinding::Unfit => add_unfits(found, sources, group, rows, demands),
-        GroupFinding::TooManyBuses => add_too_many(found, group, demands),
-        GroupFinding::Alike => add_alikes(found, sources, group, rows, demands),
-        GroupFinding::Full => add_full(found, group, demands),
+        GroupFinding::Unfit => add_unfits(found, sources, name, rows, demands),
+        GroupFinding::TooManyBuses => add_too_many(found, name, demands),
+        GroupFinding::Alike => add_alikes(found, sources, name, rows, demands),
+        GroupFinding::Full => add_full(found, name, demands),
+        GroupFinding::Coarse => add_coarses(found, sources, group, rows, demands),
+        GroupFinding::Crowded => add_buses(found, name, demands),
     }
 }
 
@@ -254,8 +375,8 @@ pub fn add_groups(
     let sources = equipment.sources();
     let groups = equipment.groups();
     for number in 0..groups.len() {
-        let name = groups[number].name.as_str();
         let rows = equipment.outputs(number);
-        add_group(found, sources, kind, name, rows, &asked[number]);
+        let group = &groups[number];
+        add_group(found, sources, kind, group, rows, &asked[number]);
     }
 }

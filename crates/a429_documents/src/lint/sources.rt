@@ -43,6 +43,7 @@ fn add_finding<'a>(found: &mut Rows, finding: &'a str, source: &'a SourceRow)
         Cell::Text(source.name.as_str()),
         Cell::Absent,
         Cell::Absent,
+        Cell::Absent,
     ]);
 }
 

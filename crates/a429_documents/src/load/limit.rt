@@ -114,12 +114,12 @@ fn needed_buses(table: &GroupPlan<OUTPUTS>, capacity: u32) -> Option<u64>
     Some(buses_within(table, capacity))
 }
 
-/// A number of buses, or `none`.
+/// A number of buses, 0 for `None`.
 fn buses_cell(buses: Option<u64>) -> Cell<'static>
     ensures { field_of result ≡ buses_field buses }
 {
     match buses {
-        None => Cell::Text("none"),
+        None => Cell::Number(0),
         Some(buses) => Cell::Number(buses),
     }
 }

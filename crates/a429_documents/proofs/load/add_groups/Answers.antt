@@ -43,7 +43,7 @@ loop-number-preserved c =
     let here : slice_get e.groups i ≡ Some row = ap (λ (gs : List GroupRow). slice_get gs i) (sym groups) ∙ read_is c.groups-groups.result.now i row c.loop-number-test.true c.index-groups-number.is in
     let there : slice_get (groups_of p) i ≡ Some t = ap (λ (p : PlanTable). slice_get (groups_of p) i) (sym c.plan.ensures.plan) ∙ c.group-table.ensures in
     record {
-      rows = groups_more c.args.limit c.args.shown e.groups (groups_of p) i row t c.loop-number.rows c.add_group-above.new.rows _ here there c.loop-number.invariant.rows c.add_group-above.ensures.rows;
+      rows = groups_more c.args.limit e.groups (groups_of p) i row t c.loop-number.rows c.add_group-above.new.rows _ here there c.loop-number.invariant.rows c.add_group-above.ensures.rows;
       above = any_more (has_above c.args.limit) (groups_of p) i t c.loop-number.above _ there c.loop-number.invariant.above (ap (λ (b : Bool). c.loop-number.above || b) c.add_group-above.ensures.above);
     }
 
@@ -52,4 +52,4 @@ returns-clause-rows c =
     let e : TableRecord = c.args.proposal.now.station in
     let groups : c.groups-groups.result.now ≡ e.groups = c.groups-groups.ensures.rows ∙ ap (λ (e : TableRecord). e.groups) c.equipment-equipment.ensures.equipment in
     let past : length e.groups ≤ c.loop-number.number = subst (λ (gs : List GroupRow). length gs ≤ c.loop-number.number) groups c.loop-number-test.false in
-    groups_whole c.args.limit c.args.shown e.groups (groups_of c.args.proposal.now.plan) c.loop-number.number c.loop-number.rows _ past c.loop-number.invariant.rows
+    groups_whole c.args.limit e.groups (groups_of c.args.proposal.now.plan) c.loop-number.number c.loop-number.rows _ past c.loop-number.invariant.rows

@@ -4,12 +4,12 @@ use Rattle.a429_documents.specs.Load.{cells_on}
 use Rattle.a429_documents.proofs.BusLoads.{bus_count, total_is}
 use Rattle.a429_documents.proofs.load.add_total.Goals as goal
 
-pub add_row-requires-clause-some : goal.add_row-requires-clause-some
-add_row-requires-clause-some c = omega (arith, bus_count (cells_on c.args.table.now) (buses_of c.args.table.now) c.args.loads.now c.requires.loads, c.requires.some)
+pub add_rows-requires-clause-some : goal.add_rows-requires-clause-some
+add_rows-requires-clause-some c = omega (arith, bus_count (cells_on c.args.table.now) (buses_of c.args.table.now) c.args.loads.now c.requires.loads, c.requires.some)
 
-pub add_row-requires-clause-few : goal.add_row-requires-clause-few
-add_row-requires-clause-few c = omega (arith, bus_count (cells_on c.args.table.now) (buses_of c.args.table.now) c.args.loads.now c.requires.loads, c.requires.few)
+pub add_rows-requires-clause-few : goal.add_rows-requires-clause-few
+add_rows-requires-clause-few c = omega (arith, bus_count (cells_on c.args.table.now) (buses_of c.args.table.now) c.args.loads.now c.requires.loads, c.requires.few)
 
 pub returns : goal.returns
 returns c =
-    total_is c.args.limit c.args.shown c.args.group.now c.args.table.now c.frame.result c.args.loads.now _ c.args.rows.now c.add_row.new.rows c.frame.ensures.value c.requires.loads c.needed_cell-needed.ensures c.add_row.ensures
+    total_is c.args.limit c.args.group.now c.args.table.now c.frame.result c.args.loads.now _ c.args.rows.now c.add_rows.new.rows c.frame.ensures.value c.requires.loads c.needed_cell-needed.ensures c.add_rows.ensures

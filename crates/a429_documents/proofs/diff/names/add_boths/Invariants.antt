@@ -5,4 +5,6 @@ use Rattle.a429_documents.proofs.diff.names.add_boths.Given as goal
 
 abbrev pub invariant-loop-item : goal.invariant-loop-item
 invariant-loop-item g l =
-    l.rows ≡ l.fn.rows ++ flat_map (of_both g.T.Named.name_of (g.T.Named.change_rows l.a.receivers l.b.receivers) l.second) (take l.item-index l.first)
+    l.rows
+    ≡ l.fn.rows
+    ++ flat_map (of_both g.T.Named.name_of g.T.Named.subject_of (g.T.Named.change_of l.a.receivers l.b.receivers) l.second) (take l.item-index l.first)

@@ -7,4 +7,4 @@ use Rattle.a429_documents.proofs.diff.outputs.add_groups.Goals as goal
 pub loop-group-preserved : goal.loop-group-preserved
 loop-group-preserved c =
     let rows : ℕ → List (List Field) = group_both_rows c.args.all c.args.has_gap c.args.a.now c.args.b.now in
-    rows_more rows c.loop-group.rows c.add_group.new.rows c.args.rows.now c.loop-group.group c.loop-group.invariant c.add_group.ensures
+    rows_more rows c.loop-group.rows c.add_group.new.rows c.args.rows.now c.loop-group.group c.loop-group.invariant c.in_ok-add_group.ensures

@@ -8,4 +8,4 @@ pub loop-number-preserved : goal.loop-number-preserved
 loop-number-preserved c =
     let rows : ℕ → List (List Field) = kept_rows c.args.all c.args.has_gap c.args.group.now in
     rows_more rows c.loop-number.rows c.add_kept.new.rows c.args.rows.now c.loop-number.number c.loop-number.invariant
-    (subst (λ (o : ℕ). c.add_kept.new.rows ≡ c.loop-number.rows ++ rows o) c.new.ensures c.add_kept.ensures)
+    (subst (λ (o : ℕ). c.add_kept.new.rows ≡ c.loop-number.rows ++ rows o) c.new.ensures c.in_ok-add_kept.ensures)

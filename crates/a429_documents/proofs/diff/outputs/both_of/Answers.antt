@@ -3,12 +3,12 @@ use Rattle.std.specs.Prelude.{slice_get}
 use Rattle.a429_word.proofs.Lists.{read_is}
 use Rattle.a429_equipment.specs.TableRecord.{TableRecord}
 use Rattle.a429_equipment.specs.declared.rows.GroupRow.{GroupRow}
-use Rattle.a429_documents.specs.Diff.{number_named}
+use Rattle.a429_documents.specs.Diff.{number_named, rate_in}
 use Rattle.a429_documents.proofs.Changes.{both_is}
 use Rattle.a429_documents.proofs.diff.outputs.both_of.Goals as goal
 
-pub returns-in-Some : goal.returns-in-Some
-returns-in-Some c =
+pub returns-in-Some-clause-both : goal.returns-in-Some-clause-both
+returns-in-Some-clause-both c =
     let a = c.args.a.now in
     let b = c.args.b.now in
     let row : GroupRow = c.index-groups-group.result in
@@ -20,4 +20,6 @@ returns-in-Some c =
     let find : List GroupRow → List ℕ → _ = number_named (λ (h : GroupRow). h.name) in
     let named : find b.station.groups row.name ≡ Some c.in-Some.other =
     ap (find b.station.groups) (sym name) ∙ ap (λ (gs : List GroupRow). find gs c.as_str-name.result.now) (sym others) ∙ sym c.number_named.ensures.number ∙ c.in-Some.is in
-    (λ i. Some (record { name = name i; first = c.of.ensures i; second = c.of-in-Some.ensures i })) ∙ sym (both_is a b c.args.group c.in-Some.other row here named)
+    let rate : c.rate_of.result ≡ rate_in a c.args.group = c.rate_of.ensures.rate in
+    let new_rate : c.rate_of-in-Some.result ≡ rate_in b c.in-Some.other = c.rate_of-in-Some.ensures.rate in
+    (λ i. Some (record { name = name i; rate = rate i; new_rate = new_rate i; first = c.of.ensures i; second = c.of-in-Some.ensures i })) ∙ sym (both_is a b c.args.group c.in-Some.other row here named)

@@ -62,11 +62,9 @@ loop-number-preserved c =
     let at : GroupAt e asked i row rows = record { all = c.requires.asked; here = here; listed = c.outputs-rows.ensures.rows } in
     let below : i < length c.args.asked.now = subst (λ (n : ℕ). i < n) (length-map c.args.asked.now (λ v. v.items)) (asked_below e asked i row rows at) in
     let there = kept_at c.args.asked.now i c.index-asked-number.result below c.index-asked-number.is in
-    let named : c.as_str-name.result.now ≡ row.name = c.as_str-name.ensures ∙ sym (ap (λ (r : GroupRow). r.name) c.index-groups-number.is) in
-    let same : group_finding c.sources-sources.result.now c.args.kind c.as_str-name.result.now rows c.deref.result.now ≡ group_rows e asked c.args.kind i =
-    ap (λ (ss : List SourceRow). group_finding ss c.args.kind c.as_str-name.result.now rows c.deref.result.now) c.sources-sources.ensures.rows
-    ∙ ap (λ (n : List ℕ). group_finding e.sources c.args.kind n rows c.deref.result.now) named
-    ∙ ap (λ (ds : List Demand). group_finding e.sources c.args.kind row.name rows ds) c.deref.ensures.value
+    let same : group_finding c.sources-sources.result.now c.args.kind row rows c.deref.result.now ≡ group_rows e asked c.args.kind i =
+    ap (λ (ss : List SourceRow). group_finding ss c.args.kind row rows c.deref.result.now) c.sources-sources.ensures.rows
+    ∙ ap (λ (ds : List Demand). group_finding e.sources c.args.kind row rows ds) c.deref.ensures.value
     ∙ sym (group_is e asked i row rows at c.args.kind c.index-asked-number.result.items there) in
     lines_more (group_rows e asked c.args.kind) (c.loop-number.found) (c.add_group.new.found) (c.args.found.now) i c.loop-number.invariant
     (c.add_group.ensures ∙ ap (λ (l : List (List Field)). c.loop-number.found ++ l) same)

@@ -16,8 +16,9 @@ loop-number-preserved c =
     let i = c.loop-number.number in
     let row : ReceiverRow = c.index-receivers-number.result in
     let here : slice_get e.receivers i ≡ Some row = ap (λ (rs : List ReceiverRow). slice_get rs i) (sym c.receivers-receivers.ensures.rows) ∙ read_is c.receivers-receivers.result.now i row c.loop-number-test.true c.index-receivers-number.is in
-    let same : receiver_finding c.sources-sources.result.now c.args.kind i row ≡ receiver_rows e c.args.kind i =
-    ap (λ (ss : List SourceRow). receiver_finding ss c.args.kind i row) c.sources-sources.ensures.rows
-    ∙ sym (ap (λ (r : Option ReceiverRow). option_map_or (receiver_finding e.sources c.args.kind i) r []) here) in
+    let same : receiver_finding c.receivers-receivers.result.now c.sources-sources.result.now c.args.kind i row ≡ receiver_rows e c.args.kind i =
+    ap (λ (rs : List ReceiverRow). receiver_finding rs c.sources-sources.result.now c.args.kind i row) c.receivers-receivers.ensures.rows
+    ∙ ap (λ (ss : List SourceRow). receiver_finding e.receivers ss c.args.kind i row) c.sources-sources.ensures.rows
+    ∙ sym (ap (λ (r : Option ReceiverRow). option_map_or (receiver_finding e.receivers e.sources c.args.kind i) r []) here) in
     lines_more (receiver_rows e c.args.kind) (c.loop-number.found) (c.add_receiver.new.found) (c.args.found.now) i c.loop-number.invariant
     (c.add_receiver.ensures ∙ ap (λ (l : List (List Field)). c.loop-number.found ++ l) same)

@@ -9,6 +9,6 @@ bounds-loads-bus c =
 
 pub loop-bus-preserved : goal.loop-bus-preserved
 loop-bus-preserved c =
-    bus_more c.args.shown c.args.group.now c.args.table.now c.frame.result _ _ c.loop-bus.bus c.args.rows.now c.loop-bus.rows c.add_row.new.rows c.frame.ensures.value c.number.ensures
+    bus_more c.args.group.now c.args.table.now c.frame.result _ _ c.loop-bus.bus c.args.rows.now c.loop-bus.rows c.add_rows.new.rows c.frame.ensures.value c.number.ensures
     (bus_load (cells_on c.args.table.now) _ c.loop-bus.bus c.args.loads.now c.requires.loads (subst (λ (n : ℕ). c.loop-bus.bus < n) c.buses-bus-end.ensures.value c.loop-bus-test.true))
-    c.loop-bus.invariant c.add_row.ensures
+    c.loop-bus.invariant c.add_rows.ensures

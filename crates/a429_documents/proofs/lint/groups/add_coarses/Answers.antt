@@ -1,0 +1,29 @@
+use Rattle.std.proofs.Common.{◌≡◌, ◌<◌, ◌++◌, ◌∙◌, ℕ, List, Option, ap, arith, length, sym}
+use Rattle.std.proofs.lemmas.Option.{get_or_from_slice_get}
+use Rattle.a429_word.proofs.Lists.{read_is}
+use Rattle.a429_text.specs.Fields.{Field}
+use Rattle.a429_pack.specs.Demands.{demand_at}
+use Rattle.a429_pack.specs.declared.demands.Demand.{Demand}
+use Rattle.a429_documents.specs.Lint.{coarse_row, coarse_rows, max_of, output_name}
+use Rattle.a429_documents.proofs.Margins.{lines_more}
+use Rattle.a429_documents.proofs.lint.groups.add_coarses.Goals as goal
+
+pub loop-output-preserved : goal.loop-output-preserved
+loop-output-preserved c =
+    let sources = c.args.sources.now in
+    let g = c.args.group.now in
+    let rows = c.args.rows.now in
+    let demands : List Demand = c.args.demands.now in
+    let o = c.loop-output.output in
+    let d : Demand = c.index-demands-output.result in
+    let below : o < length demands = omega (arith, c.loop-output-test.true, c.requires.each) in
+    let read : demand_at demands o ≡ d = get_or_from_slice_get demands o d _ (read_is demands o d below c.index-demands-output.is) in
+    let source : List ℕ = c.output_name-source.result.now in
+    let max_us : ℕ = c.max_of.result in
+    let same : coarse_row c.as_str-name.result.now source g.rate max_us d.period ≡ coarse_rows sources g.name g.rate rows demands o =
+    ap (λ (n : List ℕ). coarse_row n source g.rate max_us d.period) c.as_str-name.ensures
+    ∙ ap (λ (n : List ℕ). coarse_row g.name n g.rate max_us d.period) c.output_name-source.ensures
+    ∙ ap (λ (n : ℕ). coarse_row g.name (output_name sources rows o) g.rate n d.period) c.max_of.ensures
+    ∙ ap (λ (e : Demand). coarse_row g.name (output_name sources rows o) g.rate (max_of rows o) e.period) (sym read) in
+    lines_more (coarse_rows sources g.name g.rate rows demands) c.loop-output.found c.add_period.new.found c.args.found.now o c.loop-output.invariant
+    (c.add_period.ensures ∙ ap (λ (l : List (List Field)). c.loop-output.found ++ l) same)
