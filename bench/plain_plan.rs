@@ -389,7 +389,7 @@ fn choice(outputs: &[Placed], frame: u64, needed: u64) -> Option<Vec<bool>> {
 }
 
 const MARGIN_COLUMNS: [&str; 11] = [
-    "group", "frame", "buses", "excess", "bound", "source", "period", "next", "less", "max_us", "choose",
+    "group", "frame_slots", "buses", "excess", "bound", "source", "period_slots", "next_slots", "less", "max_us", "choose",
 ];
 
 fn margin_text(table: &Table) -> Result<String, Fault> {

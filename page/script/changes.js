@@ -1,14 +1,7 @@
 // The tab Changes: two tables.
 
-// Each kind of change, in words.
-const CHANGES = {
-  version: "version of the table", rate: "bit rate, bit/s", receiver: "number of the receiver", filters: "number of filters",
-  source: "number of the source",
-  "source-receiver": "receiver of the source", label: "label", sdi: "SDI", group: "number of the group", buses: "buses", frame: "frame, slots",
-  min_us: "minimum interval, µs", max_us: "maximum interval, µs", period: "period, slots", hold: "hold", bus: "bus", slot: "first slot",
-  output: "output: its period, slots", moved: "outputs that only change their slots",
-};
-const OF_ANOTHER_STATION = new Set(["receiver", "filters", "source", "source-receiver", "label", "sdi", "group"]);
+const CHANGE_TITLES = { kind: "what", change: "change: now -> then", gap_slots: "interval across the change, slots", gap_us: "µs",
+  over_max: "above the maximum" };
 
 // The table of the other file, as commands take it. Undefined if it cannot be imported: then the tab says why.
 async function otherTable(other) {
@@ -35,17 +28,16 @@ async function showChanges({ table, given }) {
       const lines = answer.hints.includes(second.name) ? tableLines(new Uint8Array(await second.blob.arrayBuffer())) : undefined;
       return place.replaceChildren(refusal(answer, second.name, lines));
     }
-    const rows = answer.rows, isOtherStation = rows.some((row) => OF_ANOTHER_STATION.has(row.change) || row.change === "rate" && row.group);
+    const rows = answer.rows, isOtherStation = rows.some((row) => row.kind === "station");
     place.replaceChildren(note(rows.length ? "warn" : "good", !rows.length ? "Nothing changes: both have the same plan."
       : isOtherStation ? `${given.name} and ${other.name} are of two stations: the second cannot replace the first while that runs.`
         : `${other.name} can replace ${given.name} while the station runs. ${count(rows.length, "change")}.`),
     rows.length ? sheet(rows, { name: "changes", caption: `From ${given.name} to ${other.name}`,
-      titles: { first: "now", second: "then", gap: "interval across the change, slots" },
-      cell: (row, column) => column === "change" ? CHANGES[row.change] ?? row.change : undefined }) : "");
+      titles: CHANGE_TITLES, mark: (row) => row.over_max === "yes" ? "fault" : null }) : "");
   };
   panel("changes", bar(element("label", {}, element("input", { type: "checkbox", onchange: (event) => {
     all = event.target.checked ? ["--all"] : [];
     show();
-  } }), "each slot that changes"), saveCommandButton("diff.csv", ["diff", table.name, second.name, "--csv"], [table, second], "text/csv")), place);
+  } }), "each output whose slots change"), saveCommandButton("diff.csv", ["diff", table.name, second.name, "--csv"], [table, second], "text/csv")), place);
   return show();
 }

@@ -11,19 +11,18 @@ function loadBar(percent) {
     filled, loadLimit ? mark : null);
 }
 
-// How many more outputs a bus takes, by their period in slots.
-const roomsOf = (row) => Object.entries(row).filter(([name, value]) => name.startsWith("room_") && value != null);
-
-function roomList(row) {
-  return element("span", { class: "rooms" }, roomsOf(row).map(([name, value]) => element("span", { class: value ? null : "none" },
-    element("i", {}, `P${name.slice(5)} `), value.toLocaleString("en"))));
+function roomList(rooms) {
+  return element("span", { class: "rooms" }, rooms.map(({ period_slots, room }) => element("span", { class: room ? null : "none" },
+    element("i", {}, `P${period_slots} `), room.toLocaleString("en"))));
 }
 
-function busesSheet(group, rows) {
+// The buses of a group, and how many more outputs each takes, by their period in slots.
+function busesSheet(group, rows, rooms) {
+  const roomsOf = (row) => rooms.filter((room) => room.bus === row.bus);
   return sheet(rows, { name: `load-${group}`, caption: `Buses of ${group}`, columns: ["bus", "percent", "load", "cells", "free", "words_s", "room"],
     titles: { percent: "load, %", load: "", words_s: "words/s", room: "room for more outputs with period P (slots)" },
-    text: (row, column) => column === "room" ? roomsOf(row).map(([name, value]) => `${name}=${value}`).join(" ") : "",
-    cell: (row, column) => ({ percent: () => row.percent.toFixed(1), load: () => loadBar(row.percent), room: () => roomList(row) })[column]?.() });
+    text: (row, column) => column === "room" ? roomsOf(row).map(({ period_slots, room }) => `${period_slots}=${room}`).join(" ") : "",
+    cell: (row, column) => ({ percent: () => row.percent.toFixed(1), load: () => loadBar(row.percent), room: () => roomList(roomsOf(row)) })[column]?.() });
 }
 
 // What saves a bus: the outputs whose maximum interval would have to be longer.
@@ -31,11 +30,11 @@ function savingsOf(group, margin) {
   const whole = margin.find((row) => row.group === group && row.source == null);
   const choices = margin.filter((row) => row.group === group && row.source != null), chosen = choices.filter((row) => row.choose === "yes");
   if (chosen.length) {
-    const rows = chosen.map((row) => ({ source: row.source, period: row.period, next: row.next, less: row.less, max_us: row.max_us }));
+    const rows = chosen.map(({ source, period_slots, next_slots, less, max_us }) => ({ source, period_slots, next_slots, less, max_us }));
     return element("details", {}, element("summary", {}, `To save a bus, free ${count(whole.excess, "cell")}: `
       + `lengthen the maximum interval of ${count(chosen.length, "output")}`),
     sheet(rows, { name: `margin-${group}`, caption: "Outputs that would be sent half as often",
-      titles: { next: "next period", less: "cells less", max_us: "max, µs" } }));
+      titles: { period_slots: "period, slots", next_slots: "next period, slots", less: "cells less", max_us: "max, µs" } }));
   }
   if (whole.choose !== "no") return null;
   const fewer = `The intervals could do with ${count(whole.bound, "bus", "buses")}, but not with periods that are powers of two.`;
@@ -49,14 +48,15 @@ async function showLoads({ table, margin }) {
     if (answer.status > 1) return place.replaceChildren(refusal(answer, table.name));
     const rows = answer.rows;
     place.replaceChildren(...[...new Set(rows.map((row) => row.group))].flatMap((group) => {
-      const own = rows.filter((row) => row.group === group), whole = own.find((row) => row.bus == null);
-      const buses = own.filter((row) => row.bus != null);
-      const needed = whole.needed == null ? null : element("p", { class: "bad-text" }, whole.needed === "none"
+      const own = rows.filter((row) => row.group === group), rooms = own.filter((row) => row.period_slots != null);
+      const loads = own.filter((row) => row.period_slots == null), whole = loads.find((row) => row.bus == null);
+      const buses = loads.filter((row) => row.bus != null);
+      const needed = whole.needed == null ? null : element("p", { class: "bad-text" }, whole.needed === 0
         ? `One output alone takes more than ${loadLimit} per cent of a bus.`
         : `A bus is above ${loadLimit} per cent. ${count(whole.needed, "bus", "buses")} can keep to it, if outputs are spread evenly.`);
       return [element("h2", {}, group, element("small", {}, `${whole.percent} % of ${count(buses.length, "bus", "buses")} · `
         + `${whole.free.toLocaleString("en")} of ${(whole.cells + whole.free).toLocaleString("en")} cells free`)),
-      needed, busesSheet(group, buses), savingsOf(group, margin)].filter(Boolean);
+      needed, busesSheet(group, buses, rooms), savingsOf(group, margin)].filter(Boolean);
     }));
   };
   const limit = element("input", { type: "text", inputmode: "numeric", size: "4", value: loadLimit || "", onchange: (event) => {

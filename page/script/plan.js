@@ -32,14 +32,14 @@ function groupTitle(group) {
     + `frame of ${count(group.frame, "slot")}, ${slotMilliseconds(group)} ms`));
 }
 
-const PLAN_TITLES = { slot: "first slot", period: "period, slots", every: "every, ms", min: "min, ms", max: "max, ms", latency: "latency, ms" };
+const PLAN_TITLES = { offset: "first slot", period_slots: "period, slots", every: "every, ms", min: "min, ms", max: "max, ms", latency: "latency, ms" };
 
 // The outputs of a group. `texts` has what the spreadsheet calls a source.
 function outputsSheet(group, texts) {
   const rows = group.rows.map((row) => ({ ...row, parameter: texts.get(row.source) ?? "", every: row.period_us / 1000, min: row.min_us / 1000,
-    max: row.max_us / 1000, latency: row.latency_us / 1000 })).sort((a, b) => a.bus - b.bus || a.slot - b.slot);
-  const columns = ["bus", "slot", "label", "sdi", "source", ...hasTexts(texts) ? ["parameter"] : [], "receiver", "period", "every", "min", "max",
-    "latency", "hold"];
+    max: row.max_us / 1000, latency: row.latency_us / 1000 })).sort((a, b) => a.bus - b.bus || a.offset - b.offset);
+  const columns = ["bus", "offset", "label", "sdi", "source", ...hasTexts(texts) ? ["parameter"] : [], "receiver", "period_slots", "every", "min",
+    "max", "latency", "hold"];
   const times = new Set(["every", "min", "max", "latency"]);
   return sheet(rows, { name: `plan-${group.name}`, caption: `Outputs of ${group.name}`, columns, titles: PLAN_TITLES,
     cell: (row, column) => times.has(column) ? milliseconds(row[column] * 1000) : undefined, mark: (row) => "band" + row.bus % 2 });
@@ -119,7 +119,7 @@ async function showSlots({ table, groups }) {
     const rows = answer.rows;
     place.replaceChildren(bar(saveCommandButton("slots.csv", ["slots", table.name, ...chosen, ...all, "--csv"], [table], "text/csv"),
       saveCommandButton("slots.h", ["slots", table.name, ...chosen, "--c"], [table], "text/x-c")),
-    rows.length ? sheet(rows, { caption: "Cells in the order in which they are sent", titles: { time_us: "time, µs" },
+    rows.length ? sheet(rows, { caption: "Cells in the order in which they are sent", titles: { time_us: "time, µs", period_slots: "period, slots" },
       mark: (row) => row.source == null ? "dim" : null }) : element("p", { class: "dim" }, "The group has no cells."));
   };
   const group = element("label", {}, "Group", element("select", { onchange: (event) => {

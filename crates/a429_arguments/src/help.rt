@@ -204,11 +204,14 @@ pub const MARGIN: &str = "Show what would save a bus in each group";
 pub const MARGIN_END: &str = "\
 There is a row for each group. If it has more than one bus, a row follows for
 each output that could have a longer period:
-  frame, buses    the frame of the group in slots, and how many buses it has
+  frame_slots     the frame of the group in slots
+  buses           how many buses it has
   excess          how many cells of a frame must be freed to save a bus
   bound           no schedule with these intervals has fewer buses than this
-  source, period  an output, and its period in slots
-  next, less      the next longer period, and how many cells that would free
+  source          an output
+  period_slots    its period in slots
+  next_slots      the next longer period
+  less            how many cells that would free
   max_us          the maximum transmit interval that it needs for that
   choose          if all outputs with `yes` get their max_us, a bus is saved;
                   in the row of the group: whether any choice saves one

@@ -37,8 +37,8 @@ is_chosen (Some marks) o = slice_index_or marks o false
 
 abbrev pub margin_columns : List (List ℕ)
 margin_columns =
-    codes "group" ∷ codes "frame" ∷ codes "buses" ∷ codes "excess" ∷ codes "bound" ∷ codes "source" ∷ codes "period" ∷ codes "next" ∷ codes "less" ∷ codes "max_us"
-    ∷ codes "choose" ∷ []
+    codes "group" ∷ codes "frame_slots" ∷ codes "buses" ∷ codes "excess" ∷ codes "bound" ∷ codes "source" ∷ codes "period_slots" ∷ codes "next_slots" ∷ codes "less"
+    ∷ codes "max_us" ∷ codes "choose" ∷ []
 
 -- a number of empty columns
 abbrev pub nothing : ℕ → List Field

@@ -22,7 +22,16 @@ use std::alloc::{AllocError, Global};
 
 /// The names of the columns.
 const COLUMNS: &[&str] = &[
-    "group", "frame", "buses", "excess", "bound", "source", "period", "next", "less", "max_us",
+    "group",
+    "frame_slots",
+    "buses",
+    "excess",
+    "bound",
+    "source",
+    "period_slots",
+    "next_slots",
+    "less",
+    "max_us",
     "choose",
 ];
 
