@@ -25,8 +25,8 @@ pub mod HeadingFirst
 pub mod WrittenQuotes
 mod PartsOfText
 mod ImportMaps
-pub mod MadeNames
-pub mod GivenTexts
-pub mod MadeReading
+pub mod MadeLines
+pub mod Renamed
+mod NamesApart
+pub mod RenamedReading
 pub mod SameTables
-pub mod Twins

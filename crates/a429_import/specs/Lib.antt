@@ -13,6 +13,8 @@ pub mod ImportFaults
 pub mod ImportTexts
 pub mod MadeNames
 pub mod MadeLines
+pub mod Renamed
+pub mod NumberRanges
 pub mod Imports
 pub mod ImportWidths
 pub mod ImportedRows
@@ -20,7 +22,7 @@ pub mod FirstRows
 pub mod ImportClashes
 pub mod ImportLimits
 pub mod ImportReading
-pub mod MadeReading
+pub mod RenamedReading
 pub mod SameTables
 pub mod Names
 pub mod Known
