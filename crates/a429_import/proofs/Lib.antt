@@ -26,7 +26,7 @@ pub mod WrittenQuotes
 mod PartsOfText
 mod ImportMaps
 pub mod MadeLines
-pub mod Renamed
+pub mod ChosenNames
 mod NamesApart
 pub mod RenamedReading
 pub mod SameTables

@@ -9,7 +9,7 @@ ghost use Rattle.a429_import.specs.ImportMaps.{given_texts};
 ghost use Rattle.a429_import.specs.ImportReading.{HasRead};
 ghost use Rattle.a429_import.specs.Imports.{AreLines, has_text, is_filled};
 
-use crate::forms::{Form, form_of};
+use crate::forms::{Form, form_of, without_mark};
 use csv::{ByteRecord, ByteRecordsIntoIter, Error, ReaderBuilder};
 use std::alloc::{AllocError, Global};
 

@@ -327,6 +327,23 @@ fn renamed<'a>(known: &Known, names: &'a AllNames, row: &'a ImportRow) -> RowFie
     }
 }
 
+/// Takes a row with names. Error: an allocation failed.
+fn take_renamed(
+    alloc: Global,
+    read: &mut RowsRead,
+    known: &Known,
+    names: &AllNames,
+    row: &ImportRow,
+) -> Result<(), AllocError>
+    requires names { (rows : List ImportRow) × Knows known.now rows × AreNames names.now rows }
+    requires read { (rows : List ImportRow) × Knows read.old.known rows }
+    ensures { OnOk result ((all rows : List ImportRow) → Knows known.now all → AreNames names.now all → HasRows read.old rows
+        → HasRows read.new (rows ++ renamed all row.now ∷ [])) }
+{
+    let fields = renamed(known, names, row);
+    take_new(alloc, read, &fields)
+}
+
 /// What known rows say with names. Error: an allocation failed.
 pub fn all_renamed(
     alloc: Global,
@@ -340,7 +357,7 @@ pub fn all_renamed(
 {
     let mut read = RowsRead::new(alloc, rows.len())?;
     for row in rows {
-        take_new(alloc, &mut read, &renamed(known, names, row))?;
+        take_renamed(alloc, &mut read, known, names, row)?;
     }
     Ok(read)
 }

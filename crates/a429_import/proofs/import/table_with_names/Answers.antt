@@ -5,7 +5,7 @@ use Rattle.a429_import.specs.declared.fault.ImportFault.TheVariants.{NoMemory}
 use Rattle.a429_import.specs.declared.rows.ImportRow.{ImportRow}
 use Rattle.a429_import.specs.Imports.{IsTableOf}
 use Rattle.a429_import.specs.Renamed.{all_renamed}
-use Rattle.a429_import.proofs.Renamed.{same_ranges}
+use Rattle.a429_import.proofs.ChosenNames.{same_ranges}
 use Rattle.a429_import.proofs.import.table_with_names.Goals as goal
 
 pub table_of_rows-requires : goal.table_of_rows-requires

@@ -2,7 +2,7 @@ use Rattle.std.proofs.Common.{◌≡◌, ◌<◌, ◌≤◌, ◌+◌, ◌∙◌,
 use Rattle.a429_import.specs.MadeNames.{numbered_name}
 use Rattle.a429_import.specs.Names.{texts_of}
 use Rattle.a429_import.specs.Renamed.{is_taken, long_name}
-use Rattle.a429_import.proofs.Renamed.{free_end, free_here, free_step}
+use Rattle.a429_import.proofs.ChosenNames.{free_end, free_here, free_step}
 use Rattle.a429_import.proofs.renamed.long_name.Goals as goal
 
 pub loop-number-preserved : goal.loop-number-preserved

@@ -5,7 +5,7 @@ use Rattle.a429_import.specs.ImportTables.{firsts}
 use Rattle.a429_import.specs.Names.{texts_of}
 use Rattle.a429_import.specs.Renamed.{names_after, names_in}
 use Rattle.a429_import.proofs.Knowing.{first_is, first_within}
-use Rattle.a429_import.proofs.Renamed.{firsts_count, names_more}
+use Rattle.a429_import.proofs.ChosenNames.{firsts_count, names_more}
 use Rattle.a429_import.proofs.renamed.names_in.Goals as goal
 
 pub loop-place-init : goal.loop-place-init

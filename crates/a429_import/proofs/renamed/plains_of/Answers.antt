@@ -5,7 +5,7 @@ use Rattle.a429_import.specs.ImportTables.{firsts}
 use Rattle.a429_import.specs.Names.{texts_of}
 use Rattle.a429_import.specs.Renamed.{plain_of, plains_of}
 use Rattle.a429_import.proofs.Knowing.{first_is, first_within}
-use Rattle.a429_import.proofs.Renamed.{firsts_count, mapped_more}
+use Rattle.a429_import.proofs.ChosenNames.{firsts_count, mapped_more}
 use Rattle.a429_import.proofs.renamed.plains_of.Goals as goal
 
 pub loop-place-init : goal.loop-place-init

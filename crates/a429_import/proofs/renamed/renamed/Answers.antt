@@ -2,7 +2,7 @@ use Rattle.std.proofs.Common.{◌≡◌, ◌∙◌, List, ℕ, ap, sym}
 use Rattle.a429_import.specs.declared.rows.ImportRow.{ImportRow}
 use Rattle.a429_import.specs.declared.rows.RowTexts.{RowTexts}
 use Rattle.a429_import.specs.Renamed.{name_for}
-use Rattle.a429_import.proofs.Renamed.{same_row}
+use Rattle.a429_import.proofs.ChosenNames.{same_row}
 use Rattle.a429_import.proofs.renamed.renamed.Goals as goal
 
 pub returns : goal.returns

@@ -4,12 +4,11 @@ use Rattle.std.specs.Prelude.{slice_get, unwrap_or}
 use Rattle.std.proofs.lemmas.List.{length-map}
 use Rattle.a429_word.proofs.Lists.{drop_at}
 use Rattle.a429_import.specs.declared.firsts.Part.{Part}
-use Rattle.a429_import.specs.declared.named_rows.FoundName.{FoundName}
 use Rattle.a429_import.specs.declared.named_rows.NamedRows.{NamedRows}
 use Rattle.a429_import.specs.declared.rows.ImportRow.{ImportRow}
 use Rattle.a429_import.specs.declared.rows.RowNumbers.{RowNumbers}
 use Rattle.a429_import.specs.ImportTables.{firsts, name_in}
-use Rattle.a429_import.specs.Known.{KnowsFirsts, found_at}
+use Rattle.a429_import.specs.Known.{KnowsFirsts}
 use Rattle.a429_import.specs.MadeNames.{numbered_name}
 use Rattle.a429_import.specs.Names.{names_of}
 use Rattle.a429_import.specs.NumberRanges.{HaveRanges}
@@ -46,16 +45,6 @@ names_more plains part rows k row old new whole there so now =
 -- as many names are known as there are first rows
 pub firsts_count : (part : Part) (named : NamedRows) (rows : List ImportRow) → KnowsFirsts part named rows → length (names_of named.names) ≡ length (firsts part rows)
 firsts_count part named rows known = ap length known.names ∙ length-map (name_in part) (firsts part rows)
-
--- ---- a name that is found
-
-pub place_is : (named : NamedRows) (o : Option ℕ) (found : FoundName) → Some found ≡ option_map (found_at named) o → found.place ≡ unwrap_or o 0
-place_is named None found is = cc is
-place_is named (Some place) found is = let same : found ≡ found_at named place = cc is in ap (λ (f : FoundName). f.place) same
-
-pub no_place_is : (named : NamedRows) (o : Option ℕ) → None ≡ option_map (found_at named) o → 0 ≡ unwrap_or o 0
-no_place_is named None is = refl
-no_place_is named (Some place) is = cc is
 
 -- ---- the numbers stay
 
