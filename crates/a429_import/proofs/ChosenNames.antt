@@ -1,12 +1,12 @@
 -- Names that are chosen one after the other.
-use Rattle.std.proofs.Common.{◌≡◌, ◌∙◌, ℕ, zero, suc, ◌+◌, ◌-◌, ◌<◌, ◌≤◌, Bool, true, false, cond, List, [], ◌∷◌, ◌++◌, append_assoc, drop, length, map, Option, None, Some, option_map, ap, arith, refl, sym}
+use Rattle.std.proofs.Common.{◌≡◌, ◌∙◌, ℕ, zero, suc, ◌+◌, ◌-◌, ◌<◌, ◌≤◌, Bool, true, false, cond, not, List, [], ◌∷◌, ◌++◌, append_assoc, drop, length, map, Option, None, Some, option_map, ap, arith, refl, sym}
 use Rattle.std.specs.Prelude.{slice_get, unwrap_or}
 use Rattle.std.proofs.lemmas.List.{length-map}
 use Rattle.a429_word.proofs.Lists.{drop_at}
 use Rattle.a429_import.specs.declared.firsts.Part.{Part}
 use Rattle.a429_import.specs.declared.named_rows.NamedRows.{NamedRows}
 use Rattle.a429_import.specs.declared.rows.ImportRow.{ImportRow}
-use Rattle.a429_import.specs.declared.rows.RowNumbers.{RowNumbers}
+use Rattle.a429_import.specs.declared.rows.RowTexts.{RowTexts}
 use Rattle.a429_import.specs.ImportTables.{firsts, name_in}
 use Rattle.a429_import.specs.Known.{KnowsFirsts}
 use Rattle.a429_import.specs.MadeNames.{numbered_name}
@@ -15,6 +15,14 @@ use Rattle.a429_import.specs.NumberRanges.{HaveRanges}
 use Rattle.a429_import.specs.Renamed.{chosen, free_name, is_taken, names_after, renamed}
 
 -- ---- a name that is free
+
+pub not_true : (b : Bool) → not b ≡ true → b ≡ false
+not_true false is = refl
+not_true true is = cc is
+
+pub not_false : (b : Bool) → not b ≡ false → b ≡ true
+not_false true is = refl
+not_false false is = cc is
 
 pub free_step : (taken : List (List ℕ)) (base end : List ℕ) (limit n : ℕ) → n < limit → is_taken taken (numbered_name base end n) ≡ true
     → free_name taken base end (limit - (n + 1)) (n + 1) ≡ free_name taken base end (limit - n) n
@@ -44,7 +52,7 @@ names_more plains part rows k row old new whole there so now =
 
 -- as many names are known as there are first rows
 pub firsts_count : (part : Part) (named : NamedRows) (rows : List ImportRow) → KnowsFirsts part named rows → length (names_of named.names) ≡ length (firsts part rows)
-firsts_count part named rows known = ap length known.names ∙ length-map (name_in part) (firsts part rows)
+firsts_count part named rows known = ap length known.names ∙ length-map (firsts part rows) (name_in part)
 
 -- ---- the numbers stay
 
@@ -52,8 +60,10 @@ pub same_ranges : (rows all : List ImportRow) → HaveRanges rows → HaveRanges
 same_ranges [] all are = tt
 same_ranges (row ∷ rows) all are = (are.0, same_ranges rows all are.1)
 
--- ---- texts of a row
+-- ---- the names of a row
 
-pub same_row : (g h s t r u f e : List ℕ) (numbers : RowNumbers) → g ≡ h → s ≡ t → r ≡ u → f ≡ e
-    → (record { texts = record { group = g; source = s; receiver = r; filters = f }; numbers = numbers } : ImportRow) ≡ (record { texts = record { group = h; source = t; receiver = u; filters = e }; numbers = numbers } : ImportRow)
-same_row g h s t r u f e numbers a b c d = rw (a, b, c, d) refl
+abbrev texts_of_row : List ℕ → List ℕ → List ℕ → List ℕ → RowTexts
+texts_of_row group source receiver filters = record { group = group; source = source; receiver = receiver; filters = filters }
+
+pub same_texts : (g h s t r u f e : List ℕ) → g ≡ h → s ≡ t → r ≡ u → f ≡ e → texts_of_row g s r f ≡ texts_of_row h t u e
+same_texts g h s t r u f e a b c d = rw (a, b, c, d) refl

@@ -4,7 +4,7 @@ use Rattle.std.specs.Prelude.{nat_lt, slice_get}
 use Rattle.std.specs.List.{count_by}
 use Rattle.std.specs.Option.{option_map}
 use Rattle.std.specs.Str.{bytes_eq}
-use Rattle.std.proofs.lemmas.Bool.{and_parts, ltb-true}
+use Rattle.std.proofs.lemmas.Bool.{and_parts, ltb-false}
 use Rattle.std.proofs.lemmas.List.{length-append}
 use Rattle.std.proofs.lemmas.List.Sums.{sum_by-append, sum_by-cons}
 use Rattle.std.proofs.lemmas.Option.{same_Some, slice_get-map, slice_get_within}
@@ -14,12 +14,16 @@ use Rattle.a429_import.specs.declared.rows.ImportRow.{ImportRow}
 use Rattle.a429_import.specs.ImportTables.{firsts, is_word}
 use Rattle.a429_import.specs.MadeNames.{numbered_name}
 use Rattle.a429_import.specs.Renamed.{AreApart, base_of, chosen, end_of, free_name, is_alone, is_taken, long_name, names_after, names_in, plain_of, plains_of, text_of}
+use Rattle.a429_import.proofs.ChosenNames.{not_true}
 use Rattle.a429_import.proofs.Knowing.{last_or_before}
 
 -- ---- counts
 
-one : (b : Bool) → b ≡ true → cond b 1 0 ≡ 1
-one b is = ap (λ x. cond x 1 0) is
+abbrev one_if : Bool → ℕ
+one_if b = cond b 1 0
+
+one : (b : Bool) → b ≡ true → one_if b ≡ one_if true
+one b is = ap one_if is
 
 counted_at : {X : Type 0} (p : X → Bool) (xs : List X) (i : ℕ) (x : X) → slice_get xs i ≡ Some x → p x ≡ true → 1 ≤ count_by p xs
 counted_at p [] i x h is = cc
@@ -50,17 +54,17 @@ itself_eq name = (bytes_eq-Decides name name).1 refl
 
 -- ---- a name that is free
 
+free_by : (taken : List (List ℕ)) (tried rest name : List ℕ) (b : Bool) → is_taken taken tried ≡ b → name ≡ cond b rest tried → (name ≡ rest → is_taken taken name ≡ false) → is_taken taken name ≡ false
+free_by taken tried rest name true e is more = more is
+free_by taken tried rest name false e is more = ap (is_taken taken) is ∙ e
+
 free_is_new : (taken : List (List ℕ)) (base end : List ℕ) (left n : ℕ) (name : List ℕ) → name ≡ free_name taken base end left n → is_word name ≡ true → is_taken taken name ≡ false
 free_is_new taken base end zero n name is word = cc (sym word ∙ ap is_word is)
-free_is_new taken base end (suc left) n name is word = by (is_taken taken (numbered_name base end n)) refl
-  where
-    by : (b : Bool) → is_taken taken (numbered_name base end n) ≡ b → is_taken taken name ≡ false
-    by true e = free_is_new taken base end left (n + 1) name (is ∙ ap (λ c. cond c (free_name taken base end left (n + 1)) (numbered_name base end n)) e) word
-    by false e = ap (is_taken taken) (is ∙ ap (λ c. cond c (free_name taken base end left (n + 1)) (numbered_name base end n)) e) ∙ e
+free_is_new taken base end (suc left) n name is word =
+    free_by taken (numbered_name base end n) (free_name taken base end left (n + 1)) name (is_taken taken (numbered_name base end n)) refl is (λ rest. free_is_new taken base end left (n + 1) name rest word)
 
 none_counted : (n : ℕ) → nat_lt 0 n ≡ false → n ≡ 0
-none_counted zero is = refl
-none_counted (suc n) is = cc is
+none_counted n is = let none = ltb-false 0 n is in omega (arith, none)
 
 -- ---- a name that is chosen
 
@@ -77,9 +81,7 @@ record IsNew (plains earlier : List (List ℕ)) (name : List ℕ) : Type 0 where
   from : IsFrom plains (length earlier) name
 
 few : (n : ℕ) → not (nat_lt 1 n) ≡ true → n < 2
-few zero is = omega arith
-few (suc zero) is = omega arith
-few (suc (suc n)) is = cc is
+few n is = let most = ltb-false 1 n (not_true (nat_lt 1 n) is) in omega (arith, most)
 
 alone_is_new : (plains earlier : List (List ℕ)) (plain : List ℕ) → AreFrom plains earlier → slice_get plains (length earlier) ≡ Some plain → is_alone plains plain ≡ true → IsNew plains earlier plain
 alone_is_new plains earlier plain from there alone =
@@ -100,7 +102,7 @@ alone_is_new plains earlier plain from there alone =
 long_is_new : (plains earlier : List (List ℕ)) (base end name : List ℕ) → name ≡ long_name (plains ++ earlier) base end → is_word name ≡ true → IsNew plains earlier name
 unfolding long_name
 long_is_new plains earlier base end name is word =
-    let free = free_is_new (plains ++ earlier) base end (length (plains ++ earlier) + 1) 0 name is word in
+    let free = free_is_new (plains ++ earlier) base end 1000 0 name is word in
     let none = none_counted (count_by (bytes_eq name) (plains ++ earlier)) free in
     let both = sum_by-append (λ z. cond (bytes_eq name z) 1 0) plains earlier in
     record {
@@ -113,7 +115,7 @@ chosen_is_new : (plains earlier : List (List ℕ)) (part : Part) (row : ImportRo
 unfolding chosen
 chosen_is_new plains earlier part row from there word = by (is_word (text_of part row)) (is_alone plains (plain_of part row)) refl word
   where
-    abbrev long : List ℕ
+    long : List ℕ
     long = long_name (plains ++ earlier) (base_of part row) (end_of part row)
     by : (a b : Bool) → is_alone plains (plain_of part row) ≡ b → is_word (cond (not a) [] (cond b (plain_of part row) long)) ≡ true → IsNew plains earlier (cond (not a) [] (cond b (plain_of part row) long))
     by false b e w = cc w

@@ -5,6 +5,7 @@ use Rattle.std.specs.Str.{bytes_eq}
 use Rattle.a429_import.specs.declared.firsts.Part.{Part}
 use Rattle.a429_import.specs.declared.firsts.Part.TheVariants.{Receivers, Sources, Groups}
 use Rattle.a429_import.specs.declared.rows.ImportRow.{ImportRow}
+use Rattle.a429_import.specs.declared.rows.RowTexts.{RowTexts}
 use Rattle.a429_import.specs.ImportFields.{field_in, utf8_in}
 use Rattle.a429_import.specs.ImportTables.{firsts, is_word, name_in}
 use Rattle.a429_import.specs.MadeLines.{key_end}
@@ -47,9 +48,9 @@ free_name taken base end zero number = []
 free_name taken base end (suc left) number =
     if is_taken taken (numbered_name base end number) then free_name taken base end left (number + 1) else numbered_name base end number
 
--- the same; there are more numbers than names that are taken
+-- the same; a table has at most 256 texts of a column, so some of these numbers are free
 unfoldable pub long_name : List (List ℕ) → List ℕ → List ℕ → List ℕ
-long_name taken base end = free_name taken base end (length taken + 1) 0
+long_name taken base end = free_name taken base end 1000 0
 
 -- one text alone has this plain name
 abbrev pub is_alone : List (List ℕ) → List ℕ → Bool
@@ -84,12 +85,13 @@ unfoldable pub name_for : Part → List ImportRow → ImportRow → List ℕ
 name_for part rows row =
     unwrap_or (utf8_in (field_in (unwrap_or (position_from (bytes_eq (name_in part row)) 0 (map (name_in part) (firsts part rows))) 0) (names_in part rows))) []
 
+-- the names of a row, and its filters
+abbrev pub names_of_row : List ImportRow → ImportRow → RowTexts
+names_of_row rows row = record { group = name_for Groups rows row; source = name_for Sources rows row; receiver = name_for Receivers rows row; filters = row.texts.filters }
+
 -- a row with names
 abbrev pub renamed : List ImportRow → ImportRow → ImportRow
-renamed rows row = record {
-  texts = record { group = name_for Groups rows row; source = name_for Sources rows row; receiver = name_for Receivers rows row; filters = row.texts.filters };
-  numbers = row.numbers;
-}
+renamed rows row = record { texts = names_of_row rows row; numbers = row.numbers }
 
 -- all rows with names
 abbrev pub all_renamed : List ImportRow → List ImportRow

@@ -11,7 +11,7 @@ ghost use Rattle.a429_import.specs.Imports.{IsImport, IsImportFrom, IsTableBy, I
 ghost use Rattle.a429_import.specs.Known.{Knows};
 ghost use Rattle.a429_import.specs.NumberRanges.{HaveRanges};
 ghost use Rattle.a429_import.specs.Renamed.{all_renamed};
-ghost use Rattle.a429_import.specs.RenamedReading.{IsReadBy};
+ghost use Rattle.a429_import.specs.RenamedReading.{AreWhole, IsReadBy};
 
 use crate::above::line_above;
 use crate::comments::{MadeOf, with_texts};
@@ -45,7 +45,26 @@ fn table_of_rows(alloc: Global, read: &RowsRead) -> Result<Vec<u8>, ImportFault>
     }
 }
 
-/// The table that known rows describe with names, with their texts as comments.
+/// The table that rows describe, with the texts that their names are made of as comments.
+fn commented_table(
+    alloc: Global,
+    made: MadeOf<'_>,
+    read: &RowsRead,
+) -> Result<Vec<u8>, ImportFault>
+    requires names { AreWhole made.names.now }
+    requires rows { (rows : List ImportRow) × HasRows read.now rows }
+    ensures { (rows : List ImportRow) → HasRows read.now rows → HaveRanges rows → IsTableOf rows result }
+{
+    match table_of_rows(alloc, read) {
+        Ok(text) => match with_texts(alloc, made, text) {
+            Ok(table) => Ok(table),
+            Err(_) => Err(ImportFault::NoMemory),
+        },
+        Err(fault) => Err(fault),
+    }
+}
+
+/// The table that known rows describe with names.
 fn table_with_names(
     alloc: Global,
     known: &Known,
@@ -56,18 +75,12 @@ fn table_with_names(
 {
     let names = all_names(alloc, known, rows)?;
     let read = all_renamed(alloc, known, &names, rows)?;
-    match table_of_rows(alloc, &read) {
-        Ok(text) => Ok(with_texts(
-            alloc,
-            MadeOf {
-                names: &names,
-                known,
-                rows,
-            },
-            text,
-        )?),
-        Err(fault) => Err(fault),
-    }
+    let made = MadeOf {
+        names: &names,
+        known,
+        rows,
+    };
+    commented_table(alloc, made, &read)
 }
 
 /// The table that rows describe with names, unless it has too much of something.

@@ -1,5 +1,5 @@
 //! Rows whose texts of groups, sources and receivers become names.
-ghost use Rattle.std.specs.Prelude.{◌≡◌, ◌++◌, ◌∷◌, [], IfOk, List, OnOk, unwrap_or};
+ghost use Rattle.std.specs.Prelude.{◌≡◌, ◌++◌, ◌∷◌, [], IfOk, List, not, OnOk, unwrap_or};
 ghost use Rattle.std.specs.List.{count_by, position_from};
 ghost use Rattle.std.specs.Str.{bytes_eq};
 ghost use Rattle.a429_import.specs.declared.rows.ImportRow.{ImportRow};
@@ -7,10 +7,10 @@ ghost use Rattle.a429_import.specs.ImportReading.{HasRows};
 ghost use Rattle.a429_import.specs.ImportFields.{field_in, utf8_in};
 ghost use Rattle.a429_import.specs.ImportTables.{name_in};
 ghost use Rattle.a429_import.specs.Known.{Knows, KnowsFirsts};
-ghost use Rattle.a429_import.specs.ImportTexts.{row_view};
+ghost use Rattle.a429_import.specs.ImportTexts.{texts_view};
 ghost use Rattle.a429_import.specs.Names.{AreTexts, IsIndexed, names_of, texts_of};
 ghost use Rattle.a429_import.specs.RenamedReading.{AreNames};
-ghost use Rattle.a429_import.specs.Renamed.{all_renamed, base_of, chosen, end_of, is_alone, is_taken, long_name, name_for, names_in, plain_of, plains_of, renamed, source_text, text_of};
+ghost use Rattle.a429_import.specs.Renamed.{all_renamed, base_of, chosen, end_of, is_alone, is_taken, long_name, name_for, names_in, names_of_row, plain_of, plains_of, renamed, source_text, text_of};
 
 use crate::fields::utf8_in;
 use crate::firsts::Part;
@@ -23,6 +23,9 @@ use crate::rows::{ImportRow, RowFields, TextFields};
 use crate::texts::Texts;
 use a429_text::Text;
 use std::alloc::{AllocError, Global};
+
+/// How many long names are tried. A table has at most 256 texts of a column, so fewer are taken.
+const NUMBERS: u64 = 1000;
 
 /// The text of a row's receiver, source or group; that of a source has more behind it.
 fn name_in(part: Part, row: &ImportRow) -> &str
@@ -116,6 +119,15 @@ fn is_taken(names: &Texts, others: &Texts, name: &[u8]) -> bool
     0 < count_in(names, name) || 0 < count_in(others, name)
 }
 
+/// Whether a name is none of these, and none of others.
+fn is_free(names: &Texts, others: &Texts, name: &[u8]) -> bool
+    requires names { AreTexts names.now }
+    requires others { AreTexts others.now }
+    ensures { result ≡ not (is_taken (texts_of names.now ++ texts_of others.now) name.now) }
+{
+    !is_taken(names, others, name)
+}
+
 /// Whether one text alone has this plain name.
 fn is_alone(plains: &Texts, plain: &[u8]) -> bool
     requires { AreTexts plains.now }
@@ -137,9 +149,9 @@ fn long_name(
     requires others { AreTexts others.now }
     ensures { IfOk result (λ name. name.items ≡ long_name (texts_of names.now ++ texts_of others.now) base.now end.now) }
 {
-    for number in 0..names.len() + others.len() + 1 {
-        let name = numbered_name(alloc, base, end, number as u64)?;
-        if !is_taken(names, others, &name) {
+    for number in 0..NUMBERS {
+        let name = numbered_name(alloc, base, end, number)?;
+        if is_free(names, others, &name) {
             return Ok(name);
         }
     }
@@ -311,19 +323,17 @@ fn name_for<'a>(part: Part, named: &NamedRows, names: &'a Texts, row: &ImportRow
     name_at(names, place_for(part, named, row))
 }
 
-/// A row with names.
-fn renamed<'a>(known: &Known, names: &'a AllNames, row: &'a ImportRow) -> RowFields<'a>
+/// The names of a row, and its filters.
+fn names_of<'a>(known: &Known, names: &'a AllNames, row: &'a ImportRow) -> TextFields<'a>
     requires { (rows : List ImportRow) × Knows known.now rows × AreNames names.now rows }
-    ensures { (rows : List ImportRow) → Knows known.now rows → AreNames names.now rows → row_view result ≡ renamed rows row.now }
+    ensures { (rows : List ImportRow) → Knows known.now rows → AreNames names.now rows
+        → texts_view result ≡ names_of_row rows row.now }
 {
-    RowFields {
-        texts: TextFields {
-            group: name_for(Part::Groups, &known.groups.named, &names.groups, row),
-            source: name_for(Part::Sources, &known.sources.named, &names.sources, row),
-            receiver: name_for(Part::Receivers, &known.receivers.named, &names.receivers, row),
-            filters: row.texts.filters.as_str(),
-        },
-        numbers: row.numbers,
+    TextFields {
+        group: name_for(Part::Groups, &known.groups.named, &names.groups, row),
+        source: name_for(Part::Sources, &known.sources.named, &names.sources, row),
+        receiver: name_for(Part::Receivers, &known.receivers.named, &names.receivers, row),
+        filters: row.texts.filters.as_str(),
     }
 }
 
@@ -340,8 +350,12 @@ fn take_renamed(
     ensures { OnOk result ((all rows : List ImportRow) → Knows known.now all → AreNames names.now all → HasRows read.old rows
         → HasRows read.new (rows ++ renamed all row.now ∷ [])) }
 {
-    let fields = renamed(known, names, row);
-    take_new(alloc, read, &fields)
+    let fields = RowFields {
+        texts: names_of(known, names, row),
+        numbers: row.numbers,
+    };
+    take_new(alloc, read, &fields)?;
+    Ok(())
 }
 
 /// What known rows say with names. Error: an allocation failed.

@@ -1,5 +1,7 @@
-use Rattle.std.proofs.Common.{◌≡◌, ◌∙◌, List, None, Some, ap, cond, subst, sym}
+use Rattle.std.proofs.Common.{◌≡◌, ◌∙◌, Err, List, None, Some, ap, cond, subst, sym}
 use Rattle.std.specs.Prelude.{is_some}
+use Rattle.a429_table.specs.declared.fault.TableFault.TheVariants as fault
+use Rattle.a429_import.specs.declared.fault.ImportFault.TheVariants.{Table}
 use Rattle.a429_import.specs.declared.rows.ImportRow.{ImportRow}
 use Rattle.a429_import.specs.ImportLimits.{limit_fault}
 use Rattle.a429_import.specs.Imports.{IsTableOf}
@@ -13,7 +15,7 @@ use Rattle.a429_import.proofs.import.named_table.Goals as goal
 pub returns-in-Some : goal.returns-in-Some
 returns-in-Some c = λ rows has ranges.
     let there : limit_fault rows ≡ Some (c.in-Some.kind, c.in-Some.place) = sym (c.limit_fault.ensures rows has.known) ∙ c.in-Some.is in
-    subst (λ (rs : List ImportRow). IsTableOf rs c.result) (sym (ap (λ o. cond (is_some o) rows (all_renamed rows)) there)) (limit_fault_is_first rows (c.in-Some.kind, c.in-Some.place) there)
+    subst (λ (rs : List ImportRow). IsTableOf rs (Err (Table (fault.At c.in-Some.kind c.in-Some.place)))) (sym (ap (λ o. cond (is_some o) rows (all_renamed rows)) there)) (limit_fault_is_first rows (c.in-Some.kind, c.in-Some.place) there)
 
 pub table_with_names-requires : goal.table_with_names-requires
 table_with_names-requires c =

@@ -6,12 +6,6 @@ use Rattle.a429_import.specs.ImportReading.{HasRows}
 use Rattle.a429_import.specs.Renamed.{renamed}
 use Rattle.a429_import.proofs.renamed.all_renamed.Goals as goal
 
-pub take_renamed-requires-names : goal.take_renamed-requires-names
-take_renamed-requires-names c = (c.args.rows.now, c.requires.known, c.requires.names)
-
-pub take_renamed-requires-read : goal.take_renamed-requires-read
-take_renamed-requires-read c = (map (renamed c.args.rows.now) (take c.loop-row.row-index c.args.rows.now), c.loop-row.invariant.known)
-
 pub loop-row-preserved : goal.loop-row-preserved
 loop-row-preserved c =
     let rows : List ImportRow = c.args.rows.now in
