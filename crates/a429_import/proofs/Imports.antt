@@ -104,7 +104,7 @@ pub no_import : (makes_names : Bool) (lines : List CsvLine) (line : ℕ) (kind :
 no_import false lines line kind column h = h
 no_import true lines line kind column h = h
 
--- lines whose sources are told apart
+-- lines with keys of sources
 pub import_by : (makes_names : Bool) (read : LinesRead) (lines : List CsvLine) (result : Result (Vec ℕ Global) ImportFault) → IsReadBy makes_names read lines
     → ((all : List CsvLine) → StandsFor read all → IsImportFrom makes_names all result) → IsImportBy makes_names lines result
 import_by false read lines result known is = is lines known

@@ -25,7 +25,7 @@ pub mod HeadingFirst
 pub mod WrittenQuotes
 mod PartsOfText
 mod ImportMaps
-pub mod MadeLines
+pub mod KeyedLines
 pub mod ChosenNames
 mod NamesApart
 pub mod RenamedReading

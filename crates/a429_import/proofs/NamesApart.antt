@@ -117,6 +117,7 @@ chosen_is_new plains earlier part row from there word = by (is_word (text_of par
   where
     long : List ℕ
     long = long_name (plains ++ earlier) (base_of part row) (end_of part row)
+
     by : (a b : Bool) → is_alone plains (plain_of part row) ≡ b → is_word (cond (not a) [] (cond b (plain_of part row) long)) ≡ true → IsNew plains earlier (cond (not a) [] (cond b (plain_of part row) long))
     by false b e w = cc w
     by true true e w = alone_is_new plains earlier (plain_of part row) from there e
@@ -135,13 +136,13 @@ more_from plains earlier name from new = λ i other word at. elim (last_or_befor
 more_apart : (plains earlier : List (List ℕ)) (name : List ℕ) → AreApart earlier → (is_word name ≡ true → IsNew plains earlier name) → AreApart (earlier ++ name ∷ [])
 more_apart plains earlier name apart new = λ i j other word a b. elim (last_or_before earlier name other i a) [
   | inl first ↦ elim (last_or_before earlier name other j b) [
-      | inl second ↦ apart i j other word first second
-      | inr (place, same) ↦ let is = new (ap is_word same ∙ word) in absurd (is.new i (first ∙ ap (λ (x : List ℕ). Some x) (sym same)))
-    ]
+    | inl second ↦ apart i j other word first second
+    | inr (place, same) ↦ let is = new (ap is_word same ∙ word) in absurd (is.new i (first ∙ ap (λ (x : List ℕ). Some x) (sym same)))
+  ]
   | inr (place, same) ↦ elim (last_or_before earlier name other j b) [
-      | inl second ↦ let is = new (ap is_word same ∙ word) in absurd (is.new j (second ∙ ap (λ (x : List ℕ). Some x) (sym same)))
-      | inr (other_place, _) ↦ place ∙ sym other_place
-    ]
+    | inl second ↦ let is = new (ap is_word same ∙ word) in absurd (is.new j (second ∙ ap (λ (x : List ℕ). Some x) (sym same)))
+    | inr (other_place, _) ↦ place ∙ sym other_place
+  ]
 ]
 
 apart_after : (plains : List (List ℕ)) (part : Part) (earlier : List (List ℕ)) (rows : List ImportRow) → ((k : ℕ) (row : ImportRow) → slice_get rows k ≡ Some row → slice_get plains (length earlier + k) ≡ Some (plain_of part row))
@@ -162,4 +163,10 @@ apart_after plains part earlier (row ∷ rows) aligned from apart =
 pub names_apart : (part : Part) (rows : List ImportRow) → AreApart (names_in part rows)
 unfolding names_in
 names_apart part rows =
-    apart_after (plains_of part rows) part [] (firsts part rows) (λ k row at. slice_get-map (plain_of part) (firsts part rows) k ∙ ap (option_map (plain_of part)) at) (λ i name word at. cc at) (λ i j name word a b. cc a)
+    let none : List (List ℕ) = [] in
+    let plains : List (List ℕ) = map (plain_of part) (firsts part rows) in
+    apart_after plains part none (firsts part rows)
+    (λ k row at.
+    let same : k ≡ length none + k = omega arith in
+    subst (λ (n : ℕ). slice_get plains n ≡ Some (plain_of part row)) same (slice_get-map (plain_of part) (firsts part rows) k ∙ ap (option_map (plain_of part)) at))
+    (λ i name word at. cc at) (λ i j name word a b. cc a)

@@ -1,10 +1,10 @@
--- What is known of lines whose sources are told apart, after one more line.
+-- What is known of lines with keys of sources, after one more line.
 use Rattle.std.proofs.Common.{◌≡◌, ◌∙◌, Bool, true, false, List, [], ◌∷◌, ◌++◌, Option, None, Some, ap, refl, subst, sym}
 use Rattle.a429_import.specs.declared.columns.Heading.{Heading}
 use Rattle.a429_import.specs.declared.lines.CsvLine.{CsvLine}
 use Rattle.a429_import.specs.declared.reading.LinesRead.{LinesRead}
 use Rattle.a429_import.specs.ImportReading.{IsHeadingOf, StandsFor}
-use Rattle.a429_import.specs.MadeLines.{AreKeyed, IsKeyedLine}
+use Rattle.a429_import.specs.KeyedLines.{AreKeyed, IsKeyedLine}
 use Rattle.a429_import.specs.RenamedReading.{HasKeyed, IsReadBy, KeyedBelow}
 use Rattle.a429_import.proofs.Knowing.{zip_push}
 

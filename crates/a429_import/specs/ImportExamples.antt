@@ -9,7 +9,7 @@ use Rattle.a429_import.specs.ImportForms.{heading_of}
 use Rattle.a429_import.specs.ImportMaps.{mapped, names_by}
 use Rattle.a429_import.specs.Imports.{has_row_above, is_misquoted_text}
 use Rattle.a429_import.specs.ImportRows.{is_in_millis, is_named, numbers_of}
-use Rattle.a429_import.specs.MadeLines.{end_in, key_end, keyed_fields}
+use Rattle.a429_import.specs.KeyedLines.{end_in, key_end, keyed_fields}
 use Rattle.a429_import.specs.MadeNames.{in_room_or, label_end, made_name, numbered_name}
 use Rattle.a429_import.specs.Renamed.{names_in}
 
@@ -91,7 +91,7 @@ pub record MakesNames : Type 0 where
   pub label : numbered_name (codes "adc1") (label_end 131 (Some 1)) 0 ≡ codes "adc1-203-1"
   pub any : numbered_name (codes "air-left") (label_end 131 None) 0 ≡ codes "air-left-203"
 
--- a line below a heading: the text of its source has its receiver, its label and its SDI behind it
+-- a line below a heading: after the text of its source come its receiver, its label and its SDI
 pub record TellsApart : Type 0 where
   pub end : end_in needed_columns (row_of_alt [] [] [] []) ≡ 0 ∷ codes "adc-1-203-1"
   pub some : keyed_fields (codes "|r-203") (codes "Source" ∷ codes "note" ∷ []) (codes "alt" ∷ codes "No 1" ∷ []) ≡ codes "alt|r-203" ∷ codes "No 1" ∷ []

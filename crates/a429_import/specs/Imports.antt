@@ -22,7 +22,7 @@ use Rattle.a429_import.specs.ImportQuotes.{has_wrong_quotes, text_before}
 use Rattle.a429_import.specs.ImportRows.{CsvFault, rows_stated}
 use Rattle.a429_import.specs.ImportTables.{root_members, record_stated}
 use Rattle.a429_import.specs.ImportLimits.{limit_fault}
-use Rattle.a429_import.specs.MadeLines.{AreKeyed}
+use Rattle.a429_import.specs.KeyedLines.{AreKeyed}
 use Rattle.a429_import.specs.Renamed.{all_renamed}
 
 -- the result is the one of the rows, unless an allocation failed; the fault of a table cannot come here
@@ -119,7 +119,7 @@ abbrev pub IsImportFrom : Bool → List CsvLine → Result (Vec ℕ Global) Impo
 IsImportFrom false lines result = IsImportOf lines result
 IsImportFrom true lines result = IsNamedImport lines result
 
--- the import of lines, with names if the flag is set: sources are told apart by their texts, their receivers, their labels and their SDIs
+-- the import of lines, with names if the flag is set: sources differ if their texts, receivers, labels or SDIs do
 abbrev pub IsImportBy : Bool → List CsvLine → Result (Vec ℕ Global) ImportFault → Type 0
 IsImportBy false lines result = IsImportOf lines result
 IsImportBy true lines result = (keyed : List CsvLine) × AreKeyed lines keyed × IsNamedImport keyed result

@@ -12,7 +12,7 @@ pub mod ImportBuilding
 pub mod ImportFaults
 pub mod ImportTexts
 pub mod MadeNames
-pub mod MadeLines
+pub mod KeyedLines
 pub mod Renamed
 pub mod NumberRanges
 pub mod Imports

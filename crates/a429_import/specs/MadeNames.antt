@@ -55,7 +55,7 @@ made_name text = if is_word (plain_name text) then plain_name text else text
 abbrev pub joined_ends : List ℕ → List ℕ → List ℕ
 joined_ends start end = if is_word end then without_last_dash start ++ 45 ∷ end else start
 
--- a text in so many bytes: if it has more, what is left of its beginning and of its last five bytes
+-- a text in a number of bytes: if it has more, what is left of its beginning and of its last five bytes
 abbrev pub in_room : ℕ → List ℕ → List ℕ
 in_room room text =
     if nat_le (length text) room then shortened text
@@ -80,6 +80,6 @@ number_end number = if number == 0 then [] else 95 ∷ decimal number
 abbrev pub ended : List ℕ → List ℕ → List ℕ
 ended base end = without_last_dash (take (16 - length end) base) ++ end
 
--- the name of a number: a base, an end, and the number behind it
+-- the name of a number: a base, an end, and the number
 unfoldable pub numbered_name : List ℕ → List ℕ → ℕ → List ℕ
 numbered_name base end number = ended base (end ++ number_end number)

@@ -8,12 +8,12 @@ use Rattle.a429_import.specs.declared.rows.ImportRow.{ImportRow}
 use Rattle.a429_import.specs.declared.rows.RowTexts.{RowTexts}
 use Rattle.a429_import.specs.ImportFields.{field_in, utf8_in}
 use Rattle.a429_import.specs.ImportTables.{firsts, is_word, name_in}
-use Rattle.a429_import.specs.MadeLines.{key_end}
+use Rattle.a429_import.specs.KeyedLines.{key_end}
 use Rattle.a429_import.specs.MadeNames.{in_room_or, label_end, numbered_name, plain_name}
 
 -- ---- what a name is made of
 
--- the text of a row's source, without what stands behind it
+-- the text of a row's source, without the rest of its key
 abbrev pub source_text : ImportRow → List ℕ
 source_text row = take (length row.texts.source - length (key_end row.texts.receiver row.numbers.label row.numbers.sdi)) row.texts.source
 
@@ -42,7 +42,7 @@ end_of part row = []
 abbrev pub is_taken : List (List ℕ) → List ℕ → Bool
 is_taken names name = nat_lt 0 (count_by (bytes_eq name) names)
 
--- the first long name that is not taken, of so many numbers from one on
+-- the first long name that is not taken, of a count of numbers from one on
 abbrev pub free_name : List (List ℕ) → List ℕ → List ℕ → ℕ → ℕ → List ℕ
 free_name taken base end zero number = []
 free_name taken base end (suc left) number =

@@ -1,4 +1,4 @@
--- What is known of names that were made, and of lines whose sources are told apart (profile: import).
+-- What is known of names that were made, and of lines with keys of sources (profile: import).
 use Rattle.std.specs.Prelude.{◌≡◌, Bool, true, false, List, [], ◌∷◌, Option, None, Some}
 use Rattle.std.specs.List.{AllZip}
 use Rattle.a429_import.specs.declared.columns.Heading.{Heading}
@@ -8,7 +8,7 @@ use Rattle.a429_import.specs.declared.reading.LinesRead.{LinesRead}
 use Rattle.a429_import.specs.declared.renamed.AllNames.{AllNames}
 use Rattle.a429_import.specs.declared.rows.ImportRow.{ImportRow}
 use Rattle.a429_import.specs.ImportReading.{StandsFor}
-use Rattle.a429_import.specs.MadeLines.{IsKeyedLine}
+use Rattle.a429_import.specs.KeyedLines.{IsKeyedLine}
 use Rattle.a429_import.specs.Names.{AreTexts, texts_of}
 use Rattle.a429_import.specs.Renamed.{names_in}
 
@@ -25,7 +25,7 @@ pub record AreNames (names : AllNames) (rows : List ImportRow) : Type 0 where
   pub sources : texts_of names.sources ≡ names_in Sources rows
   pub groups : texts_of names.groups ≡ names_in Groups rows
 
--- a heading and lines below it, whose sources are told apart
+-- a heading and lines below it, with keys of sources
 pub record KeyedBelow (heading : CsvLine) (read : LinesRead) (lines : List CsvLine) : Type 0 where
   pub below : List CsvLine
   pub lines_are : lines ≡ heading ∷ below

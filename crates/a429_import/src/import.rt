@@ -46,11 +46,7 @@ fn table_of_rows(alloc: Global, read: &RowsRead) -> Result<Vec<u8>, ImportFault>
 }
 
 /// The table that rows describe, with the texts that their names are made of as comments.
-fn commented_table(
-    alloc: Global,
-    made: MadeOf<'_>,
-    read: &RowsRead,
-) -> Result<Vec<u8>, ImportFault>
+fn commented_table(alloc: Global, made: MadeOf<'_>, read: &RowsRead) -> Result<Vec<u8>, ImportFault>
     requires names { AreWhole made.names.now }
     requires rows { (rows : List ImportRow) × HasRows read.now rows }
     ensures { (rows : List ImportRow) → HasRows read.now rows → HaveRanges rows → IsTableOf rows result }
@@ -229,11 +225,11 @@ fn text_fault(
 /// their first rows, outputs in the order of the rows of their group. `read_equipment` reads the answer. Error: the first
 /// fault of the rows, otherwise the first of the table, or `NoMemory` if an allocation fails.
 ///
-/// With `makes_names`, the texts of groups, sources and receivers become names, and no two become one name. A source is then
-/// told apart by its text, its receiver, its label and its SDI. `made_name` makes the name, if no other text of the column
-/// would have it. Otherwise a source has the name of its receiver, its label and its SDI, and another text what is left of its
-/// beginning and its end, with a number behind it if that is the name of another. The answer has a comment above each group,
-/// source and receiver whose text differs from its name. Without a heading no names are made.
+/// With `makes_names`, the texts of groups, sources and receivers become names, and no two become one name. Sources then
+/// differ if their texts, receivers, labels or SDIs do. `made_name` makes the name, if no other text of the column would have
+/// it. Otherwise the name of a source has its receiver, its label and its SDI, and that of another text has what is left of
+/// its beginning and its end. A number follows if another text has that name. The answer has a comment above each group, source
+/// and receiver whose text differs from its name. Without a heading no names are made.
 pub fn import_table(
     alloc: Global,
     maps: &[&str],

@@ -1,15 +1,15 @@
-//! Lines whose sources are told apart, one after the other.
+//! Lines with keys of sources, one after the other.
 ghost use Rattle.std.specs.Prelude.{◌≡◌, ◌++◌, ◌∷◌, [], List, None, OnOk};
 ghost use Rattle.a429_import.specs.declared.lines.CsvLine.{CsvLine};
 ghost use Rattle.a429_import.specs.ImportReading.{StandsFor};
 ghost use Rattle.a429_import.specs.RenamedReading.{HasKeyed, IsReadBy};
 
+use crate::keyed_lines::keyed_line;
 use crate::lines::CsvLine;
-use crate::made_lines::keyed_line;
 use crate::reading::{LinesRead, take_line};
 use std::alloc::{AllocError, Global};
 
-/// Takes one more line, with its source told apart unless it is the heading. Error: an allocation failed.
+/// Takes one more line, with the key of its source unless it is the heading. Error: an allocation failed.
 fn take_keyed(alloc: Global, read: &mut LinesRead, line: CsvLine) -> Result<(), AllocError>
     requires { (lines : List CsvLine) × HasKeyed read.old.heading read.old lines }
     ensures { OnOk result ((lines : List CsvLine) → HasKeyed read.old.heading read.old lines

@@ -196,7 +196,7 @@ fn both_ends(alloc: Global, room: usize, text: &[u8]) -> Result<Vec<u8>, AllocEr
     Ok(name)
 }
 
-/// A text in so many bytes. It is empty if nothing is left. Error: an allocation failed.
+/// A text in a number of bytes. It is empty if nothing is left. Error: an allocation failed.
 fn in_room(alloc: Global, room: usize, text: &[u8]) -> Result<Vec<u8>, AllocError>
     requires { 6 ≤ room }
     ensures { IfOk result (λ name. name.items ≡ in_room room text.now) }
@@ -207,10 +207,15 @@ fn in_room(alloc: Global, room: usize, text: &[u8]) -> Result<Vec<u8>, AllocErro
     both_ends(alloc, room, text)
 }
 
-/// A text in so many bytes: if it has more, what is left of its beginning and of its last five bytes. If nothing is left, it
+/// A text in a number of bytes: if it has more, what is left of its beginning and of its last five bytes. If nothing is left, it
 /// is a word. Error: an allocation failed.
 #[tactic(auto, unfolding(crate::specs::MadeNames::in_room_or))]
-pub fn in_room_or(alloc: Global, word: &str, room: usize, text: &[u8]) -> Result<Vec<u8>, AllocError>
+pub fn in_room_or(
+    alloc: Global,
+    word: &str,
+    room: usize,
+    text: &[u8],
+) -> Result<Vec<u8>, AllocError>
     requires { 6 ≤ room }
     ensures { IfOk result (λ name. name.items ≡ in_room_or word.now room text.now) }
 {
@@ -232,7 +237,7 @@ pub fn put_label_end(end: &mut Text, label: Label, sdi: Option<Sdi>)
     }
 }
 
-/// An end with a number behind it; 0 is not written. Error: an allocation failed.
+/// An end with a number after it; 0 is not written. Error: an allocation failed.
 fn numbered_end(alloc: Global, end: &[u8], number: u64) -> Result<Vec<u8>, AllocError>
     ensures { IfOk result (λ text. text.items ≡ end.now ++ number_end number) }
 {
@@ -245,7 +250,7 @@ fn numbered_end(alloc: Global, end: &[u8], number: u64) -> Result<Vec<u8>, Alloc
     text.into_bytes()
 }
 
-/// The name of a number: a base, an end, and the number behind it. The base is cut, so that the name has at most 16 bytes.
+/// The name of a number: a base, an end, and the number. The base is cut, so that the name has at most 16 bytes.
 /// Error: an allocation failed.
 #[tactic(auto, unfolding(crate::specs::MadeNames::numbered_name))]
 pub fn numbered_name(

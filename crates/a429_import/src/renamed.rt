@@ -14,8 +14,8 @@ ghost use Rattle.a429_import.specs.Renamed.{all_renamed, base_of, chosen, end_of
 
 use crate::fields::utf8_in;
 use crate::firsts::Part;
+use crate::keyed_lines::key_end;
 use crate::known::Known;
-use crate::made_lines::key_end;
 use crate::made_names::{in_room_or, numbered_name, plain_name, put_label_end};
 use crate::named_rows::NamedRows;
 use crate::reading::{RowsRead, take_new};
@@ -27,7 +27,7 @@ use std::alloc::{AllocError, Global};
 /// How many long names are tried. A table has at most 256 texts of a column, so fewer are taken.
 const NUMBERS: u64 = 1000;
 
-/// The text of a row's receiver, source or group; that of a source has more behind it.
+/// The text of a row's receiver, source or group; a source has its key.
 fn name_in(part: Part, row: &ImportRow) -> &str
     ensures { result.now ≡ name_in part row.now }
 {
@@ -38,7 +38,7 @@ fn name_in(part: Part, row: &ImportRow) -> &str
     }
 }
 
-/// The text of a row's source, without what stands behind it. Error: an allocation failed.
+/// The text of a row's source, without the rest of its key. Error: an allocation failed.
 fn source_text(alloc: Global, row: &ImportRow) -> Result<&[u8], AllocError>
     ensures { IfOk result (λ text. text.now ≡ source_text row.now) }
 {
@@ -78,7 +78,12 @@ fn base_of(alloc: Global, part: Part, row: &ImportRow) -> Result<Vec<u8>, AllocE
 {
     match part {
         Part::Receivers => {
-            in_room_or(alloc, "receiver", 16, row.texts.receiver.as_str().as_bytes())
+            in_room_or(
+                alloc,
+                "receiver",
+                16,
+                row.texts.receiver.as_str().as_bytes(),
+            )
         }
         Part::Sources => in_room_or(alloc, "r", 10, row.texts.receiver.as_str().as_bytes()),
         Part::Groups => in_room_or(alloc, "group", 16, row.texts.group.as_str().as_bytes()),
@@ -242,7 +247,8 @@ fn push_chosen(
 ) -> Result<(), AllocError>
     requires names { AreTexts names.old }
     requires plains { AreTexts plains.now }
-    ensures texts { OnOk result (texts_of names.new ≡ texts_of names.old ++ chosen (texts_of plains.now) (texts_of names.old) part row.now ∷ []) }
+    ensures texts { OnOk result (texts_of names.new
+        ≡ texts_of names.old ++ chosen (texts_of plains.now) (texts_of names.old) part row.now ∷ []) }
     ensures are { OnOk result (AreTexts names.new) }
 {
     let name = chosen(alloc, plains, names, part, row)?;
@@ -264,7 +270,13 @@ fn names_in(
     let plains = plains_of(alloc, part, named, rows)?;
     let mut names = Texts::new(alloc);
     for place in 0..named.len() {
-        push_chosen(alloc, &mut names, &plains, part, &rows[named.first_at(place)])?;
+        push_chosen(
+            alloc,
+            &mut names,
+            &plains,
+            part,
+            &rows[named.first_at(place)],
+        )?;
     }
     Ok(names)
 }
@@ -332,7 +344,12 @@ fn names_of<'a>(known: &Known, names: &'a AllNames, row: &'a ImportRow) -> TextF
     TextFields {
         group: name_for(Part::Groups, &known.groups.named, &names.groups, row),
         source: name_for(Part::Sources, &known.sources.named, &names.sources, row),
-        receiver: name_for(Part::Receivers, &known.receivers.named, &names.receivers, row),
+        receiver: name_for(
+            Part::Receivers,
+            &known.receivers.named,
+            &names.receivers,
+            row,
+        ),
         filters: row.texts.filters.as_str(),
     }
 }

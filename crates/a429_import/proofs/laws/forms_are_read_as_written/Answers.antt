@@ -9,7 +9,7 @@ use Rattle.a429_import.specs.ImportForms.{heading_among}
 use Rattle.a429_import.specs.ImportQuotes.{is_misquoted_from}
 use Rattle.a429_import.specs.ImportRows.{column_field, is_column_in_millis, is_named, numbers_of}
 use Rattle.a429_equipment.specs.NameForm.{is_name}
-use Rattle.a429_import.specs.MadeLines.{end_in}
+use Rattle.a429_import.specs.KeyedLines.{end_in}
 use Rattle.a429_import.specs.MadeNames.{in_room_or, made_name, numbered_name}
 use Rattle.a429_import.specs.Renamed.{base_of, chosen, end_of, long_name, names_in, plain_of}
 use Rattle.std.specs.Str.{chars, is_utf8}

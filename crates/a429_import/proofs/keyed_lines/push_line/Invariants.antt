@@ -1,7 +1,7 @@
 use Rattle.std.proofs.Common.{◌≡◌, [], take}
 use Rattle.csv.specs.Records.{fields_of, partial_of}
-use Rattle.a429_import.specs.MadeLines.{keyed_fields}
-use Rattle.a429_import.proofs.made_lines.push_line.Given as goal
+use Rattle.a429_import.specs.KeyedLines.{keyed_fields}
+use Rattle.a429_import.proofs.keyed_lines.push_line.Given as goal
 
 abbrev pub invariant-loop-place : goal.invariant-loop-place
 invariant-loop-place l = record {

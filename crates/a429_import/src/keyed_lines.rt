@@ -1,7 +1,7 @@
-//! Lines whose sources are told apart by their texts, their receivers, their labels and their SDIs.
+//! Lines with keys of sources. The key of a source is its text, and after it its receiver, its label and its SDI.
 ghost use Rattle.std.specs.Prelude.{◌≡◌, ◌++◌, ◌∷◌, [], IfOk, OnOk};
 ghost use Rattle.csv.specs.Records.{fields_of, partial_of};
-ghost use Rattle.a429_import.specs.MadeLines.{IsKeyedLine, end_in, key_end, keyed_below, keyed_fields};
+ghost use Rattle.a429_import.specs.KeyedLines.{IsKeyedLine, end_in, key_end, keyed_below, keyed_fields};
 
 use crate::columns::{Heading, is_named};
 use crate::fault::ImportColumn;
@@ -13,7 +13,7 @@ use a429_word::{Label, Sdi};
 use csv::ByteRecord;
 use std::alloc::{AllocError, Global};
 
-/// What stands behind the text of a source: its receiver, its label and its SDI. Error: an allocation failed.
+/// What comes after the text of a source in its key: its receiver, its label and its SDI. Error: an allocation failed.
 pub fn key_end(
     alloc: Global,
     receiver: &str,
@@ -30,7 +30,7 @@ pub fn key_end(
 }
 
 /// The same of a line; nothing if the line does not state it. Error: an allocation failed.
-#[tactic(auto, unfolding(crate::specs::MadeLines::end_in))]
+#[tactic(auto, unfolding(crate::specs::KeyedLines::end_in))]
 fn end_in(alloc: Global, heading: &Heading, line: &CsvLine) -> Result<Vec<u8>, AllocError>
     ensures { IfOk result (λ end. end.items ≡ end_in (fields_of heading.now.line.fields) (fields_of line.now.fields)) }
 {
@@ -78,7 +78,7 @@ fn push_below(
     }
 }
 
-/// Adds the fields of a line, with this end behind the text of its source.
+/// Adds the fields of a line, with this end after the text of its source.
 fn push_line(
     alloc: Global,
     fields: &mut ByteRecord,
@@ -96,7 +96,7 @@ fn push_line(
     Ok(())
 }
 
-/// The fields of a line, with what tells its source apart. Error: an allocation failed.
+/// The fields of a line, with the key of its source. Error: an allocation failed.
 fn fields_keyed(alloc: Global, heading: &Heading, line: &CsvLine) -> Result<ByteRecord, AllocError>
     ensures { IfOk result (λ fields. fields_of fields
         ≡ keyed_fields (end_in (fields_of heading.now.line.fields) (fields_of line.now.fields)) (fields_of heading.now.line.fields) (fields_of line.now.fields)) }
@@ -107,7 +107,7 @@ fn fields_keyed(alloc: Global, heading: &Heading, line: &CsvLine) -> Result<Byte
     Ok(fields)
 }
 
-/// A line below a heading, with what tells its source apart. Error: an allocation failed.
+/// A line below a heading, with the key of its source. Error: an allocation failed.
 pub fn keyed_line(alloc: Global, heading: &Heading, line: &CsvLine) -> Result<CsvLine, AllocError>
     ensures { IfOk result (λ keyed. IsKeyedLine heading.now.line line.now keyed) }
 {

@@ -1,10 +1,10 @@
--- Lines whose sources are told apart.
+-- Lines with keys of sources.
 use Rattle.std.proofs.Common.{◌≡◌, ◌∙◌, ℕ, zero, suc, ◌<◌, ◌&&◌, Bool, false, cond, List, [], ◌∷◌, ◌++◌, get_or, length, take, ap, arith, refl, sym}
 use Rattle.std.proofs.Math.Seq.{take-suc}
 use Rattle.a429_import.specs.declared.fault.ImportColumn.TheVariants.{Source}
 use Rattle.a429_import.specs.ImportRows.{is_named}
 use Rattle.a429_import.specs.ImportTables.{is_word}
-use Rattle.a429_import.specs.MadeLines.{keyed_below, keyed_fields}
+use Rattle.a429_import.specs.KeyedLines.{keyed_below, keyed_fields}
 
 no_source : is_named Source [] ≡ false
 unfolding is_named

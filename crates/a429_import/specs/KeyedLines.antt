@@ -1,5 +1,4 @@
--- Lines whose sources are told apart by their texts, their receivers, their labels and their SDIs: the text of a source has the others behind it
--- (profile: import).
+-- Lines with keys of sources. The key of a source is its text, and after it its receiver, its label and its SDI (profile: import).
 use Rattle.std.specs.Prelude.{◌≡◌, ℕ, ◌&&◌, List, [], ◌∷◌, ◌++◌, Option, None, Some, if◌then◌else◌}
 use Rattle.std.specs.List.{AllZip}
 use Rattle.csv.specs.Records.{fields_of}
@@ -10,7 +9,7 @@ use Rattle.a429_import.specs.ImportRows.{column_field, is_named}
 use Rattle.a429_import.specs.ImportTables.{is_word}
 use Rattle.a429_import.specs.MadeNames.{label_end}
 
--- what stands behind the text of a source
+-- what comes after the text of a source in its key
 abbrev pub key_end : List ℕ → ℕ → Option ℕ → List ℕ
 key_end receiver label sdi = (0 ∷ receiver) ++ label_end label sdi
 
@@ -34,7 +33,7 @@ keyed_fields end [] fields = fields
 keyed_fields end (h ∷ heading) [] = []
 keyed_fields end (h ∷ heading) (field ∷ fields) = keyed_below end h field ∷ keyed_fields end heading fields
 
--- a line below a heading, with its source told apart
+-- a line below a heading, with the key of its source for its text
 pub record IsKeyedLine (heading line keyed : CsvLine) : Type 0 where
   pub number : keyed.number ≡ line.number
   pub separator : keyed.separator ≡ line.separator

@@ -1,8 +1,8 @@
 use Rattle.std.proofs.Common.{◌≡◌, ◌<◌, ◌+◌, ◌∙◌, ◌++◌, ◌∷◌, [], List, ℕ, suc, ap, ap₂, arith, length, subst, sym, take}
 use Rattle.csv.specs.Records.{fields_of}
-use Rattle.a429_import.specs.MadeLines.{keyed_below, keyed_fields}
-use Rattle.a429_import.proofs.MadeLines.{keyed_more, keyed_none}
-use Rattle.a429_import.proofs.made_lines.push_line.Goals as goal
+use Rattle.a429_import.specs.KeyedLines.{keyed_below, keyed_fields}
+use Rattle.a429_import.proofs.KeyedLines.{keyed_more, keyed_none}
+use Rattle.a429_import.proofs.keyed_lines.push_line.Goals as goal
 
 pub loop-place-init : goal.loop-place-init
 loop-place-init c = record { fields = c.requires.none ∙ sym (keyed_none c.args.end.now (fields_of c.args.heading.now.fields)); partial = c.requires.partial }
