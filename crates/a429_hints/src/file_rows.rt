@@ -108,10 +108,28 @@ impl<'a> FileRows<'a> {
         found
     }
 
-    /// Whether the row at a place is the first with this field in a column.
-    pub fn is_first(self, place: usize, field: &[u8], column: ImportColumn) -> bool {
-        for (number, row) in self.rows.iter().enumerate() {
-            if self.field(row, column) == field {
+    /// Whether two rows have one source, receiver or group. If names are made, a source has a receiver, a label and an SDI
+    /// besides its text.
+    pub fn are_one(self, a: &'a CsvLine, b: &'a CsvLine, column: ImportColumn) -> bool {
+        self.field(a, column) == self.field(b, column)
+            && (!self.makes_names || column != ImportColumn::Source || self.have_one_word(a, b))
+    }
+
+    /// Whether two rows have the same receiver, label and SDI.
+    fn have_one_word(self, a: &'a CsvLine, b: &'a CsvLine) -> bool {
+        match (self.word_of(a), self.word_of(b)) {
+            (Some(one), Some(other)) => {
+                self.field(a, ImportColumn::Receiver) == self.field(b, ImportColumn::Receiver)
+                    && one.is_like(other, false)
+            }
+            _ => false,
+        }
+    }
+
+    /// Whether the row at a place is the first of its source, receiver or group.
+    pub fn is_first(self, place: usize, row: &'a CsvLine, column: ImportColumn) -> bool {
+        for (number, earlier) in self.rows.iter().enumerate() {
+            if self.are_one(earlier, row, column) {
                 return number == place;
             }
         }
@@ -125,7 +143,7 @@ impl<'a> FileRows<'a> {
         for (place, row) in self.rows.iter().enumerate() {
             let field = self.field(row, column);
             let has_group = column != ImportColumn::Group || !field.is_empty();
-            if has_group && self.is_first(place, field, column) {
+            if has_group && self.is_first(place, row, column) {
                 if left == 0 {
                     return Some(row);
                 }
@@ -186,7 +204,7 @@ pub fn is_of_output(column: ImportColumn) -> bool {
 }
 
 /// Whether a column has names.
-pub fn is_of_names(column: ImportColumn) -> bool {
+fn is_of_names(column: ImportColumn) -> bool {
     matches!(
         column,
         ImportColumn::Group | ImportColumn::Source | ImportColumn::Receiver
@@ -312,9 +330,9 @@ fn micros_in(text: &str) -> Option<u32> {
 }
 
 /// Says the name that `--names` makes of a text of a column. If an earlier text of the column has that name, a number follows.
-/// Nothing is said if the text is such a name.
+/// Nothing is said if the text is such a name, or if names are made.
 fn say_proposed_name(field: FileField, text: &str, made: &[u8], hint: &HintText) {
-    if made == text.as_bytes() {
+    if made == text.as_bytes() || field.file.makes_names {
         return;
     }
     let name = str::from_utf8(made).unwrap_or("");
@@ -325,7 +343,7 @@ fn say_proposed_name(field: FileField, text: &str, made: &[u8], hint: &HintText)
 }
 
 /// Whether a text becomes this name.
-pub fn becomes(text: &str, name: &[u8], hint: &HintText) -> bool {
+fn becomes(text: &str, name: &[u8], hint: &HintText) -> bool {
     match made_name(hint.alloc, text) {
         Ok(made) => made.as_slice() == name,
         Err(_) => {
@@ -344,7 +362,7 @@ fn texts_before(field: FileField, text: &str, name: &[u8], hint: &HintText) -> u
         if earlier == text {
             return count;
         }
-        if becomes(earlier, name, hint) && file.is_first(place, file.field(row, column), column) {
+        if becomes(earlier, name, hint) && file.is_first(place, row, column) {
             count = count.saturating_add(1);
         }
     }

@@ -98,7 +98,7 @@ fn clash<'a>(file: FileRows<'a>, column: ImportColumn, a: &'a CsvLine, b: &'a Cs
 /// Says with which earlier source the source of a row clashes.
 fn tell_twin_source<'a>(file: FileRows<'a>, row: &'a CsvLine, hint: &HintText) {
     for earlier in file.rows {
-        if file.field(earlier, ImportColumn::Source) != file.field(row, ImportColumn::Source)
+        if !file.are_one(earlier, row, ImportColumn::Source)
             && clash(file, ImportColumn::Receiver, earlier, row)
         {
             hint.begin(": source ");

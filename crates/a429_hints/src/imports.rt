@@ -1,6 +1,6 @@
 //! Hints about rows of comma-separated values that `import` refuses.
 
-use crate::file_rows::{FileField, FileRows, becomes, is_of_names, is_of_output, tell_field};
+use crate::file_rows::{FileField, FileRows, is_of_output, tell_field};
 use crate::files::{REFUSED_OUTPUT, other_file};
 use crate::headings::tell_heading;
 use crate::hint::HintText;
@@ -10,7 +10,7 @@ use a429_console::refusals::{CommandRefusal, CsvKind};
 use a429_filter::Filter;
 use a429_import::{
     CsvLine, Heading, IMPORT_COLUMNS, ImportColumn, column_in, csv_lines, form_fault,
-    is_column_named, made_name, misquoted_line, named_by,
+    is_column_named, misquoted_line, named_by,
 };
 
 /// How many bytes of a file are read for a hint.
@@ -165,7 +165,7 @@ fn tell_faulty_rows(
     };
     match (column_of(evidence), kind) {
         (None, _) => tell_count(file, row, hint),
-        (Some(column), CsvKind::Differs) => tell_differs(FileField { file, row, column }, hint),
+        (Some(column), CsvKind::Differs) => tell_difference(FileField { file, row, column }, hint),
         (Some(column), _) => tell_form(FileField { file, row, column }, hint),
     }
     tell_later_rows(file, line, hint);
@@ -244,44 +244,6 @@ fn owner_of(column: ImportColumn) -> ImportColumn {
         ImportColumn::Rate => ImportColumn::Group,
         _ => ImportColumn::Source,
     }
-}
-
-/// Says why a row differs from an earlier one: their texts become one name, or it contradicts that row.
-fn tell_differs(field: FileField, hint: &HintText) {
-    if !(field.file.makes_names && is_of_names(field.column) && tell_twin_text(field, hint)) {
-        tell_difference(field, hint);
-    }
-}
-
-/// Says which earlier text of a column becomes the same name as that of a row. The answer is whether there is one.
-fn tell_twin_text(field: FileField, hint: &HintText) -> bool {
-    let text = field.text();
-    let Ok(name) = made_name(hint.alloc, text) else {
-        hint.give_up();
-        return true;
-    };
-    let Some(earlier) = first_of_name(field, &name, hint) else {
-        return false;
-    };
-    let other = field.file.text(earlier, field.column);
-    if other == text {
-        return false;
-    }
-    field.begin(hint);
-    let name = str::from_utf8(name.as_slice()).unwrap_or("");
-    hint.say_two("{?} becomes {}, and so does ", text, name);
-    hint.end_two("{?} on line {}; change one of them", other, earlier.number);
-    true
-}
-
-/// The first row whose text in a column becomes this name.
-fn first_of_name<'a>(field: FileField<'a>, name: &[u8], hint: &HintText) -> Option<&'a CsvLine> {
-    for row in field.file.rows {
-        if becomes(field.file.text(row, field.column), name, hint) {
-            return Some(row);
-        }
-    }
-    None
 }
 
 /// Says in what a row contradicts an earlier one.

@@ -18,16 +18,8 @@ use Rattle.a429_import.specs.declared.rows.RowNumbers.{RowNumbers}
 use Rattle.a429_import.specs.declared.rows.RowTexts.{RowTexts}
 use Rattle.a429_import.specs.ImportFields.{if_group, in_32_bits, interval_in, micros_in, is_any, is_bit, is_high, is_low, is_mark, may_be_thousands, label_in, millis_in, number_in, padded, parted_millis, rate_in, sdi_digits, sdi_in, hold_in, together}
 use Rattle.a429_import.specs.ImportWords.{unwrapped}
+use Rattle.a429_import.specs.NumberRanges.{AreInRange, HaveRanges}
 use Rattle.a429_import.specs.ImportRows.{◌>>=◌, CsvFault, column_field, is_column_in_millis, names_group, numbers_of, texts_of, joined, row_of, first_clash, agreed, next_row, rows_after, unless_wrong, rows_stated, says_nothing, with_row, wrong_column}
-
--- those of a row
-pub record AreInRange (n : RowNumbers) : Type 0 where
-  pub rate : n.rate < 2 ^ 32
-  pub label : n.label < 256
-  pub sdi : IfSome n.sdi (λ k. k < 4)
-  pub least : n.min_us < 2 ^ 32
-  pub most : n.max_us < 2 ^ 32
-  pub hold : IfSome n.hold (λ k. k < 2 ^ 32)
 
 -- ---- fields
 
@@ -214,9 +206,6 @@ next_in_range heading earlier line row h =
     let by_itself = bound (row_of heading line) (λ r. agreed line.number r (first_clash earlier r)) row h in
     let same = agreed_is line.number by_itself.value (first_clash earlier by_itself.value) row by_itself.gives in
     subst (λ (r : ImportRow). AreInRange r.numbers) same (row_in_range heading line by_itself.value by_itself.was)
-
-abbrev pub HaveRanges : List ImportRow → Type 0
-HaveRanges rows = AllByRecursion (λ row. AreInRange row.numbers) rows
 
 one_more : (rows : List ImportRow) (row : ImportRow) → HaveRanges rows → AreInRange row.numbers → HaveRanges (rows ++ row ∷ [])
 one_more [] row all here = (here, tt)

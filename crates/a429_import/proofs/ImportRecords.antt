@@ -23,7 +23,7 @@ use Rattle.a429_import.specs.declared.rows.ImportRow.{ImportRow}
 use Rattle.a429_import.specs.declared.firsts.Part.{Part}
 use Rattle.a429_import.specs.declared.firsts.Part.TheVariants.{Receivers, Sources, Groups}
 use Rattle.a429_import.specs.ImportTables.{with_filters, with_hold, sdi_data, number, words, name_in, same_name, is_known, firsts, firsts_after, groups_of, has_group, rows_of_group, receiver_tree, source_tree, output_tree, group_tree, part_trees, root_members, filters_stated, receiver_stated, number_of, source_stated, group_stated, output_stated, outputs_stated, record_stated}
-use Rattle.a429_import.proofs.ImportRanges.{AreInRange, HaveRanges}
+use Rattle.a429_import.specs.NumberRanges.{AreInRange, HaveRanges}
 
 -- ---- lists
 

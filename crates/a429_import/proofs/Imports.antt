@@ -13,11 +13,13 @@ use Rattle.a429_table.specs.Faults.{faults, first}
 use Rattle.a429_table.specs.Reading.{GivesUnlessMemory, document, judged, reading}
 use Rattle.a429_table.specs.Stated.{stated}
 use Rattle.a429_table.proofs.Documents.{document-text}
+use Rattle.a429_import.specs.declared.fault.CsvFaultKind.{CsvFaultKind}
 use Rattle.a429_import.specs.declared.fault.CsvFaultKind.TheVariants.{Form}
 use Rattle.a429_import.specs.declared.fault.ImportColumn.{ImportColumn}
 use Rattle.a429_import.specs.declared.fault.ImportFault.{ImportFault}
 use Rattle.a429_import.specs.declared.fault.ImportFault.TheVariants.{NoMemory, Csv, Wide, Table}
 use Rattle.a429_import.specs.declared.lines.CsvLine.{CsvLine}
+use Rattle.a429_import.specs.declared.reading.LinesRead.{LinesRead}
 use Rattle.a429_import.specs.declared.rows.ImportRow.{ImportRow}
 use Rattle.a429_import.specs.ImportAbove.{has_data_above}
 use Rattle.a429_import.specs.ImportFaults.{of_table}
@@ -25,10 +27,12 @@ use Rattle.a429_import.specs.ImportForms.{from_heading, separator_in}
 use Rattle.a429_import.specs.ImportQuotes.{has_wrong_quotes}
 use Rattle.a429_import.specs.ImportRows.{rows_stated}
 use Rattle.a429_import.specs.ImportTables.{record_stated, root_members}
-use Rattle.a429_import.specs.Imports.{AreNamedLines, IsImport, IsImportBy, IsImportIf, IsImportOf, IsImportUnless, IsTextFault, has_row_above, has_wide_rows, is_misquoted_text, is_wide_text, separated}
-use Rattle.a429_import.specs.MadeLines.{first_twin}
-use Rattle.a429_import.proofs.ImportRanges.{stated_in_range}
+use Rattle.a429_import.specs.Imports.{AreNamedLines, IsImport, IsImportBy, IsImportFrom, IsImportIf, IsImportOf, IsTableBy, IsTableOf, IsTextFault, has_row_above, has_wide_rows, is_misquoted_text, is_wide_text, separated}
+use Rattle.a429_import.specs.ImportReading.{HaveFault, StandsFor}
+use Rattle.a429_import.specs.NumberRanges.{HaveRanges}
+use Rattle.a429_import.specs.RenamedReading.{IsReadBy}
 use Rattle.a429_import.proofs.ImportRecords.{tree_states}
+use Rattle.a429_import.proofs.RenamedReading.{keyed_of}
 
 -- bytes whose document is a root table are read as that is judged
 reading_is : (bytes : List ℕ) (root : Data) → document bytes ≡ Some root → reading bytes ≡ judged root (faults root)
@@ -43,9 +47,9 @@ judged_first : (root : Data) (fs : List (FaultKind × TablePlace)) (found : Faul
 judged_first root [] found h = cc
 judged_first root (f ∷ fs) found h = cc
 
--- ---- of lines
+-- ---- of rows
 
-module _ (lines : List CsvLine) (rows : List ImportRow) (are : rows_stated lines ≡ Ok rows) (bytes : List ℕ) (text : IsUtf8 bytes) (parsed : parse_document bytes ≡ Some (root_members rows)) where
+module _ (rows : List ImportRow) (ranges : HaveRanges rows) (bytes : List ℕ) (text : IsUtf8 bytes) (parsed : parse_document bytes ≡ Some (root_members rows)) where
   there : document bytes ≡ Some (table (root_members rows))
   there = document-text bytes (Some (root_members rows)) text parsed
 
@@ -53,19 +57,58 @@ module _ (lines : List CsvLine) (rows : List ImportRow) (are : rows_stated lines
   pub record_read : (t : TableRecord) → reading bytes ≡ Ok t → reading bytes ≡ Ok (record_stated rows)
   record_read t read =
       let root = table (root_members rows) in
-      let is : t ≡ record_stated rows = sym (judged_record root (faults root) t (sym (reading_is bytes root there) ∙ read)) ∙ tree_states rows (stated_in_range lines rows are) in
+      let is : t ≡ record_stated rows = sym (judged_record root (faults root) t (sym (reading_is bytes root there) ∙ read)) ∙ tree_states rows ranges in
       read ∙ ap (λ r. Ok r) is
 
   first_read : (f : FaultKind × TablePlace) → reading bytes ≡ Err f → first (faults (table (root_members rows))) ≡ Some f
   first_read f read = let root = table (root_members rows) in judged_first root (faults root) f (sym (reading_is bytes root there) ∙ read)
 
-  refused : (f : TableFault) → GivesUnlessMemory (λ (t : TableRecord). t) bytes (Err f) (reading bytes) → IsImportOf lines (Err (of_table f))
+  refused : (f : TableFault) → GivesUnlessMemory (λ (t : TableRecord). t) bytes (Err f) (reading bytes) → IsTableOf rows (Err (of_table f))
   refused fault.NoMemory h = tt
-  refused (fault.At kind place) h = (rows, are, first_read (kind, place) h)
+  refused (fault.At kind place) h = first_read (kind, place) h
 
   -- a table that is refused
-  pub table_refused : (f : TableFault) (e : ImportFault) → GivesUnlessMemory (λ (t : TableRecord). t) bytes (Err f) (reading bytes) → e ≡ of_table f → IsImportOf lines (Err e)
-  table_refused f e h is = subst (λ (x : ImportFault). IsImportOf lines (Err x)) (sym is) (refused f h)
+  pub table_refused : (f : TableFault) (e : ImportFault) → GivesUnlessMemory (λ (t : TableRecord). t) bytes (Err f) (reading bytes) → e ≡ of_table f → IsTableOf rows (Err e)
+  table_refused f e h is = subst (λ (x : ImportFault). IsTableOf rows (Err x)) (sym is) (refused f h)
+
+-- ---- of lines
+
+-- the table of the rows that lines state
+pub table_import : (makes_names : Bool) (lines : List CsvLine) (rows : List ImportRow) (result : Result (Vec ℕ Global) ImportFault) → rows_stated lines ≡ Ok rows → IsTableBy makes_names rows result → IsImportFrom makes_names lines result
+table_import false lines rows (Ok text) are h = (rows, are, h)
+table_import false lines rows (Err NoMemory) are h = tt
+table_import false lines rows (Err (Csv line kind column)) are h = absurd h
+table_import false lines rows (Err (Wide line)) are h = absurd h
+table_import false lines rows (Err (Table fault.NoMemory)) are h = absurd h
+table_import false lines rows (Err (Table (fault.At kind place))) are h = (rows, are, h)
+table_import true lines rows (Ok text) are h = (rows, are, h)
+table_import true lines rows (Err NoMemory) are h = tt
+table_import true lines rows (Err (Csv line kind column)) are h = absurd h
+table_import true lines rows (Err (Wide line)) are h = absurd h
+table_import true lines rows (Err (Table f)) are h = (rows, are, h)
+
+-- the fault of lines
+pub fault_import : (makes_names : Bool) (lines : List CsvLine) (e : ImportFault) → HaveFault e lines → IsImportFrom makes_names lines (Err e)
+fault_import makes_names [] e h = absurd h
+fault_import false (heading ∷ below) NoMemory h = tt
+fault_import false (heading ∷ below) (Csv line kind column) h = h
+fault_import false (heading ∷ below) (Wide line) h = absurd h
+fault_import false (heading ∷ below) (Table f) h = absurd h
+fault_import true (heading ∷ below) NoMemory h = tt
+fault_import true (heading ∷ below) (Csv line kind column) h = h
+fault_import true (heading ∷ below) (Wide line) h = absurd h
+fault_import true (heading ∷ below) (Table f) h = absurd h
+
+-- lines without a heading
+pub no_import : (makes_names : Bool) (lines : List CsvLine) (line : ℕ) (kind : CsvFaultKind) (column : Option ImportColumn) → IsImportOf lines (Err (Csv line kind column)) → IsImportFrom makes_names lines (Err (Csv line kind column))
+no_import false lines line kind column h = h
+no_import true lines line kind column h = h
+
+-- lines with keys of sources
+pub import_by : (makes_names : Bool) (read : LinesRead) (lines : List CsvLine) (result : Result (Vec ℕ Global) ImportFault) → IsReadBy makes_names read lines
+    → ((all : List CsvLine) → StandsFor read all → IsImportFrom makes_names all result) → IsImportBy makes_names lines result
+import_by false read lines result known is = is lines known
+import_by true read lines result known is = let keyed = keyed_of read.heading read lines known in (keyed.0, keyed.1, is keyed.0 keyed.2)
 
 -- ---- of a text
 
@@ -80,13 +123,9 @@ module _ (maps : List (List ℕ)) (text : List ℕ) (separator : ℕ) (rest : Li
   pub unfit_by : (unfit : Bool) → unfit ≡ (has_wrong_quotes (separated separator) rest text || has_data_above (separated separator) maps rest text) → (is_misquoted_text maps text || has_row_above maps text) ≡ unfit
   unfit_by unfit same = by_form (λ s xs. has_wrong_quotes (separated s) xs text || has_data_above (separated s) maps xs text) unfit same
 
-unless_wide : (twin : Option (ℕ × ImportColumn)) (lines : List CsvLine) (line : ℕ) → IsImportUnless twin lines (Err (Wide line)) → ⊥
-unless_wide None lines line h = h
-unless_wide (Some twin) lines line h = cc h
-
 by_wide : (makes_names : Bool) (lines : List CsvLine) (line : ℕ) → IsImportBy makes_names lines (Err (Wide line)) → ⊥
 by_wide false lines line h = h
-by_wide true lines line h = unless_wide (first_twin lines) h.0 line h.2
+by_wide true lines line h = h.2
 
 -- the rest of what is imported, if no fault comes before those of the rows
 module _ (maps : List (List ℕ)) (makes_names : Bool) (text : List ℕ) where

@@ -25,8 +25,8 @@ pub mod HeadingFirst
 pub mod WrittenQuotes
 mod PartsOfText
 mod ImportMaps
-pub mod MadeNames
-pub mod GivenTexts
-pub mod MadeReading
+pub mod KeyedLines
+pub mod ChosenNames
+mod NamesApart
+pub mod RenamedReading
 pub mod SameTables
-pub mod Twins

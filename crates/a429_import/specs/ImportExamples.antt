@@ -1,14 +1,17 @@
 -- What some fields and headings state, as programs write them (profile: import).
-use Rattle.std.specs.Prelude.{◌≡◌, ℕ, codes, true, false, List, [], ◌∷◌, None, Some, Ok, Err}
+use Rattle.std.specs.Prelude.{◌≡◌, ℕ, codes, true, false, List, [], ◌∷◌, ◌++◌, None, Some, Ok, Err}
 use Rattle.a429_import.specs.declared.fault.ImportColumn.TheVariants.{MaxUs, MinUs, Rate}
+use Rattle.a429_import.specs.declared.firsts.Part.TheVariants.{Receivers, Sources, Groups}
+use Rattle.a429_import.specs.declared.rows.ImportRow.{ImportRow}
 use Rattle.a429_import.specs.declared.rows.RowNumbers.{RowNumbers}
 use Rattle.a429_import.specs.ImportFields.{label_in, millis_in, rate_in, sdi_in}
 use Rattle.a429_import.specs.ImportForms.{heading_of}
 use Rattle.a429_import.specs.ImportMaps.{mapped, names_by}
 use Rattle.a429_import.specs.Imports.{has_row_above, is_misquoted_text}
 use Rattle.a429_import.specs.ImportRows.{is_in_millis, is_named, numbers_of}
-use Rattle.a429_import.specs.MadeLines.{made_fields}
-use Rattle.a429_import.specs.MadeNames.{made_field, made_name}
+use Rattle.a429_import.specs.KeyedLines.{end_in, key_end, keyed_fields}
+use Rattle.a429_import.specs.MadeNames.{in_room_or, label_end, made_name, numbered_name}
+use Rattle.a429_import.specs.Renamed.{names_in}
 
 -- bit rates, labels and SDIs
 pub record ReadsFields : Type 0 where
@@ -82,12 +85,35 @@ pub record MakesNames : Type 0 where
   pub stays : made_name (codes "-adc--1") ≡ codes "-adc--1"
   pub last : made_name (codes "Computed Airspe d") ≡ codes "computed-airspe"
   pub nothing : made_name (codes "?!") ≡ codes "?!"
-  pub empty : made_field [] ≡ []
-  pub no_text : made_field (65 ∷ 255 ∷ []) ≡ 65 ∷ 255 ∷ []
+  pub ends : in_room_or (codes "receiver") 16 (codes "Air Data Computer Left") ≡ codes "air-data-c-left"
+  pub short : in_room_or (codes "r") 10 (codes "ADC 1") ≡ codes "adc-1"
+  pub word : in_room_or (codes "group") 16 (codes "??") ≡ codes "group"
+  pub label : numbered_name (codes "adc1") (label_end 131 (Some 1)) 0 ≡ codes "adc1-203-1"
+  pub any : numbered_name (codes "air-left") (label_end 131 None) 0 ≡ codes "air-left-203"
 
--- the fields of a line below a heading
-pub record MakesFields : Type 0 where
-  pub some : made_fields (codes "Source" ∷ codes "note" ∷ codes "group" ∷ []) (codes "True Heading" ∷ codes "No 1" ∷ [] ∷ []) ≡ codes "true-heading" ∷ codes "No 1" ∷ [] ∷ []
+-- a line below a heading: after the text of its source come its receiver, its label and its SDI
+pub record TellsApart : Type 0 where
+  pub end : end_in needed_columns (row_of_alt [] [] [] []) ≡ 0 ∷ codes "adc-1-203-1"
+  pub some : keyed_fields (codes "|r-203") (codes "Source" ∷ codes "note" ∷ []) (codes "alt" ∷ codes "No 1" ∷ []) ≡ codes "alt|r-203" ∷ codes "No 1" ∷ []
+  pub none : keyed_fields (codes "|r-203") (codes "Source" ∷ []) ([] ∷ []) ≡ [] ∷ []
+
+-- a source, an output of it, and its receiver
+abbrev pub row_named : List ℕ → List ℕ → ℕ → ImportRow
+row_named source receiver label = record {
+  texts = record { group = codes "G"; source = source ++ key_end receiver label None; receiver = receiver; filters = [] };
+  numbers = record { rate = 100000; label = label; sdi = None; min_us = 1; max_us = 360; hold = None };
+}
+
+-- the names of sources: one text at two receivers, two texts that become one name, and one that stands alone
+abbrev pub rows_named : List ImportRow
+rows_named =
+    row_named (codes "Alt") (codes "ADC 1") 131 ∷ row_named (codes "Alt") (codes "ADC 2") 131 ∷ row_named (codes "Baro Altitude L 1") (codes "ADC 1") 132
+    ∷ row_named (codes "Baro Altitude L 2") (codes "ADC 1") 133 ∷ row_named (codes "Mach") (codes "ADC 1") 134 ∷ []
+
+pub record ChoosesNames : Type 0 where
+  pub sources : names_in Sources rows_named ≡ codes "adc-1-203" ∷ codes "adc-2-203" ∷ codes "adc-1-204" ∷ codes "adc-1-205" ∷ codes "mach" ∷ []
+  pub receivers : names_in Receivers rows_named ≡ codes "adc-1" ∷ codes "adc-2" ∷ []
+  pub groups : names_in Groups rows_named ≡ codes "g" ∷ []
 
 -- quotes: a field that is not closed, in the heading, in rows and above the heading; text after the quote that closes a field; quotes within a field
 -- are text

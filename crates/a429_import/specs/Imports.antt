@@ -1,5 +1,5 @@
 -- What is imported from a text of comma-separated values: a table, or why there is none (profile: import).
-use Rattle.std.specs.Prelude.{◌≡◌, ◌==◌, ◌||◌, ℕ, Bool, true, false, not, List, filter, length, map, nat_lt, Option, None, Some, Result, Ok, Err, Vec}
+use Rattle.std.specs.Prelude.{◌≡◌, ◌==◌, ◌||◌, ℕ, Bool, true, false, not, List, filter, if◌then◌else◌, is_some, length, map, nat_lt, Option, None, Some, Result, Ok, Err, Vec}
 use Rattle.std.specs.List.{AllByRecursion, list_any}
 use Rattle.std.specs.declared.alloc.Global.{Global}
 use Rattle.csv.specs.Reading.{AreRecords, default_config, records, strip_bom}
@@ -10,8 +10,7 @@ use Rattle.toml.specs.Data.{table}
 use Rattle.a429_table.specs.declared.fault.TableFault.TheVariants as fault
 use Rattle.a429_table.specs.Faults.{faults, first}
 use Rattle.a429_table.specs.Reading.{reading}
-use Rattle.a429_import.specs.declared.fault.CsvFaultKind.TheVariants.{Differs, Form}
-use Rattle.a429_import.specs.declared.fault.ImportColumn.{ImportColumn}
+use Rattle.a429_import.specs.declared.fault.CsvFaultKind.TheVariants.{Form}
 use Rattle.a429_import.specs.declared.fault.ImportFault.{ImportFault}
 use Rattle.a429_import.specs.declared.fault.ImportFault.TheVariants.{NoMemory, Csv, Wide, Table}
 use Rattle.a429_import.specs.declared.lines.CsvLine.{CsvLine}
@@ -22,7 +21,9 @@ use Rattle.a429_import.specs.ImportMaps.{AreNamedBy}
 use Rattle.a429_import.specs.ImportQuotes.{has_wrong_quotes, text_before}
 use Rattle.a429_import.specs.ImportRows.{CsvFault, rows_stated}
 use Rattle.a429_import.specs.ImportTables.{root_members, record_stated}
-use Rattle.a429_import.specs.MadeLines.{AreMade, first_twin}
+use Rattle.a429_import.specs.ImportLimits.{limit_fault}
+use Rattle.a429_import.specs.KeyedLines.{AreKeyed}
+use Rattle.a429_import.specs.Renamed.{all_renamed}
 
 -- the result is the one of the rows, unless an allocation failed; the fault of a table cannot come here
 abbrev pub States : {X Y : Type 0} → (X → Y) → Result X ImportFault → Result Y CsvFault → Type 0
@@ -90,15 +91,38 @@ IsImportOf lines (Err (Table fault.NoMemory)) = ⊥
 IsImportOf lines (Err (Table (fault.At kind place))) =
     (rows : List ImportRow) × (rows_stated lines ≡ Ok rows) × (first (faults (table (root_members rows))) ≡ Some (kind, place))
 
--- the same, unless there is a line whose text differs from that of its name
-abbrev pub IsImportUnless : Option (ℕ × ImportColumn) → List CsvLine → Result (Vec ℕ Global) ImportFault → Type 0
-IsImportUnless None lines result = IsImportOf lines result
-IsImportUnless (Some twin) lines result = result ≡ Err (Csv twin.0 Differs (Some twin.1))
+-- a table is read as the record of rows; it is refused for its first fault
+abbrev pub IsTableOf : List ImportRow → Result (Vec ℕ Global) ImportFault → Type 0
+IsTableOf rows (Ok text) = reading text.items ≡ Ok (record_stated rows)
+IsTableOf rows (Err NoMemory) = Unit {0}
+IsTableOf rows (Err (Table (fault.At kind place))) = first (faults (table (root_members rows))) ≡ Some (kind, place)
+IsTableOf rows (Err _) = ⊥
 
--- the import of lines whose names are made, if the flag is set
+-- rows with names; rows with a wrong bit rate, or with too much of something, stay: their table is refused
+abbrev pub rows_by : Bool → List ImportRow → List ImportRow
+rows_by false rows = rows
+rows_by true rows = if is_some (limit_fault rows) then rows else all_renamed rows
+
+-- the table of rows, with names if the flag is set
+abbrev pub IsTableBy : Bool → List ImportRow → Result (Vec ℕ Global) ImportFault → Type 0
+IsTableBy makes_names rows result = IsTableOf (rows_by makes_names rows) result
+
+-- the same, of the rows that lines state
+abbrev pub IsNamedImport : List CsvLine → Result (Vec ℕ Global) ImportFault → Type 0
+IsNamedImport lines (Err NoMemory) = Unit {0}
+IsNamedImport lines (Err (Csv line kind column)) = rows_stated lines ≡ Err (line, kind, column)
+IsNamedImport lines (Err (Wide line)) = ⊥
+IsNamedImport lines result = (rows : List ImportRow) × (rows_stated lines ≡ Ok rows) × IsTableBy true rows result
+
+-- the same, with names if the flag is set
+abbrev pub IsImportFrom : Bool → List CsvLine → Result (Vec ℕ Global) ImportFault → Type 0
+IsImportFrom false lines result = IsImportOf lines result
+IsImportFrom true lines result = IsNamedImport lines result
+
+-- the import of lines, with names if the flag is set: sources differ if their texts, receivers, labels or SDIs do
 abbrev pub IsImportBy : Bool → List CsvLine → Result (Vec ℕ Global) ImportFault → Type 0
 IsImportBy false lines result = IsImportOf lines result
-IsImportBy true lines result = (made : List CsvLine) × AreMade lines made × IsImportUnless (first_twin lines) made result
+IsImportBy true lines result = (keyed : List CsvLine) × AreKeyed lines keyed × IsNamedImport keyed result
 
 -- the import of a text, unless its quotes are wrong or a row of data is above its heading: then no other line is looked at. The line of that fault
 -- is not stated

@@ -12,7 +12,9 @@ pub mod ImportBuilding
 pub mod ImportFaults
 pub mod ImportTexts
 pub mod MadeNames
-pub mod MadeLines
+pub mod KeyedLines
+pub mod Renamed
+pub mod NumberRanges
 pub mod Imports
 pub mod ImportWidths
 pub mod ImportedRows
@@ -20,7 +22,7 @@ pub mod FirstRows
 pub mod ImportClashes
 pub mod ImportLimits
 pub mod ImportReading
-pub mod MadeReading
+pub mod RenamedReading
 pub mod SameTables
 pub mod Names
 pub mod Known

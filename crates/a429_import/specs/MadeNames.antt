@@ -1,9 +1,9 @@
--- The name that is made of a text (profile: import).
-use Rattle.std.specs.Prelude.{ℕ, ◌-◌, ◌==◌, ◌&&◌, ◌||◌, Bool, true, false, List, [], ◌∷◌, ◌++◌, if◌then◌else◌, drop, length, nat_le, slice_index_or, take}
+-- The names that are made of texts (profile: import).
+use Rattle.std.specs.Prelude.{ℕ, ◌+◌, ◌-◌, ◌==◌, ◌&&◌, ◌||◌, Bool, true, false, List, [], ◌∷◌, ◌++◌, Option, None, Some, if◌then◌else◌, drop, length, nat_le, slice_index_or, take}
 use Rattle.std.specs.Char.{to_ascii_lowercase}
-use Rattle.std.specs.Option.{option_map_or}
+use Rattle.std.specs.Fmt.{decimal}
+use Rattle.a429_word.specs.Texts.{octal}
 use Rattle.a429_equipment.specs.NameForm.{is_name}
-use Rattle.a429_import.specs.ImportFields.{text_in}
 use Rattle.a429_import.specs.ImportForms.{count_before}
 use Rattle.a429_import.specs.ImportTables.{is_word}
 
@@ -41,10 +41,45 @@ without_last_dash name = if slice_index_or name (length name - 1) 0 == 45 then t
 abbrev pub shortened : List ℕ → List ℕ
 shortened text = without_last_dash (take 16 (dashed false (from_kept text)))
 
--- a name stays, and so does a text of which nothing is left
-unfoldable pub made_name : List ℕ → List ℕ
-made_name text = if is_name text then text else if is_word (shortened text) then shortened text else text
+-- the name that is made of a text: a name stays. It is empty if nothing is left
+abbrev pub plain_name : List ℕ → List ℕ
+plain_name text = if is_name text then text else shortened text
 
--- the same for a field; one that is no text stays
-unfoldable pub made_field : List ℕ → List ℕ
-made_field field = option_map_or made_name (text_in field) field
+-- the same; a text of which nothing is left stays
+unfoldable pub made_name : List ℕ → List ℕ
+made_name text = if is_word (plain_name text) then plain_name text else text
+
+-- ---- longer texts
+
+-- the beginning of a text and its end
+abbrev pub joined_ends : List ℕ → List ℕ → List ℕ
+joined_ends start end = if is_word end then without_last_dash start ++ 45 ∷ end else start
+
+-- a text in a number of bytes: if it has more, what is left of its beginning and of its last five bytes
+abbrev pub in_room : ℕ → List ℕ → List ℕ
+in_room room text =
+    if nat_le (length text) room then shortened text
+    else joined_ends (take (room - 6) (shortened text)) (shortened (drop (length text - 5) text))
+
+-- the same; a word if nothing is left
+unfoldable pub in_room_or : List ℕ → ℕ → List ℕ → List ℕ
+in_room_or word room text = if is_word (in_room room text) then in_room room text else word
+
+-- ---- ends
+
+-- `-LLL`, and `-S` unless the SDI is any
+abbrev pub label_end : ℕ → Option ℕ → List ℕ
+label_end label None = 45 ∷ octal label
+label_end label (Some sdi) = (45 ∷ octal label) ++ 45 ∷ (48 + sdi) ∷ []
+
+-- nothing for 0, otherwise `_N`
+abbrev pub number_end : ℕ → List ℕ
+number_end number = if number == 0 then [] else 95 ∷ decimal number
+
+-- an end, cut before it to 16 bytes
+abbrev pub ended : List ℕ → List ℕ → List ℕ
+ended base end = without_last_dash (take (16 - length end) base) ++ end
+
+-- the name of a number: a base, an end, and the number
+unfoldable pub numbered_name : List ℕ → List ℕ → ℕ → List ℕ
+numbered_name base end number = ended base (end ++ number_end number)

@@ -75,8 +75,7 @@ pub enum CsvFaultKind {
     Form,
     /// The heading lacks a column, or has it twice.
     Column,
-    /// The row contradicts an earlier row about the same source, receiver or group. If names are made: its text of one of
-    /// these differs from that of an earlier row, and both become one name.
+    /// The row contradicts an earlier row about the same source, receiver or group.
     Differs,
 }
 
@@ -109,8 +108,7 @@ pub enum ImportFault {
     #[error("out of memory")]
     NoMemory,
     /// The rows have a fault of this kind, and no earlier row has a fault. Fields in quotes are looked at before any other
-    /// fault, then rows of data above the heading, and then two texts that become one name. Lines are counted from 1. `column`
-    /// is `None` if the row has more or fewer fields than the heading. It is also `None` if the quotes of a field that begins
+    /// fault, and then rows of data above the heading. Lines are counted from 1. `column` is `None` if the row has more or fewer fields than the heading. It is also `None` if the quotes of a field that begins
     /// on the line are wrong, or if the row is above the heading.
     #[error("csv line {line} {kind}")]
     Csv {

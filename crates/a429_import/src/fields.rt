@@ -280,7 +280,7 @@ fn hold_in(field: &[u8]) -> Option<Option<u32>>
 
 /// The text in a field: any UTF-8 text. `None` for any other field.
 #[tactic(auto, unfolding(crate::specs::ImportFields::utf8_in))]
-fn utf8_in(field: &[u8]) -> Option<&str>
+pub fn utf8_in(field: &[u8]) -> Option<&str>
     ensures { option_map (λ text. text.now) result ≡ utf8_in field.now }
 {
     match str::from_utf8(field) {

@@ -1,5 +1,5 @@
 //! An equipment table from rows of comma-separated values.
-ghost use Rattle.std.specs.Prelude.{◌≡◌, ◌||◌, [], false, IfOk, is_some, List, None, Ok, true};
+ghost use Rattle.std.specs.Prelude.{◌≡◌, ◌||◌, [], false, IfOk, is_some, List, None, true};
 ghost use Rattle.a429_import.specs.declared.lines.CsvLine.{CsvLine};
 ghost use Rattle.a429_import.specs.declared.rows.ImportRow.{ImportRow};
 ghost use Rattle.a429_import.specs.ImportAbove.{has_data_above};
@@ -7,19 +7,22 @@ ghost use Rattle.a429_import.specs.ImportForms.{from_heading, separator_in};
 ghost use Rattle.a429_import.specs.ImportMaps.{given_texts};
 ghost use Rattle.a429_import.specs.ImportQuotes.{has_wrong_quotes};
 ghost use Rattle.a429_import.specs.ImportReading.{HasRows, HaveRows, StandsFor};
-ghost use Rattle.a429_import.specs.ImportRows.{rows_stated};
-ghost use Rattle.a429_import.specs.Imports.{IsImport, IsImportBy, IsImportOf, IsTextFault, separated};
-ghost use Rattle.a429_import.specs.MadeLines.{AreMade};
-ghost use Rattle.a429_import.specs.MadeReading.{HasMade, IsReadBy};
+ghost use Rattle.a429_import.specs.Imports.{IsImport, IsImportFrom, IsTableBy, IsTableOf, IsTextFault, separated};
+ghost use Rattle.a429_import.specs.Known.{Knows};
+ghost use Rattle.a429_import.specs.NumberRanges.{HaveRanges};
+ghost use Rattle.a429_import.specs.Renamed.{all_renamed};
+ghost use Rattle.a429_import.specs.RenamedReading.{AreWhole, IsReadBy};
 
 use crate::above::line_above;
-use crate::comments::with_texts;
+use crate::comments::{MadeOf, with_texts};
 use crate::fault::{CsvFaultKind, ImportColumn, ImportFault};
 use crate::forms::{Form, form_of};
+use crate::known::Known;
 use crate::limits::limit_fault;
-use crate::made_reading::NamesRead;
 use crate::quotes::misquoted_line_of;
 use crate::reading::{LinesRead, RowsRead, wrong_heading};
+use crate::renamed::{all_names, all_renamed};
+use crate::rows::ImportRow;
 use crate::tables::table_text;
 use crate::text_reading::read_lines;
 use crate::widths::wide_line;
@@ -29,8 +32,7 @@ use std::alloc::{AllocError, Global};
 /// The table that rows describe.
 fn table_of_rows(alloc: Global, read: &RowsRead) -> Result<Vec<u8>, ImportFault>
     requires { (rows : List ImportRow) × HasRows read.now rows }
-    ensures { (rows : List ImportRow) (lines : List CsvLine) → HasRows read.now rows
-        → rows_stated lines ≡ Ok rows → IsImportOf lines result }
+    ensures { (rows : List ImportRow) → HasRows read.now rows → HaveRanges rows → IsTableOf rows result }
 {
     match limit_fault(&read.known) {
         Some((kind, place)) => return Err(ImportFault::Table(TableFault::At(kind, place))),
@@ -43,65 +45,90 @@ fn table_of_rows(alloc: Global, read: &RowsRead) -> Result<Vec<u8>, ImportFault>
     }
 }
 
-/// The table that lines without a fault describe.
-fn table_below_heading(alloc: Global, read: &LinesRead) -> Result<Vec<u8>, ImportFault>
-    requires { (lines : List CsvLine) × HaveRows read.now.heading read.now lines }
-    ensures { (lines : List CsvLine) → HaveRows read.now.heading read.now lines → IsImportOf lines result }
+/// The table that rows describe, with the texts that their names are made of as comments.
+fn commented_table(alloc: Global, made: MadeOf<'_>, read: &RowsRead) -> Result<Vec<u8>, ImportFault>
+    requires names { AreWhole made.names.now }
+    requires rows { (rows : List ImportRow) × HasRows read.now rows }
+    ensures { (rows : List ImportRow) → HasRows read.now rows → HaveRanges rows → IsTableOf rows result }
 {
-    match &read.heading {
-        None => Err(wrong_heading(1, ImportColumn::Group)),
-        Some(_heading) => table_of_rows(alloc, &read.rows),
-    }
-}
-
-/// The table that lines describe.
-fn table_of_lines(alloc: Global, read: &mut LinesRead) -> Result<Vec<u8>, ImportFault>
-    requires { (lines : List CsvLine) × StandsFor read.old lines }
-    ensures { (lines : List CsvLine) → StandsFor read.old lines → IsImportOf lines result }
-{
-    match read.fault.take() {
-        Some(fault) => Err(fault),
-        None => table_below_heading(alloc, read),
-    }
-}
-
-/// The table that lines with made names describe, with the given texts as comments.
-fn commented_table(alloc: Global, read: &mut NamesRead) -> Result<Vec<u8>, ImportFault>
-    requires { (lines : List CsvLine) × HasMade read.old.lines.heading read.old lines }
-    ensures { (lines : List CsvLine) → HasMade read.old.lines.heading read.old lines
-        → (made : List CsvLine) × AreMade lines made × IsImportOf made result }
-{
-    match table_of_lines(alloc, &mut read.lines) {
-        Ok(text) => Ok(with_texts(alloc, &read.given, text)?),
+    match table_of_rows(alloc, read) {
+        Ok(text) => match with_texts(alloc, made, text) {
+            Ok(table) => Ok(table),
+            Err(_) => Err(ImportFault::NoMemory),
+        },
         Err(fault) => Err(fault),
     }
 }
 
-/// The table that lines with made names describe, with the given texts as comments. Error: two texts of a column become
-/// one name; otherwise the fault of the table.
-fn made_table(alloc: Global, read: &mut NamesRead) -> Result<Vec<u8>, ImportFault>
-    requires { (lines : List CsvLine) × HasMade read.old.lines.heading read.old lines }
-    ensures { (lines : List CsvLine) → HasMade read.old.lines.heading read.old lines → IsImportBy true lines result }
+/// The table that known rows describe with names.
+fn table_with_names(
+    alloc: Global,
+    known: &Known,
+    rows: &[ImportRow],
+) -> Result<Vec<u8>, ImportFault>
+    requires { Knows known.now rows.now }
+    ensures { HaveRanges rows.now → IsTableOf (all_renamed rows.now) result }
 {
-    match read.given.twin {
-        Some((line, column)) => Err(ImportFault::Csv {
-            line,
-            kind: CsvFaultKind::Differs,
-            column: Some(column),
-        }),
-        None => commented_table(alloc, read),
+    let names = all_names(alloc, known, rows)?;
+    let read = all_renamed(alloc, known, &names, rows)?;
+    let made = MadeOf {
+        names: &names,
+        known,
+        rows,
+    };
+    commented_table(alloc, made, &read)
+}
+
+/// The table that rows describe with names, unless it has too much of something.
+fn named_table(alloc: Global, read: &RowsRead) -> Result<Vec<u8>, ImportFault>
+    requires { (rows : List ImportRow) × HasRows read.now rows }
+    ensures { (rows : List ImportRow) → HasRows read.now rows → HaveRanges rows → IsTableBy true rows result }
+{
+    match limit_fault(&read.known) {
+        Some((kind, place)) => Err(ImportFault::Table(TableFault::At(kind, place))),
+        None => table_with_names(alloc, &read.known, &read.kept),
     }
 }
 
-/// The table that lines describe, whose names are made if the flag is set.
-fn table_by(alloc: Global, makes_names: bool, read: &mut NamesRead) -> Result<Vec<u8>, ImportFault>
-    requires { (lines : List CsvLine) × IsReadBy makes_names read.old lines }
-    ensures { (lines : List CsvLine) → IsReadBy makes_names read.old lines → IsImportBy makes_names lines result }
+/// The table that rows describe, with names if the flag is set.
+fn table_by(alloc: Global, makes_names: bool, read: &RowsRead) -> Result<Vec<u8>, ImportFault>
+    requires { (rows : List ImportRow) × HasRows read.now rows }
+    ensures { (rows : List ImportRow) → HasRows read.now rows → HaveRanges rows → IsTableBy makes_names rows result }
 {
     if makes_names {
-        made_table(alloc, read)
+        named_table(alloc, read)
     } else {
-        table_of_lines(alloc, &mut read.lines)
+        table_of_rows(alloc, read)
+    }
+}
+
+/// The table that lines without a fault describe.
+fn table_below_heading(
+    alloc: Global,
+    makes_names: bool,
+    read: &LinesRead,
+) -> Result<Vec<u8>, ImportFault>
+    requires { (lines : List CsvLine) × HaveRows read.now.heading read.now lines }
+    ensures { (lines : List CsvLine) → HaveRows read.now.heading read.now lines → IsImportFrom makes_names lines result }
+{
+    match &read.heading {
+        None => Err(wrong_heading(1, ImportColumn::Group)),
+        Some(_heading) => table_by(alloc, makes_names, &read.rows),
+    }
+}
+
+/// The table that lines describe.
+fn table_of_lines(
+    alloc: Global,
+    makes_names: bool,
+    read: &mut LinesRead,
+) -> Result<Vec<u8>, ImportFault>
+    requires { (lines : List CsvLine) × StandsFor read.old lines }
+    ensures { (lines : List CsvLine) → StandsFor read.old lines → IsImportFrom makes_names lines result }
+{
+    match read.fault.take() {
+        Some(fault) => Err(fault),
+        None => table_below_heading(alloc, makes_names, read),
     }
 }
 
@@ -112,7 +139,7 @@ fn read_table(
     makes_names: bool,
     text: &[u8],
     form: Form<'_>,
-    read: &mut NamesRead,
+    read: &mut LinesRead,
 ) -> Result<Vec<u8>, ImportFault>
     requires separator { form.separator ≡ separator_in (given_texts maps.now) text.now }
     requires text { form.text.now ≡ from_heading (given_texts maps.now) text.now }
@@ -120,7 +147,7 @@ fn read_table(
     ensures { IsTextFault (given_texts maps.now) text.now None → IsImport (given_texts maps.now) makes_names text.now result }
 {
     read_lines(alloc, maps, makes_names, text, form, read)?;
-    table_by(alloc, makes_names, read)
+    table_of_lines(alloc, makes_names, read)
 }
 
 /// The table that a text of this form describes, if no fault comes before those of its rows.
@@ -136,7 +163,7 @@ fn table_of_text(
     ensures { IsTextFault (given_texts maps.now) text.now None → IsImport (given_texts maps.now) makes_names text.now result }
 {
     // A row with a new name has 11 bytes. So a chain has 12 names on average at most.
-    let mut read = NamesRead::new(alloc, makes_names, text.len() / 128)?;
+    let mut read = LinesRead::new(alloc, text.len() / 128)?;
     let table = read_table(alloc, maps, makes_names, text, form, &mut read);
     // One call, instead of a drop of each of its parts.
     std::mem::drop(read);
@@ -198,11 +225,11 @@ fn text_fault(
 /// their first rows, outputs in the order of the rows of their group. `read_equipment` reads the answer. Error: the first
 /// fault of the rows, otherwise the first of the table, or `NoMemory` if an allocation fails.
 ///
-/// With `makes_names`, the texts of groups, sources and receivers become names: `made_name` makes them. The answer has
-/// a comment above each group, source and receiver whose text differs from its name. Two texts of a column that become
-/// one name are refused: the fault is the first line whose text differs from the text of an earlier line with the same
-/// name. This comes before any other fault except three: a row with too many fields, a field that does not end as a field in
-/// quotes does, and a row of data above the heading. Without a heading no names are made.
+/// With `makes_names`, the texts of groups, sources and receivers become names, and no two become one name. Sources then
+/// differ if their texts, receivers, labels or SDIs do. `made_name` makes the name, if no other text of the column would have
+/// it. Otherwise the name of a source has its receiver, its label and its SDI, and that of another text has what is left of
+/// its beginning and its end. A number follows if another text has that name. The answer has a comment above each group, source
+/// and receiver whose text differs from its name. Without a heading no names are made.
 pub fn import_table(
     alloc: Global,
     maps: &[&str],

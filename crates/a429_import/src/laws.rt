@@ -1,6 +1,7 @@
 //! What is true of the definitions that the contracts cite.
-ghost use Rattle.a429_import.specs.ImportExamples.{MakesFields, MakesNames, ReadsAbove, ReadsAlone, ReadsFields, ReadsHeadings, ReadsMaps, ReadsMillis, ReadsQuotes};
+ghost use Rattle.a429_import.specs.ImportExamples.{ChoosesNames, MakesNames, ReadsAbove, ReadsAlone, ReadsFields, ReadsHeadings, ReadsMaps, ReadsMillis, ReadsQuotes, TellsApart};
 ghost use Rattle.a429_import.specs.ImportedRows.{RowsAreInRecord};
+ghost use Rattle.a429_import.specs.Renamed.{NamesAreApart};
 
 /// The record of the table has what each imported row says: a source with its name, label and SDI, whose receiver has the
 /// row's name and filters. For a row that names a group it has a group with that name and the row's bit rate. That group
@@ -18,7 +19,13 @@ pub fn forms_are_read_as_written()
     ensures maps { ReadsMaps }
     ensures alone { ReadsAlone }
     ensures names { MakesNames }
-    ensures made { MakesFields }
+    ensures apart { TellsApart }
+    ensures chosen { ChoosesNames }
     ensures quotes { ReadsQuotes }
     ensures above { ReadsAbove }
+{}
+
+/// No two texts of a column become one name: a name that is not empty is that of one text alone.
+pub fn names_are_apart()
+    ensures { NamesAreApart }
 {}

@@ -9,7 +9,7 @@ ghost use Rattle.a429_import.specs.ImportMaps.{given_texts};
 ghost use Rattle.a429_import.specs.ImportReading.{HasRead};
 ghost use Rattle.a429_import.specs.Imports.{AreLines, has_text, is_filled};
 
-use crate::forms::{Form, form_of};
+use crate::forms::{Form, form_of, without_mark};
 use csv::{ByteRecord, ByteRecordsIntoIter, Error, ReaderBuilder};
 use std::alloc::{AllocError, Global};
 
@@ -88,8 +88,9 @@ impl LineCount {
         self.at = self.at.saturating_add(1);
     }
 
-    /// Counts the bytes up to a byte of the text, and the line ends that follow.
+    /// Counts the bytes up to a byte of the text, and the line ends that follow. A byte order mark is passed.
     fn pass_to(&mut self, text: &[u8], byte: usize) {
+        let byte = byte.max(text.len().saturating_sub(without_mark(text).len()));
         for passed in text.get(self.at..byte).unwrap_or(&[]) {
             self.pass(*passed);
         }

@@ -1,11 +1,13 @@
-//! The name that is made of a text.
-ghost use Rattle.std.specs.Prelude.{◌≡◌, ℕ, ◌++◌, ◌∷◌, ◌≤◌, [], false, IfOk, List, OnOk, length, position, take};
+//! The names that are made of texts.
+ghost use Rattle.std.specs.Prelude.{◌≡◌, ℕ, ◌++◌, ◌-◌, ◌∷◌, ◌≤◌, [], drop, false, IfOk, List, OnOk, length, position, take};
 ghost use Rattle.std.specs.Char.{to_ascii_lowercase};
 ghost use Rattle.a429_equipment.specs.NameForm.{is_name, is_name_byte};
 ghost use Rattle.a429_import.specs.ImportForms.{count_before};
 ghost use Rattle.a429_import.specs.ImportTables.{is_word};
-ghost use Rattle.a429_import.specs.MadeNames.{dash_if, dashed, from_kept, is_from, is_kept, made_name, shortened, without_last_dash};
+ghost use Rattle.a429_import.specs.MadeNames.{dash_if, dashed, from_kept, in_room, in_room_or, is_from, is_kept, joined_ends, label_end, made_name, number_end, numbered_name, plain_name, shortened, without_last_dash};
 
+use a429_text::Text;
+use a429_word::{Label, Sdi};
 use std::alloc::{AllocError, Global};
 
 fn is_from(low: u8, high: u8, byte: u8) -> bool
@@ -136,6 +138,16 @@ fn shortened(alloc: Global, text: &[u8]) -> Result<Vec<u8>, AllocError>
     Ok(name)
 }
 
+/// The name that is made of a text: a name stays. It is empty if nothing is left. Error: an allocation failed.
+pub fn plain_name(alloc: Global, text: &[u8]) -> Result<Vec<u8>, AllocError>
+    ensures { IfOk result (λ name. name.items ≡ plain_name text.now) }
+{
+    if is_name(text) {
+        return Vec::from_slice(alloc, text);
+    }
+    shortened(alloc, text)
+}
+
 /// The name that is made of a text (profile: import): its letters in lower case, its digits and underlines, and one `-`
 /// for all other characters between two of them. It has at most 16 bytes, and no `-` at its ends. A text that is a name
 /// stays, and so does a text without a letter, a digit and an underline. Error: an allocation failed.
@@ -143,13 +155,115 @@ fn shortened(alloc: Global, text: &[u8]) -> Result<Vec<u8>, AllocError>
 pub fn made_name(alloc: Global, text: &str) -> Result<Vec<u8>, AllocError>
     ensures { IfOk result (λ name. name.items ≡ made_name text.now) }
 {
-    let bytes = text.as_bytes();
-    if is_name(bytes) {
-        return Vec::from_slice(alloc, bytes);
-    }
-    let name = shortened(alloc, bytes)?;
+    let name = plain_name(alloc, text.as_bytes())?;
     if name.is_empty() {
-        return Vec::from_slice(alloc, bytes);
+        return Vec::from_slice(alloc, text.as_bytes());
     }
+    Ok(name)
+}
+
+/// Keeps some bytes of a name, without a `-` at their end.
+fn cut(name: &mut Vec<u8>, bytes: usize)
+    ensures { name.new.items ≡ without_last_dash (take bytes name.old.items) }
+{
+    name.truncate(bytes);
+    cut_dash(name);
+}
+
+/// Adds an end to the beginning of a text, with a `-` between them. Error: an allocation failed.
+fn join_end(start: &mut Vec<u8>, end: &[u8]) -> Result<(), AllocError>
+    ensures { OnOk result (start.new.items ≡ joined_ends start.old.items end.now) }
+{
+    if end.is_empty() {
+        return Ok(());
+    }
+    cut_dash(start);
+    start.push(b'-')?;
+    start.extend_from_slice(end)
+}
+
+/// What is left of the beginning of a text and of its last five bytes. Error: an allocation failed.
+fn both_ends(alloc: Global, room: usize, text: &[u8]) -> Result<Vec<u8>, AllocError>
+    requires room { 6 ≤ room }
+    requires text { 5 ≤ length text.now }
+    ensures { IfOk result (λ name. name.items
+        ≡ joined_ends (take (room - 6) (shortened text.now)) (shortened (drop (length text.now - 5) text.now))) }
+{
+    let end = shortened(alloc, &text[text.len() - 5..])?;
+    let mut name = shortened(alloc, text)?;
+    name.truncate(room - 6);
+    join_end(&mut name, &end)?;
+    Ok(name)
+}
+
+/// A text in a number of bytes. It is empty if nothing is left. Error: an allocation failed.
+fn in_room(alloc: Global, room: usize, text: &[u8]) -> Result<Vec<u8>, AllocError>
+    requires { 6 ≤ room }
+    ensures { IfOk result (λ name. name.items ≡ in_room room text.now) }
+{
+    if text.len() <= room {
+        return shortened(alloc, text);
+    }
+    both_ends(alloc, room, text)
+}
+
+/// A text in a number of bytes: if it has more, what is left of its beginning and of its last five bytes. If nothing is left, it
+/// is a word. Error: an allocation failed.
+#[tactic(auto, unfolding(crate::specs::MadeNames::in_room_or))]
+pub fn in_room_or(
+    alloc: Global,
+    word: &str,
+    room: usize,
+    text: &[u8],
+) -> Result<Vec<u8>, AllocError>
+    requires { 6 ≤ room }
+    ensures { IfOk result (λ name. name.items ≡ in_room_or word.now room text.now) }
+{
+    let name = in_room(alloc, room, text)?;
+    if name.is_empty() {
+        return Vec::from_slice(alloc, word.as_bytes());
+    }
+    Ok(name)
+}
+
+/// Writes `-LLL`, and `-S` unless the SDI is any.
+pub fn put_label_end(end: &mut Text, label: Label, sdi: Option<Sdi>)
+    ensures { end.new ≡ end.old ++ label_end label sdi }
+{
+    end.put("-");
+    end.put_octal(label.value());
+    if let Some(sdi) = sdi {
+        end.put_bytes(&[b'-', b'0' + sdi.value()]);
+    }
+}
+
+/// An end with a number after it; 0 is not written. Error: an allocation failed.
+fn numbered_end(alloc: Global, end: &[u8], number: u64) -> Result<Vec<u8>, AllocError>
+    ensures { IfOk result (λ text. text.items ≡ end.now ++ number_end number) }
+{
+    let mut text = Text::new(alloc);
+    text.put_bytes(end);
+    if number != 0 {
+        text.put("_");
+        text.put_number(number);
+    }
+    text.into_bytes()
+}
+
+/// The name of a number: a base, an end, and the number. The base is cut, so that the name has at most 16 bytes.
+/// Error: an allocation failed.
+#[tactic(auto, unfolding(crate::specs::MadeNames::numbered_name))]
+pub fn numbered_name(
+    alloc: Global,
+    base: &[u8],
+    end: &[u8],
+    number: u64,
+) -> Result<Vec<u8>, AllocError>
+    ensures { IfOk result (λ name. name.items ≡ numbered_name base.now end.now number) }
+{
+    let end = numbered_end(alloc, end, number)?;
+    let mut name = Vec::from_slice(alloc, base)?;
+    cut(&mut name, 16usize.saturating_sub(end.len()));
+    name.extend_from_slice(&end)?;
     Ok(name)
 }

@@ -38,20 +38,28 @@ pub struct LinesRead {
     pub fault: Option<ImportFault>,
 }
 
+impl RowsRead {
+    /// What is known before the first row. Error: an allocation failed.
+    pub fn new(alloc: Global, chains: usize) -> Result<RowsRead, AllocError>
+        ensures { IfOk result (λ read. HasRows read []) }
+    {
+        Ok(RowsRead {
+            known: Known::new(alloc, chains)?,
+            kept: Vec::new(alloc),
+            is_full: false,
+        })
+    }
+}
+
 impl LinesRead {
     /// What is known before the first line. Error: an allocation failed.
     pub fn new(alloc: Global, chains: usize) -> Result<LinesRead, AllocError>
         ensures read { IfOk result (λ read. StandsFor read []) }
         ensures heading { IfOk result (λ read. read.heading ≡ None) }
     {
-        let known = Known::new(alloc, chains)?;
         Ok(LinesRead {
             heading: None,
-            rows: RowsRead {
-                known,
-                kept: Vec::new(alloc),
-                is_full: false,
-            },
+            rows: RowsRead::new(alloc, chains)?,
             fault: None,
         })
     }
@@ -95,7 +103,7 @@ fn keep(
 }
 
 /// Takes a row that says something new.
-fn take_new(alloc: Global, read: &mut RowsRead, row: &RowFields<'_>) -> Result<(), AllocError>
+pub fn take_new(alloc: Global, read: &mut RowsRead, row: &RowFields<'_>) -> Result<(), AllocError>
     requires { (rows : List ImportRow) × Knows read.old.known rows }
     ensures { OnOk result ((rows : List ImportRow) → HasRows read.old rows → HasRows read.new (rows ++ row_view row.now ∷ [])) }
 {

@@ -7,12 +7,13 @@ ghost use Rattle.a429_import.specs.ImportForms.{from_heading, separator_in};
 ghost use Rattle.a429_import.specs.ImportMaps.{given_texts};
 ghost use Rattle.a429_import.specs.ImportReading.{HasRead, IsOfNamed};
 ghost use Rattle.a429_import.specs.Imports.{AreNamedLines, has_text};
-ghost use Rattle.a429_import.specs.MadeReading.{IsReadBy};
+ghost use Rattle.a429_import.specs.RenamedReading.{IsReadBy};
 
 use crate::forms::Form;
+use crate::keyed_reading::take_by;
 use crate::lines::{CsvLine, count_before, line_of, rows_of};
-use crate::made_reading::{NamesRead, take_by};
 use crate::maps::named_line;
+use crate::reading::LinesRead;
 use csv::ByteRecordsIntoIter;
 use std::alloc::{AllocError, Global};
 
@@ -23,7 +24,7 @@ fn take_named(
     maps: &[&str],
     makes_names: bool,
     is_below: bool,
-    read: &mut NamesRead,
+    read: &mut LinesRead,
     line: CsvLine,
 ) -> Result<bool, AllocError>
     requires { (lines : List CsvLine) × IsOfNamed (given_texts maps.now) is_below (IsReadBy makes_names read.old) lines }
@@ -46,7 +47,7 @@ fn take_filled(
     maps: &[&str],
     makes_names: bool,
     is_below: bool,
-    read: &mut NamesRead,
+    read: &mut LinesRead,
     line: CsvLine,
 ) -> Result<bool, AllocError>
     requires { (lines : List CsvLine) × IsOfNamed (given_texts maps.now) is_below (IsReadBy makes_names read.old) lines }
@@ -68,7 +69,7 @@ fn read_rows(
     text: &[u8],
     form: Form<'_>,
     rows: &mut ByteRecordsIntoIter<&[u8]>,
-    read: &mut NamesRead,
+    read: &mut LinesRead,
 ) -> Result<(), AllocError>
     requires separator { form.separator ≡ separator_in (given_texts maps.now) text.now }
     requires text { form.text.now ≡ from_heading (given_texts maps.now) text.now }
@@ -93,7 +94,7 @@ pub fn read_lines(
     makes_names: bool,
     text: &[u8],
     form: Form<'_>,
-    read: &mut NamesRead,
+    read: &mut LinesRead,
 ) -> Result<(), AllocError>
     requires separator { form.separator ≡ separator_in (given_texts maps.now) text.now }
     requires text { form.text.now ≡ from_heading (given_texts maps.now) text.now }

@@ -9,7 +9,7 @@ use Rattle.a429_import.proofs.Imports.{record_read, table_refused}
 use Rattle.a429_import.proofs.import.table_of_rows.Goals as goal
 
 pub returns-in-Some : goal.returns-in-Some
-returns-in-Some c = λ rows lines has are. (rows, are, limit_fault_is_first rows (c.in-Some.kind, c.in-Some.place) (sym (c.limit_fault.ensures rows has.known) ∙ c.in-Some.is))
+returns-in-Some c = λ rows has ranges. limit_fault_is_first rows (c.in-Some.kind, c.in-Some.place) (sym (c.limit_fault.ensures rows has.known) ∙ c.in-Some.is)
 
 pub table_text-requires : goal.table_text-requires
 table_text-requires c =
@@ -17,18 +17,18 @@ table_text-requires c =
     subst (Knows c.args.read.now.known) (sym (c.deref.ensures.value ∙ has_kept c.args.read.now rows c.limit_fault.result has (c.limit_fault.ensures rows has.known) c.in-None.is)) has.known
 
 pub returns-in-Ok : goal.returns-in-Ok
-returns-in-Ok c = λ rows lines has are.
+returns-in-Ok c = λ rows has ranges.
     let kept : c.deref.result.now ≡ rows = c.deref.ensures.value ∙ has_kept c.args.read.now rows c.limit_fault.result has (c.limit_fault.ensures rows has.known) c.in-None.is in
     let bytes : List ℕ = c.as_bytes.result.now in
     let same : bytes ≡ string_bytes c.in_ok-text.text = c.as_bytes.ensures.value ∙ c.as_str.ensures.value in
     let parsed : parse_document bytes ≡ Some (root_members rows) = ap parse_document same ∙ c.in_ok-text.ensures ∙ ap (λ rs. Some (root_members rs)) kept in
-    let read = record_read lines rows are bytes c.as_bytes.ensures.utf8 parsed _ c.in-Ok.ensures in
-    (rows, are, rw c.into_bytes.ensures.value (subst (λ (bs : List ℕ). reading bs ≡ Ok (record_stated rows)) same read))
+    let read = record_read rows ranges bytes c.as_bytes.ensures.utf8 parsed _ c.in-Ok.ensures in
+    rw c.into_bytes.ensures.value (subst (λ (bs : List ℕ). reading bs ≡ Ok (record_stated rows)) same read)
 
 pub returns-in-Err : goal.returns-in-Err
-returns-in-Err c = λ rows lines has are.
+returns-in-Err c = λ rows has ranges.
     let kept : c.deref.result.now ≡ rows = c.deref.ensures.value ∙ has_kept c.args.read.now rows c.limit_fault.result has (c.limit_fault.ensures rows has.known) c.in-None.is in
     let bytes : List ℕ = c.as_bytes.result.now in
     let same : bytes ≡ string_bytes c.in_ok-text.text = c.as_bytes.ensures.value ∙ c.as_str.ensures.value in
     let parsed : parse_document bytes ≡ Some (root_members rows) = ap parse_document same ∙ c.in_ok-text.ensures ∙ ap (λ rs. Some (root_members rs)) kept in
-    table_refused lines rows are bytes c.as_bytes.ensures.utf8 parsed c.in-Err.fault c.from.result c.in-Err.ensures c.from.ensures
+    table_refused rows ranges bytes c.as_bytes.ensures.utf8 parsed c.in-Err.fault c.from.result c.in-Err.ensures c.from.ensures

@@ -9,7 +9,9 @@ use Rattle.a429_import.specs.ImportForms.{heading_among}
 use Rattle.a429_import.specs.ImportQuotes.{is_misquoted_from}
 use Rattle.a429_import.specs.ImportRows.{column_field, is_column_in_millis, is_named, numbers_of}
 use Rattle.a429_equipment.specs.NameForm.{is_name}
-use Rattle.a429_import.specs.MadeNames.{made_field, made_name}
+use Rattle.a429_import.specs.KeyedLines.{end_in}
+use Rattle.a429_import.specs.MadeNames.{in_room_or, made_name, numbered_name}
+use Rattle.a429_import.specs.Renamed.{base_of, chosen, end_of, long_name, names_in, plain_of}
 use Rattle.std.specs.Str.{chars, is_utf8}
 use Rattle.a429_import.proofs.laws.forms_are_read_as_written.Goals as goal
 
@@ -45,12 +47,16 @@ unfolding numbers_of column_field is_column_in_millis is_named rate_in number_in
 returns-clause-alone c = record { output = refl; alone = refl; rated = refl; least = refl; no_rate = refl }
 
 pub returns-clause-names : goal.returns-clause-names
-unfolding made_field made_name is_name text_in utf8_in is_utf8 chars lib.Utf8.encode
-returns-clause-names c = record { cut = refl; runs = refl; stays = refl; last = refl; nothing = refl; empty = refl; no_text = refl }
+unfolding made_name is_name in_room_or numbered_name
+returns-clause-names c = record { cut = refl; runs = refl; stays = refl; last = refl; nothing = refl; ends = refl; short = refl; word = refl; label = refl; any = refl }
 
-pub returns-clause-made : goal.returns-clause-made
-unfolding made_field made_name is_name text_in utf8_in is_utf8 chars is_named lib.Utf8.encode
-returns-clause-made c = record { some = refl }
+pub returns-clause-apart : goal.returns-clause-apart
+unfolding end_in column_field is_named label_in label_value sdi_in text_in utf8_in is_utf8 chars lib.Utf8.encode
+returns-clause-apart c = record { end = refl; some = refl; none = refl }
+
+pub returns-clause-chosen : goal.returns-clause-chosen
+unfolding names_in chosen plain_of base_of end_of long_name numbered_name in_room_or is_name
+returns-clause-chosen c = record { sources = refl; receivers = refl; groups = refl }
 
 pub returns-clause-quotes : goal.returns-clause-quotes
 unfolding is_misquoted_from is_named heading_among strip_bom

@@ -3,7 +3,7 @@ use Rattle.csv.specs.Records.{fields_of}
 use Rattle.a429_import.specs.declared.lines.CsvLine.{CsvLine}
 use Rattle.a429_import.specs.ImportMaps.{given_texts}
 use Rattle.a429_import.specs.ImportReading.{HasRead, IsOfNamed}
-use Rattle.a429_import.specs.MadeReading.{IsReadBy}
+use Rattle.a429_import.specs.RenamedReading.{IsReadBy}
 use Rattle.a429_import.specs.Imports.{has_text}
 use Rattle.a429_import.proofs.text_reading.read_rows.Given as goal
 

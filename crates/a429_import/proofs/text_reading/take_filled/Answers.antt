@@ -3,7 +3,7 @@ use Rattle.std.specs.Prelude.{IfOk}
 use Rattle.a429_import.specs.declared.lines.CsvLine.{CsvLine}
 use Rattle.a429_import.specs.ImportMaps.{given_texts}
 use Rattle.a429_import.specs.ImportReading.{IsOfNamed}
-use Rattle.a429_import.specs.MadeReading.{IsReadBy}
+use Rattle.a429_import.specs.RenamedReading.{IsReadBy}
 use Rattle.a429_import.proofs.ImportReading.{one_filled}
 use Rattle.a429_import.proofs.text_reading.take_filled.Goals as goal
 

@@ -1,0 +1,46 @@
+//! Lines with keys of sources, one after the other.
+ghost use Rattle.std.specs.Prelude.{◌≡◌, ◌++◌, ◌∷◌, [], List, None, OnOk};
+ghost use Rattle.a429_import.specs.declared.lines.CsvLine.{CsvLine};
+ghost use Rattle.a429_import.specs.ImportReading.{StandsFor};
+ghost use Rattle.a429_import.specs.RenamedReading.{HasKeyed, IsReadBy};
+
+use crate::keyed_lines::keyed_line;
+use crate::lines::CsvLine;
+use crate::reading::{LinesRead, take_line};
+use std::alloc::{AllocError, Global};
+
+/// Takes one more line, with the key of its source unless it is the heading. Error: an allocation failed.
+fn take_keyed(alloc: Global, read: &mut LinesRead, line: CsvLine) -> Result<(), AllocError>
+    requires { (lines : List CsvLine) × HasKeyed read.old.heading read.old lines }
+    ensures { OnOk result ((lines : List CsvLine) → HasKeyed read.old.heading read.old lines
+        → HasKeyed read.new.heading read.new (lines ++ line ∷ [])) }
+{
+    match &read.heading {
+        None => {
+            take_line(alloc, read, line);
+            Ok(())
+        }
+        Some(heading) => {
+            let keyed = keyed_line(alloc, heading, &line)?;
+            take_line(alloc, read, keyed);
+            Ok(())
+        }
+    }
+}
+
+/// Takes one more line. Error: an allocation failed.
+pub fn take_by(
+    alloc: Global,
+    makes_names: bool,
+    read: &mut LinesRead,
+    line: CsvLine,
+) -> Result<(), AllocError>
+    requires { (lines : List CsvLine) × IsReadBy makes_names read.old lines }
+    ensures { OnOk result ((all : List CsvLine) → IsReadBy makes_names read.old all → IsReadBy makes_names read.new (all ++ line ∷ [])) }
+{
+    if makes_names {
+        return take_keyed(alloc, read, line);
+    }
+    take_line(alloc, read, line);
+    Ok(())
+}
