@@ -12,7 +12,7 @@ use Rattle.clap.specs.Walk.{arg_by_id, arg_by_index, arg_by_long}
 use Rattle.clap.proofs.OnLiterals.{clap_on_literals}
 use Rattle.a429_arguments.specs.CommandLine.{command_line, id_of, many_rule, number_rule, options_of, required_rule, row_app, row_of}
 use Rattle.a429_arguments.specs.Usage.{verb_named}
-use Rattle.a429_arguments.specs.declared.forms.OptionName.{OptionName}
+use Rattle.a429_arguments.specs.declared.options.OptionName.{OptionName}
 use Rattle.a429_arguments.specs.declared.forms.Verb.{Verb}
 use Rattle.a429_arguments.specs.declared.forms.Verb.TheVariants as verb
 use Rattle.a429_arguments.proofs.CommandWords.{IsNamed, leaf}

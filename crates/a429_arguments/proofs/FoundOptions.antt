@@ -10,10 +10,10 @@ use Rattle.clap.specs.Walk.{has_row}
 use Rattle.a429_arguments.specs.CommandLine.{id_of, is_flag, is_switch, kind_of, options_of, row_of}
 use Rattle.a429_arguments.specs.Given.{Given, flag_texts, given_by, given_in, is_set, text_given, values_of}
 use Rattle.a429_arguments.specs.Requests.{AskedBytes, CanBeGiven, HasWords, has_option}
-use Rattle.a429_arguments.specs.declared.forms.OptionKind.{OptionKind}
-use Rattle.a429_arguments.specs.declared.forms.OptionKind.TheVariants as given
-use Rattle.a429_arguments.specs.declared.forms.OptionName.{OptionName}
-use Rattle.a429_arguments.specs.declared.forms.OptionName.TheVariants as option
+use Rattle.a429_arguments.specs.declared.options.OptionKind.{OptionKind}
+use Rattle.a429_arguments.specs.declared.options.OptionKind.TheVariants as given
+use Rattle.a429_arguments.specs.declared.options.OptionName.{OptionName}
+use Rattle.a429_arguments.specs.declared.options.OptionName.TheVariants as option
 use Rattle.a429_arguments.specs.declared.forms.Verb.{Verb}
 use Rattle.a429_arguments.proofs.CommandFacts.{Facts, new, others, ids_after, ids_if, shape}
 use Rattle.a429_arguments.proofs.CommandWords.{row, row_of_words}

@@ -14,7 +14,7 @@ use Rattle.clap.specs.declared.parser.matches.ValueSource.TheVariants.{DefaultVa
 use Rattle.a429_arguments.specs.CommandLine.{id_of, is_flag}
 use Rattle.a429_arguments.specs.Given.{Given, is_set, text_given}
 use Rattle.a429_arguments.specs.Requests.{has_option}
-use Rattle.a429_arguments.specs.declared.forms.OptionName.{OptionName}
+use Rattle.a429_arguments.specs.declared.options.OptionName.{OptionName}
 use Rattle.a429_arguments.proofs.CommandWords.{row}
 use Rattle.a429_arguments.proofs.OptionWords.{all_options, rows_of_options, rows_of_word, same_option}
 use Rattle.a429_arguments.proofs.UsedRows.{Within, all_new, at_missing, found_before, found_behind, found_behind_none, has_id, is_new, missing_in_both, none_found, rest_is_new, row_at, same_text, within_more}

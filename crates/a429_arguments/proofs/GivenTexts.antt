@@ -8,9 +8,9 @@ use Rattle.a429_arguments.specs.CommandLine.{id_of, is_flag, is_switch, kind_of}
 use Rattle.a429_arguments.specs.Given.{given_by, given_in, text_given, values_of}
 use Rattle.a429_arguments.specs.Rules.{breaks_by, texts_break}
 use Rattle.a429_arguments.specs.Texts.{texts_of}
-use Rattle.a429_arguments.specs.declared.forms.OptionKind.{OptionKind}
-use Rattle.a429_arguments.specs.declared.forms.OptionKind.TheVariants as given
-use Rattle.a429_arguments.specs.declared.forms.OptionName.{OptionName}
+use Rattle.a429_arguments.specs.declared.options.OptionKind.{OptionKind}
+use Rattle.a429_arguments.specs.declared.options.OptionKind.TheVariants as given
+use Rattle.a429_arguments.specs.declared.options.OptionName.{OptionName}
 use Rattle.a429_arguments.specs.declared.rules.Rule.{Rule}
 
 by_kind : (kind : OptionKind) (id : Text) (rows : List Row) → is_switch kind ≡ false → given_by kind id rows ≡ values_of id rows

@@ -26,7 +26,7 @@ is_live_name _ = refl
 pub is_live_met : (found : Option (Text × List Row)) (name : Text) (rows : List Row) (v : Verb) → found ≡ Some (name, rows) → name ≡ (row_of v).name → is_live found ≡ is_run v
 is_live_met found name rows v is named = rw (is, named) (is_live_name v)
 
--- what breaks no rule comes to no fault, and what breaks one to that
+-- what breaks no rule has no fault, and what breaks one has that
 pub kinds_met : (found : Option (Text × List Row)) (name : Text) (rows : List Row) (v : Verb) (is_elsewhere : Bool) → found ≡ Some (name, rows) → name ≡ (row_of v).name → are_refused v (given_in rows) ≡ false
     → found_kinds found is_elsewhere ≡ elsewhere is_elsewhere
 kinds_met found name rows v is_elsewhere is named taken = rw (is, named, verb_found v, taken) refl

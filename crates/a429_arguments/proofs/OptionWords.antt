@@ -12,11 +12,11 @@ use Rattle.clap.proofs.OnLiterals.{clap_on_literals}
 use Rattle.a429_arguments.specs.CommandLine.{id_of, is_flag, is_switch, kind_of, kind_rule, option_rule}
 use Rattle.a429_arguments.specs.Given.{Given, text_given}
 use Rattle.a429_arguments.specs.Requests.{CanBeGiven, option_words, words_of_options}
-use Rattle.a429_arguments.specs.declared.forms.OptionKind.{OptionKind}
-use Rattle.a429_arguments.specs.declared.forms.OptionKind.TheVariants as given
-use Rattle.a429_arguments.specs.declared.forms.OptionName.{OptionName}
-use Rattle.a429_arguments.specs.declared.forms.OptionName.TheVariants as option
-use Rattle.a429_arguments.specs.declared.forms.TheConstants.{OPTIONS}
+use Rattle.a429_arguments.specs.declared.options.OptionKind.{OptionKind}
+use Rattle.a429_arguments.specs.declared.options.OptionKind.TheVariants as given
+use Rattle.a429_arguments.specs.declared.options.OptionName.{OptionName}
+use Rattle.a429_arguments.specs.declared.options.OptionName.TheVariants as option
+use Rattle.a429_arguments.specs.declared.options.TheConstants.{OPTIONS}
 use Rattle.a429_arguments.proofs.CommandWords.{row}
 use Rattle.a429_arguments.proofs.PlainWords.{IsPlainWord, TakesValues, at_word, for_none}
 use Rattle.a429_arguments.proofs.SettledWords.{IsOption, IsSingle, IsSwitch, Reads, Settles, all_settles, held_all, held_with, option_read, reads_none, switch_read, value_settles}

@@ -7,9 +7,9 @@ use Rattle.clap.specs.Words.{Text}
 use Rattle.a429_arguments.specs.CommandLine.{id_of, kind_of, kind_rule}
 use Rattle.a429_arguments.specs.Given.{Given, text_given}
 use Rattle.a429_arguments.specs.Requests.{CanBeGiven}
-use Rattle.a429_arguments.specs.declared.forms.OptionKind.{OptionKind}
-use Rattle.a429_arguments.specs.declared.forms.OptionKind.TheVariants as given
-use Rattle.a429_arguments.specs.declared.forms.OptionName.{OptionName}
+use Rattle.a429_arguments.specs.declared.options.OptionKind.{OptionKind}
+use Rattle.a429_arguments.specs.declared.options.OptionKind.TheVariants as given
+use Rattle.a429_arguments.specs.declared.options.OptionName.{OptionName}
 use Rattle.a429_arguments.proofs.OptionWords.{WordPasses}
 use Rattle.a429_arguments.proofs.PlainWords.{IsPlainWord, name_is_plain}
 

@@ -9,7 +9,7 @@ use Rattle.clap.specs.Walk.{Held, idle}
 use Rattle.a429_arguments.specs.CommandLine.{id_of, kind_of}
 use Rattle.a429_arguments.specs.Given.{Given, text_given}
 use Rattle.a429_arguments.specs.Requests.{CanBeGiven, IsName, words_of_options}
-use Rattle.a429_arguments.specs.declared.forms.OptionName.{OptionName}
+use Rattle.a429_arguments.specs.declared.options.OptionName.{OptionName}
 use Rattle.a429_arguments.proofs.CommandFacts.{AreAt, IsAtIf, ids_after, ids_if, many_at, many_is_many, position_after}
 use Rattle.a429_arguments.proofs.CommandWords.{row_of_words}
 use Rattle.a429_arguments.proofs.FoundRows.{use_id, use_row}

@@ -6,17 +6,17 @@ use Rattle.clap.specs.Words.{App, Rule, Shape, Text, new_app, new_rule, rule_of,
 use Rattle.clap.specs.declared.builder.arg.Arg.{Arg}
 use Rattle.clap.specs.declared.builder.action.ArgAction.TheVariants.{Append, SetTrue}
 use Rattle.clap.specs.declared.builder.value_parser.ValueParser.TheVariants as reads
-use Rattle.a429_arguments.specs.contracts.forms.OptionName.{the_type}
+use Rattle.a429_arguments.specs.contracts.options.OptionName.{the_type}
 use Rattle.a429_arguments.specs.declared.command_line.Given.{Given}
 use Rattle.a429_arguments.specs.declared.command_line.Given.TheVariants as thing
 use Rattle.a429_arguments.specs.declared.forms.CommandForm.{CommandForm}
 use Rattle.a429_arguments.specs.declared.forms.NameForm.{NameForm}
 use Rattle.a429_arguments.specs.declared.forms.NumberForm.{NumberForm}
-use Rattle.a429_arguments.specs.declared.forms.OptionKind.{OptionKind}
-use Rattle.a429_arguments.specs.declared.forms.OptionKind.TheVariants as given
-use Rattle.a429_arguments.specs.declared.forms.OptionName.{OptionName}
-use Rattle.a429_arguments.specs.declared.forms.OptionName.TheVariants as option
-use Rattle.a429_arguments.specs.declared.forms.TheConstants.{DIFF_OPTIONS, DRAW_OPTIONS, ENCODE_OPTIONS, FORMS, ICD_OPTIONS, IMPORT_OPTIONS, JUDGE_OPTIONS, LOAD_OPTIONS, OPTIONS, SIMULATE_OPTIONS, SLOTS_OPTIONS, SURVEY_OPTIONS}
+use Rattle.a429_arguments.specs.declared.options.OptionKind.{OptionKind}
+use Rattle.a429_arguments.specs.declared.options.OptionKind.TheVariants as given
+use Rattle.a429_arguments.specs.declared.options.OptionName.{OptionName}
+use Rattle.a429_arguments.specs.declared.options.OptionName.TheVariants as option
+use Rattle.a429_arguments.specs.declared.options.TheConstants.{DIFF_OPTIONS, DRAW_OPTIONS, ENCODE_OPTIONS, FORMS, ICD_OPTIONS, IMPORT_OPTIONS, JUDGE_OPTIONS, LOAD_OPTIONS, OPTIONS, SIMULATE_OPTIONS, SLOTS_OPTIONS, SURVEY_OPTIONS}
 use Rattle.a429_arguments.specs.declared.forms.Verb.{Verb}
 use Rattle.a429_arguments.specs.declared.forms.Verb.TheVariants as verb
 

@@ -5,12 +5,12 @@ use Rattle.clap.specs.Words.{Row, Text, all_of, one_of}
 use Rattle.a429_arguments.specs.CommandLine.{id_of, kind_of}
 use Rattle.a429_arguments.specs.Numbers.{number_up_to}
 use Rattle.a429_arguments.specs.Tolerances.{is_tolerance}
-use Rattle.a429_arguments.specs.declared.forms.OptionKind.{OptionKind}
-use Rattle.a429_arguments.specs.declared.forms.OptionKind.TheVariants as given
-use Rattle.a429_arguments.specs.declared.forms.OptionName.{OptionName}
-use Rattle.a429_arguments.specs.declared.forms.OptionName.TheVariants as option
-use Rattle.a429_arguments.specs.declared.forms.TextForm.{TextForm}
-use Rattle.a429_arguments.specs.declared.forms.TextForm.TheVariants as form
+use Rattle.a429_arguments.specs.declared.options.OptionKind.{OptionKind}
+use Rattle.a429_arguments.specs.declared.options.OptionKind.TheVariants as given
+use Rattle.a429_arguments.specs.declared.options.OptionName.{OptionName}
+use Rattle.a429_arguments.specs.declared.options.OptionName.TheVariants as option
+use Rattle.a429_arguments.specs.declared.options.TextForm.{TextForm}
+use Rattle.a429_arguments.specs.declared.options.TextForm.TheVariants as form
 use Rattle.a429_arguments.specs.declared.times.LogOrigin.{LogOrigin}
 use Rattle.a429_arguments.specs.declared.times.LogOrigin.TheVariants as origin
 use Rattle.a429_logs.specs.declared.times.TimeUnit.{TimeUnit}

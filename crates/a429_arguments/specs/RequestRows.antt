@@ -6,7 +6,7 @@ use Rattle.a429_arguments.specs.Given.{given_in, values_of}
 use Rattle.a429_arguments.specs.Numbers.{number_of}
 use Rattle.a429_arguments.specs.Requests.{AskedBytes, HasWords, IsName, words_of, words_with}
 use Rattle.a429_arguments.specs.Rules.{are_refused}
-use Rattle.a429_arguments.specs.declared.forms.OptionName.{OptionName}
+use Rattle.a429_arguments.specs.declared.options.OptionName.{OptionName}
 use Rattle.a429_arguments.specs.declared.forms.Verb.TheVariants as verb
 
 -- a text, a number and texts are what is found of an argument, if there is one; otherwise they are empty, and the number is 0

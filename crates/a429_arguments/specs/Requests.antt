@@ -11,9 +11,9 @@ use Rattle.a429_arguments.specs.CommandLine.{id_of, is_flag, kind_of, options_of
 use Rattle.a429_arguments.specs.Given.{Given, given_in, nothing, text_given}
 use Rattle.a429_arguments.specs.Rules.{are_refused}
 use Rattle.a429_arguments.specs.Texts.{texts_of}
-use Rattle.a429_arguments.specs.declared.forms.OptionKind.{OptionKind}
-use Rattle.a429_arguments.specs.declared.forms.OptionKind.TheVariants as given
-use Rattle.a429_arguments.specs.declared.forms.OptionName.{OptionName}
+use Rattle.a429_arguments.specs.declared.options.OptionKind.{OptionKind}
+use Rattle.a429_arguments.specs.declared.options.OptionKind.TheVariants as given
+use Rattle.a429_arguments.specs.declared.options.OptionName.{OptionName}
 use Rattle.a429_arguments.specs.declared.forms.Verb.{Verb}
 use Rattle.a429_arguments.specs.declared.requests.Asked.{Asked}
 
@@ -74,7 +74,7 @@ abbrev pub IsName : Text → Type 0
 IsName [] = ⊤
 IsName (x ∷ xs) = x ≢ 45
 
--- a text can be given with an option of this kind, in the plain form, where no option is given several times
+-- a text can be given with an option of this kind, in the plain form, which gives no option several times
 abbrev pub IsValueOf : OptionKind → Text → Type 0
 IsValueOf given.Flag text = text ≡ codes "true"
 IsValueOf (given.Text form) text = IsName text

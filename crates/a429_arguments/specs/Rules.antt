@@ -8,9 +8,9 @@ use Rattle.a429_arguments.specs.CommandLine.{is_flag, kind_of}
 use Rattle.a429_arguments.specs.Given.{Given, fits, has_given}
 use Rattle.a429_arguments.specs.Tolerances.{is_general_again}
 use Rattle.a429_arguments.specs.contracts.forms.Verb.{the_type}
-use Rattle.a429_arguments.specs.declared.forms.OptionKind.{OptionKind}
-use Rattle.a429_arguments.specs.declared.forms.OptionKind.TheVariants as given
-use Rattle.a429_arguments.specs.declared.forms.OptionName.{OptionName}
+use Rattle.a429_arguments.specs.declared.options.OptionKind.{OptionKind}
+use Rattle.a429_arguments.specs.declared.options.OptionKind.TheVariants as given
+use Rattle.a429_arguments.specs.declared.options.OptionName.{OptionName}
 use Rattle.a429_arguments.specs.declared.forms.Verb.{Verb}
 use Rattle.a429_arguments.specs.declared.rules.Rule.{Rule}
 use Rattle.a429_arguments.specs.declared.rules.Rule.TheVariants.{Apart, Excludes, Fits, Needs, OneGeneral, OneOf}

@@ -1,7 +1,7 @@
 //! The help of the names that commands are given, by names. The forms of commands have these names instead of the texts:
 //! the proof reads the value of all forms at once.
 
-use crate::help;
+use crate::{help, recording_help};
 
 /// The help of a name that a command is given, or of its number.
 #[derive(Clone, Copy)]
@@ -43,9 +43,9 @@ impl NameHelp {
             NameHelp::Further => help::FURTHER,
             NameHelp::Log => help::LOG,
             NameHelp::Logs => help::LOGS,
-            NameHelp::HeardLog => help::HEARD_LOG,
-            NameHelp::SentLog => help::SENT_LOG,
-            NameHelp::SentLogs => help::SENT_LOGS,
+            NameHelp::HeardLog => recording_help::HEARD_LOG,
+            NameHelp::SentLog => recording_help::SENT_LOG,
+            NameHelp::SentLogs => recording_help::SENT_LOGS,
             NameHelp::Words => help::WORDS,
             NameHelp::Resubmitted => help::RESUBMITTED,
         }

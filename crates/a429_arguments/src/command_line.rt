@@ -3,8 +3,9 @@ ghost use Rattle.std.specs.Prelude.{◌≡◌, ◌∷◌, [], IfOk, Some, fold, 
 ghost use Rattle.clap.specs.Words.{App, HasKind, app_of, kind_of, new_app, new_rule, with_subcommand};
 ghost use Rattle.a429_arguments.specs.CommandLine.{HasRule, bare_line, command_line, form_row, given_rule, id_of, option_rule, many_rule, name_id, number_id, number_rule, required_rule, row_app, with_any, with_commands, with_names};
 
-use crate::forms::{CommandForm, NameForm, NumberForm, OptionKind, OptionName, commands};
+use crate::forms::{CommandForm, NameForm, NumberForm, commands};
 use crate::help::{CommandHelp, OptionHelp, VERSION, help_of, option_help};
+use crate::options::{OptionKind, OptionName};
 use crate::program_help::PROGRAM;
 use clap::builder::ValueParser;
 use clap::error::ErrorKind;

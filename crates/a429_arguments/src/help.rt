@@ -1,6 +1,10 @@
 //! The texts of help: what each command and each of its arguments does, and an example.
 
-use crate::forms::{OptionName, Verb};
+use crate::forms::Verb;
+use crate::options::OptionName;
+use crate::recording_help::{
+    EVENTS, HEARD_LOGS, IMPORT_ROWS, JUDGE, JUDGE_END, RATE, SLACK, SURVEY, SURVEY_END, TOLERANCE,
+};
 
 /// The help of a command: its first line, and its end, which has an example.
 #[derive(Clone, Copy)]
@@ -362,64 +366,6 @@ With --summary there is a row for each output, with times in microseconds:
 
 Example:
   a429 simulate examples/displays/table.toml examples/displays/log";
-
-pub const SURVEY: &str = "Print which words are on recorded lines, and how often each comes";
-
-pub const RATE: &str = "\
-Bit rate of the lines, 12000 to 100000 bit/s
-[default: 100000]";
-
-pub const IMPORT_ROWS: &str = "Rows for `import` instead: the start of a table";
-
-pub const SLACK: &str = "\
-Widen the intervals of --rows by PERCENT, 0 to 99
-[default: 25]";
-
-pub const SURVEY_END: &str = "\
-A log has a word on each line. Blanks, commas or semicolons separate its fields,
-and a heading may name its columns. There is a row for each name, label and SDI,
-and a row for each name with all its words:
-  words, even                     how many words, and how many have even parity
-  least_us, mean_us, greatest_us  the time from one word to the next
-  first_us, last_us, last_word    the first time, and the last, with its word
-  load                            per cent of the time taken, at the bit rate
-
-Example:
-  a429 survey examples/displays/log";
-
-pub const JUDGE: &str = "Judge whether what a box sent is right, by logs of its words";
-
-pub const HEARD_LOG: &str = "What came in, `TIME RECEIVER HEX` on each line";
-
-pub const SENT_LOG: &str = "What the box sent, with GROUP or GROUP.BUS for RECEIVER";
-
-pub const SENT_LOGS: &str = "Further logs of what it sent, read as if they were one";
-
-pub const HEARD_LOGS: &str = "A further log of what came in; may be given again";
-
-pub const TOLERANCE: &str = "\
-How far recorded times may be wrong, 0 to 30000000 us
-for all groups, or for one as GROUP=US; may be given
-again [default: two slots of the group, or half its
-shortest period if that is less]";
-
-pub const EVENTS: &str = "A row for each finding instead of each output";
-
-pub const JUDGE_END: &str = "\
-Both logs are on one clock: with `--from first` its times are counted from the
-first word of IN. There is a row for each output, and a row for each group that
-counts its foreign words. The status is 1 if something is found:
-  wrong    the word that was sent did not come in before
-  stale    a later word came in before
-  soon     it was sent before the minimum interval was over
-  late     it was sent after the maximum interval was over
-  again    a word was sent more often than `hold` says
-  silent   nothing more was sent, for longer than the maximum interval
-  missed   a word that came in was not sent in time
-  foreign  a word that no output of the group sends
-
-Example:
-  a429 judge examples/displays/table.toml examples/displays/log sent.log";
 
 pub const LIVE: &str = "Run a station on threads, and print how many words and cells passed";
 

@@ -10,7 +10,8 @@ ghost use Rattle.a429_arguments.specs.Numbers.{number_of, number_up_to};
 ghost use Rattle.a429_arguments.specs.Usage.{ComesTo, elsewhere, found_kinds, is_live, is_run, kinds_of_words, live_kinds_of_words};
 
 use crate::command_line::{build_command, words_error};
-use crate::forms::{CommandForm, NameForm, NumberForm, OptionName, Verb, command_named};
+use crate::forms::{CommandForm, NameForm, NumberForm, Verb, command_named};
+use crate::options::OptionName;
 use crate::rules::fault_of;
 use crate::times::{LogOrigin, origin_in, unit_in};
 use crate::values::{has, text_given};

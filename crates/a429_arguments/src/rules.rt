@@ -6,7 +6,8 @@ ghost use Rattle.a429_arguments.specs.Texts.{texts_of};
 ghost use Rattle.a429_arguments.specs.Given.{fits, given_in};
 ghost use Rattle.a429_arguments.specs.Rules.{are_refused, breaks_by, fits_option, is_broken, is_for, is_one_alone, is_refusing, texts_break};
 
-use crate::forms::{OptionKind, OptionName, TextForm, Verb};
+use crate::forms::Verb;
+use crate::options::{OptionKind, OptionName, TextForm};
 use crate::times::{origin_in, unit_in};
 use crate::tolerances::{is_general_twice, is_tolerance};
 use crate::values::has;

@@ -3,7 +3,7 @@ ghost use Rattle.std.specs.Prelude.{◌≡◌, option_map};
 ghost use Rattle.clap.specs.Words.{found_of, one_of, rows_of};
 ghost use Rattle.a429_arguments.specs.Given.{given_in, has_given, is_set, text_given};
 
-use crate::forms::{OptionKind, OptionName};
+use crate::options::{OptionKind, OptionName};
 use clap::ArgMatches;
 
 /// Whether an option without a value is given.

@@ -8,7 +8,7 @@ use Rattle.a429_documents.specs.Drawing.{IsDrawingFault, image_height}
 use Rattle.a429_documents.specs.declared.drawing.DrawingFault.{DrawingFault}
 use Rattle.a429_documents.specs.declared.drawing.DrawingFault.TheVariants as drawing
 use Rattle.a429_arguments.specs.Given.{Given, has_given, number_given}
-use Rattle.a429_arguments.specs.declared.forms.OptionName.TheVariants as option
+use Rattle.a429_arguments.specs.declared.options.OptionName.TheVariants as option
 use Rattle.a429_console.specs.Tables.{IsGroupRefusal}
 use Rattle.a429_console.specs.RefusalText.{OrMemory}
 use Rattle.a429_console.specs.declared.refusals.CommandRefusal.{CommandRefusal}

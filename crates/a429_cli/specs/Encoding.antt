@@ -7,7 +7,7 @@ use Rattle.a429_word.specs.Texts.{label_value}
 use Rattle.a429_word.specs.Hexadecimal.{hex, hex_onto, raw_word}
 use Rattle.a429_word.specs.Decimal.{decimal_number}
 use Rattle.a429_arguments.specs.Given.{Given, number_given, text_given}
-use Rattle.a429_arguments.specs.declared.forms.OptionName.TheVariants as option
+use Rattle.a429_arguments.specs.declared.options.OptionName.TheVariants as option
 use Rattle.a429_cli.specs.declared.encode.FieldOptions.{FieldOptions}
 use Rattle.a429_console.specs.declared.refusals.CommandRefusal.{CommandRefusal}
 use Rattle.a429_console.specs.declared.refusals.CommandRefusal.TheVariants as refused

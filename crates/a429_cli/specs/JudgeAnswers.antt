@@ -1,7 +1,7 @@
 -- The command `judge`: its answer and its status (profile: docs/FORMATS.md, Output of `judge`).
 use Rattle.std.specs.Prelude.{◌≡◌, ◌∷◌, ℕ, List, Bool, Option, if◌then◌else◌}
 use Rattle.a429_arguments.specs.Requests.{AskedBytes}
-use Rattle.a429_arguments.specs.declared.forms.OptionName.TheVariants as option
+use Rattle.a429_arguments.specs.declared.options.OptionName.TheVariants as option
 use Rattle.a429_console.specs.declared.refusals.CommandRefusal.{CommandRefusal}
 use Rattle.a429_recordings.specs.JudgeReplies.{BoxFiles, IsJudgedBy, IsUnjudgedBy, judge_form}
 

@@ -5,7 +5,7 @@ use Rattle.a429_slots.specs.Proposed.{Proposed}
 use Rattle.a429_documents.specs.SlotHeader.{header_text}
 use Rattle.a429_documents.specs.SlotRows.{slot_columns, slot_rows}
 use Rattle.a429_arguments.specs.Given.{Given, form_of, has_given}
-use Rattle.a429_arguments.specs.declared.forms.OptionName.TheVariants as option
+use Rattle.a429_arguments.specs.declared.options.OptionName.TheVariants as option
 use Rattle.a429_console.specs.declared.refusals.CommandRefusal.{CommandRefusal}
 use Rattle.a429_cli.specs.Drawings.{IsNoGroup, group_asked}
 use Rattle.a429_cli.specs.WholeReplies.{Replies}

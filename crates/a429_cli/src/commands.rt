@@ -24,7 +24,8 @@ use crate::replies::reply::Reply;
 use crate::runs::{is_whole, trouble_of};
 use crate::surveys::survey_reply;
 use crate::word::word_reply;
-use a429_arguments::forms::{OptionName, Verb};
+use a429_arguments::forms::Verb;
+use a429_arguments::options::OptionName;
 use a429_arguments::requests::Asked;
 use a429_console::answered::Answered;
 use a429_console::files::FileReader;
@@ -106,7 +107,14 @@ fn reply_to<F: FileReader>(
         ),
         Verb::Check => check_reply(alloc, files, first, second),
         Verb::Lint => lint_reply(alloc, files, first, form),
-        Verb::Diff => diff_reply(alloc, files, first, second, asked.has(OptionName::All), form),
+        Verb::Diff => diff_reply(
+            alloc,
+            files,
+            first,
+            second,
+            asked.has(OptionName::All),
+            form,
+        ),
         Verb::Survey => survey_reply(alloc, files, asked),
         Verb::Judge => judge_reply(alloc, files, asked),
         _ => plan_reply(alloc, files, asked),

@@ -6,7 +6,7 @@ ghost use Rattle.a429_console.specs.declared.refusals.CommandRefusal.TheVariants
 ghost use Rattle.a429_slots.specs.Tables.{groups_of};
 
 use crate::replies::reply::Reply;
-use a429_arguments::forms::OptionName;
+use a429_arguments::options::OptionName;
 use a429_arguments::requests::Asked;
 use a429_console::refusals::tables::no_group;
 use a429_console::refusals::{CommandRefusal, Refused};

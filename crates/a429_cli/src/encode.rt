@@ -4,7 +4,7 @@ ghost use Rattle.a429_cli.specs.Encoding.{GivesData, HasBcd, HasBnr, HasData, Ha
 ghost use Rattle.a429_cli.specs.WholeReplies.{Replies};
 
 use crate::replies::reply::Reply;
-use a429_arguments::forms::OptionName;
+use a429_arguments::options::OptionName;
 use a429_arguments::requests::Asked;
 use a429_console::refusals::{CommandRefusal, Refused};
 use a429_text::from_end::push_hex;

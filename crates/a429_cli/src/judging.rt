@@ -7,7 +7,7 @@ ghost use Rattle.a429_cli.specs.JudgeAnswers.{IsJudgement, IsUnjudged, box_names
 ghost use Rattle.a429_cli.specs.WholeReplies.{Replies};
 
 use crate::replies::reply::Reply;
-use a429_arguments::forms::OptionName;
+use a429_arguments::options::OptionName;
 use a429_arguments::requests::Asked;
 use a429_console::files::FileReader;
 use a429_console::refusals::Refused;

@@ -16,7 +16,8 @@ use crate::loads::load_of;
 use crate::proposals::propose_file;
 use crate::replies::reply::Reply;
 use crate::slots::{SlotsForm, slots_of};
-use a429_arguments::forms::{OptionName, Verb};
+use a429_arguments::forms::Verb;
+use a429_arguments::options::OptionName;
 use a429_arguments::requests::Asked;
 use a429_cert::plan_text;
 use a429_console::files::FileReader;
@@ -101,9 +102,19 @@ fn reply_on_plan(
         Verb::Icd => or_no_memory(icd_of(alloc, proposal, asked.has(OptionName::Text), form)),
         Verb::Margin => or_no_memory(margin_of(alloc, proposal, form)),
         Verb::Load => or_no_memory(load_of(alloc, proposal, asked.number(OptionName::Limit), form)),
-        Verb::Slots => slots_of(alloc, proposal, asked.text(OptionName::Group), SlotsForm::of(asked)),
+        Verb::Slots => slots_of(
+            alloc,
+            proposal,
+            asked.text(OptionName::Group),
+            SlotsForm::of(asked),
+        ),
         Verb::Buses => or_no_memory(buses_of(alloc, proposal, form)),
-        Verb::Draw => image_of(alloc, proposal, asked.text(OptionName::Group), Picture::of(asked)),
+        Verb::Draw => image_of(
+            alloc,
+            proposal,
+            asked.text(OptionName::Group),
+            Picture::of(asked),
+        ),
         _ => unreachable!(),
     }
 }

@@ -6,7 +6,7 @@ ghost use Rattle.a429_cli.specs.SlotReplies.{GivesSlots, slots_text};
 
 use crate::drawings::group_asked;
 use crate::replies::reply::Reply;
-use a429_arguments::forms::OptionName;
+use a429_arguments::options::OptionName;
 use a429_arguments::requests::Asked;
 use a429_console::refusals::Refused;
 use a429_documents::{slot_header, slot_sheet};

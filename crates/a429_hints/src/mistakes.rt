@@ -3,7 +3,8 @@
 use crate::hint::HintText;
 use crate::nearest::Nearest;
 use crate::rows::short_text;
-use a429_arguments::forms::{CommandForm, OptionName, commands};
+use a429_arguments::forms::{CommandForm, commands};
+use a429_arguments::options::OptionName;
 use std::alloc::Global;
 
 /// Says which command or which option is nearest to an unknown one, or which commands have an option.

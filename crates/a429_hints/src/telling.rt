@@ -15,7 +15,8 @@ use crate::scripts::{tell_script_line, tell_words_line};
 use crate::words::{
     tell_data_text, tell_even_word, tell_filter, tell_label_text, tell_line_byte, tell_word_text,
 };
-use a429_arguments::forms::{CommandForm, OptionName, Verb, command_of};
+use a429_arguments::forms::{CommandForm, Verb, command_of};
+use a429_arguments::options::OptionName;
 use a429_arguments::requests::Asked;
 use a429_console::answered::{Answered, Found};
 use a429_console::files::FileTrouble;

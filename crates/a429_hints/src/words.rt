@@ -1,7 +1,7 @@
 //! Hints about words, line files and filters.
 
 use crate::hint::HintText;
-use a429_arguments::forms::OptionName;
+use a429_arguments::options::OptionName;
 use a429_arguments::requests::Asked;
 use a429_console::refusals::evidence::LineEvidence;
 use a429_filter::{FILTERS, Filter};

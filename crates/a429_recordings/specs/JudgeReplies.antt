@@ -14,7 +14,7 @@ use Rattle.a429_arguments.specs.Tolerances.{tolerance_group}
 use Rattle.a429_console.specs.Names.{Naming, naming_of, number_named}
 use Rattle.a429_console.specs.RefusalText.{OrMemory}
 use Rattle.a429_arguments.specs.Given.{Given, form_of, has_given}
-use Rattle.a429_arguments.specs.declared.forms.OptionName.TheVariants as option
+use Rattle.a429_arguments.specs.declared.options.OptionName.TheVariants as option
 use Rattle.a429_console.specs.Tables.{IsGroupRefusal, IsProposedBy, IsTableRefusal}
 use Rattle.a429_console.specs.declared.refusals.CommandRefusal.{CommandRefusal}
 use Rattle.a429_console.specs.declared.refusals.CommandRefusal.TheVariants as refused

@@ -12,7 +12,7 @@ use Rattle.a429_survey.specs.Survey.{survey_columns, survey_rows}
 use Rattle.a429_console.specs.FileReadings.{AreReadLogs, IsFirstUnreadLog}
 use Rattle.a429_console.specs.RefusalText.{OrMemory}
 use Rattle.a429_arguments.specs.Given.{Given, form_of, has_given, number_given}
-use Rattle.a429_arguments.specs.declared.forms.OptionName.TheVariants as option
+use Rattle.a429_arguments.specs.declared.options.OptionName.TheVariants as option
 use Rattle.a429_console.specs.declared.refusals.CommandRefusal.{CommandRefusal}
 use Rattle.a429_recordings.specs.LogItems.{IsItemFault, channels_named, items_of, logs_named, named}
 use Rattle.a429_recordings.specs.SimulationReplies.{reading_for}

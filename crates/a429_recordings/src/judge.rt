@@ -21,7 +21,7 @@ pub use crate::judge::sheets::Judged;
 use crate::judge::sheets::judge_sheet;
 use crate::judge::words::{BoxLog, BoxWord, BoxWords, read_words};
 use crate::logs::reading_for;
-use a429_arguments::forms::OptionName;
+use a429_arguments::options::OptionName;
 use a429_arguments::requests::Asked;
 use a429_arguments::tolerances::tolerance_group;
 use a429_console::files::FileReader;

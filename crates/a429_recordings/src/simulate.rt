@@ -30,7 +30,7 @@ use crate::simulate::lines::{PendingLines, Setting};
 use crate::simulate::log::read_words;
 use crate::simulate::playing::Player;
 use crate::simulate::summary_rows::summary_sheet;
-use a429_arguments::forms::OptionName;
+use a429_arguments::options::OptionName;
 use a429_arguments::requests::Asked;
 use a429_console::answered::{Answered, plain_answer};
 use a429_console::files::FileReader;

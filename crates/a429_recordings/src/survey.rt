@@ -10,7 +10,7 @@ ghost use Rattle.a429_recordings.specs.Surveys.{IsSurveyAnswer, noted_by, survey
 pub use crate::logs::LogNames;
 use crate::logs::keeping::{KeepFault, WordKeeper, keep_logs};
 use crate::logs::reading_for;
-use a429_arguments::forms::OptionName;
+use a429_arguments::options::OptionName;
 use a429_arguments::requests::Asked;
 use a429_console::files::FileReader;
 use a429_console::files::reading::read_logs;

@@ -33,7 +33,7 @@ rise from (p ∷ ps) i zero d h less within = absurd (omega arith)
 rise from (p ∷ ps) zero (suc j) d h less within = omega (arith, from_le (p.place + 1) ps j d h.1 (omega arith))
 rise from (p ∷ ps) (suc i) (suc j) d h less within = rise (p.place + 1) ps i j d h.1 (omega arith) (omega arith)
 
--- a search by place ends at its pair, or where that would stand
+-- a search by place ends at its pair, or at the index of one that is added
 comparisons_rise : (ps : List Pair) (place : ℕ) → AreFrom 0 ps → IsNonDecreasingBy (λ p. ordering_index (nat_cmp p.place place)) ps
 comparisons_rise ps place h = IsNonDecreasingBy-from_default (λ p. ordering_index (nat_cmp p.place place)) ps no_pair (λ i j le within.
     let up : (get_or ps i no_pair).place ≤ (get_or ps j no_pair).place =

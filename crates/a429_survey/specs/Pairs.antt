@@ -19,7 +19,7 @@ pub record IsPlaceOf (ps : List Pair) (place index : ℕ) : Type 0 where
   pub within : index < length ps
   pub is : (d : Pair) → (slice_index_or ps index d).place ≡ place
 
--- no pair has the place, and at this index it would stand
+-- no pair has the place; one that is added has this index
 pub record IsGap (ps : List Pair) (place index : ℕ) : Type 0 where
   pub within : index ≤ length ps
   pub before : (i : ℕ) (d : Pair) → i < index → (slice_index_or ps i d).place < place

@@ -37,7 +37,7 @@ impl Model for Line {
     ghost invariant = { λ l. AreFrom 0 l.pairs.items };
 }
 
-/// The index of the pair of a place. Error: the index at which it would stand, since there is none.
+/// The index of the pair of a place. Error: the index of one that is added, since there is none.
 fn find(pairs: &[Pair], place: usize) -> Result<usize, usize>
     requires { AreFrom 0 pairs.now }
     ensures found { IfOk result (IsPlaceOf pairs.now place) }

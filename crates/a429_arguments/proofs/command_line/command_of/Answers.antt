@@ -3,7 +3,7 @@ use Rattle.std.proofs.Math.ListN.{drop_of_length-le}
 use Rattle.std.proofs.lemmas.List.{drop_more}
 use Rattle.clap.specs.Words.{App, app_of, with_rule}
 use Rattle.a429_arguments.specs.CommandLine.{form_row, option_rule, with_names}
-use Rattle.a429_arguments.specs.declared.forms.OptionName.TheVariants.{Csv}
+use Rattle.a429_arguments.specs.declared.options.OptionName.TheVariants.{Csv}
 use Rattle.a429_arguments.proofs.command_line.command_of.Goals as goal
 
 pub loop-option-init : goal.loop-option-init

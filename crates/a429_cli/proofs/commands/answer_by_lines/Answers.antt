@@ -3,7 +3,7 @@ use Rattle.std.proofs.Common.{◌∷◌, List, ℕ, inl, refl, subst, sym}
 use Rattle.std.proofs.lemmas.Result.{IfOk-weaker}
 use Rattle.a429_arguments.specs.Texts.{texts_of}
 use Rattle.a429_arguments.specs.Requests.{asked_of}
-use Rattle.a429_arguments.specs.declared.forms.OptionName.TheVariants as option
+use Rattle.a429_arguments.specs.declared.options.OptionName.TheVariants as option
 use Rattle.a429_recordings.specs.LogItems.{channels_named, logs_named}
 use Rattle.a429_recordings.specs.declared.simulate.SimulationForm.{SimulationForm}
 use Rattle.a429_recordings.specs.SimulationReplies.{IsSimulation, SimulatesSpacedWords, simulation_form}

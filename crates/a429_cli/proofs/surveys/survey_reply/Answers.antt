@@ -2,7 +2,7 @@ use Rattle.std.proofs.Common.{◌∷◌, List, ℕ, refl, subst}
 use Rattle.a429_console.proofs.ReadingParts.{read_weaker}
 use Rattle.a429_console.specs.RefusalText.{OrMemory}
 use Rattle.a429_arguments.specs.Requests.{asked_of}
-use Rattle.a429_arguments.specs.declared.forms.OptionName.TheVariants as option
+use Rattle.a429_arguments.specs.declared.options.OptionName.TheVariants as option
 use Rattle.a429_recordings.specs.LogItems.{channels_named, logs_named}
 use Rattle.a429_recordings.specs.Surveys.{IsNoSurvey, IsSurvey, survey_form}
 use Rattle.a429_recordings.specs.declared.survey.SurveyForm.{SurveyForm}

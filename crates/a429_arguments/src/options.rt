@@ -1,0 +1,186 @@
+//! The options: what is given with each, and which command has which. `help` has their help.
+ghost use Rattle.std.specs.Prelude.{◌≡◌};
+ghost use Rattle.a429_arguments.specs.CommandLine.{id_of, kind_of};
+
+/// An option of the program. A command has some of them.
+#[derive(Clone, Copy, PartialEq, Eq)]
+pub enum OptionName {
+    Csv,
+    Json,
+    Text,
+    Map,
+    Names,
+    All,
+    Group,
+    Slots,
+    Width,
+    Html,
+    Time,
+    From,
+    Channel,
+    Until,
+    Sent,
+    Summary,
+    Code,
+    Limit,
+    Rate,
+    Rows,
+    Slack,
+    In,
+    Tolerance,
+    Events,
+    Sdi,
+    Ssm,
+    Data,
+    Bnr,
+    Bits,
+    Bcd,
+}
+
+/// Which texts an option takes.
+#[derive(Clone, Copy)]
+pub enum TextForm {
+    /// Each text.
+    Any,
+    /// How many slots are drawn side by side: 64, 128 or 256.
+    Width,
+    /// A unit of times: `us`, `ms` or `s`.
+    Unit,
+    /// From when on times are counted: `first`, or microseconds of at most eighteen digits.
+    Origin,
+    /// FROM=TO.
+    Rename,
+    /// US or GROUP=US.
+    Tolerance,
+}
+
+/// What is given with an option.
+#[derive(Clone, Copy)]
+pub enum OptionKind {
+    /// Nothing.
+    Flag,
+    /// A text.
+    Text(TextForm),
+    /// Such a text each time. It is given as often as one likes.
+    Texts(TextForm),
+    /// A whole number from `least` to `most`.
+    Number { least: u64, most: u64 },
+}
+
+/// The row of an option that is a flag, takes a text or several, or a whole number from the least to the most.
+macro_rules! flag {
+    ($name:ident, $id:literal) => {
+        (OptionName::$name, $id, OptionKind::Flag)
+    };
+}
+
+macro_rules! text {
+    ($name:ident, $id:literal, $form:ident) => {
+        (OptionName::$name, $id, OptionKind::Text(TextForm::$form))
+    };
+}
+
+macro_rules! texts {
+    ($name:ident, $id:literal, $form:ident) => {
+        (OptionName::$name, $id, OptionKind::Texts(TextForm::$form))
+    };
+}
+
+macro_rules! number {
+    ($name:ident, $id:literal, $least:literal, $most:literal) => {
+        (
+            OptionName::$name,
+            $id,
+            OptionKind::Number {
+                least: $least,
+                most: $most,
+            },
+        )
+    };
+}
+
+macro_rules! options {
+    ($($name:ident),*) => {
+        &[$(OptionName::$name),*]
+    };
+}
+
+/// The options, in the order of `OptionName`: the name of each without the two hyphens, and what is given with it. The
+/// ranges are those of docs/RULES.md, Limits; that of `--rate` is the bit rate of a line (ARINC 429 Part 1).
+pub static OPTIONS: [(OptionName, &str, OptionKind); 30] = [
+    flag!(Csv, "csv"),
+    flag!(Json, "json"),
+    flag!(Text, "text"),
+    texts!(Map, "map", Rename),
+    flag!(Names, "names"),
+    flag!(All, "all"),
+    text!(Group, "group", Any),
+    number!(Slots, "slots", 1, 8192),
+    text!(Width, "width", Width),
+    flag!(Html, "html"),
+    text!(Time, "time", Unit),
+    text!(From, "from", Origin),
+    texts!(Channel, "channel", Rename),
+    number!(Until, "until", 0, 99_999_999_999_999),
+    flag!(Sent, "sent"),
+    flag!(Summary, "summary"),
+    flag!(Code, "c"),
+    number!(Limit, "limit", 1, 100),
+    number!(Rate, "rate", 12_000, 100_000),
+    flag!(Rows, "rows"),
+    number!(Slack, "slack", 0, 99),
+    texts!(In, "in", Any),
+    texts!(Tolerance, "tolerance", Tolerance),
+    flag!(Events, "events"),
+    number!(Sdi, "sdi", 0, 3),
+    number!(Ssm, "ssm", 0, 3),
+    text!(Data, "data", Any),
+    text!(Bnr, "bnr", Any),
+    number!(Bits, "bits", 1, 18),
+    text!(Bcd, "bcd", Any),
+];
+
+/// The options of the commands that have some, in the order in which help lists them.
+pub const FORMS: &[OptionName] = options![Csv, Json];
+
+pub const IMPORT_OPTIONS: &[OptionName] = options![Map, Names];
+
+pub const ICD_OPTIONS: &[OptionName] = options![Csv, Text, Json];
+
+pub const DRAW_OPTIONS: &[OptionName] = options![Group, Slots, Width, Html];
+
+pub const SLOTS_OPTIONS: &[OptionName] = options![Group, All, Code, Csv, Json];
+
+pub const LOAD_OPTIONS: &[OptionName] = options![Limit, Csv, Json];
+
+pub const DIFF_OPTIONS: &[OptionName] = options![All, Csv, Json];
+
+pub const SIMULATE_OPTIONS: &[OptionName] = options![
+    Time, From, Channel, Until, Sent, Summary, Csv, Json
+];
+
+pub const SURVEY_OPTIONS: &[OptionName] = options![
+    Time, From, Channel, Rate, Rows, Slack, Csv, Json
+];
+
+pub const JUDGE_OPTIONS: &[OptionName] = options![
+    In, Tolerance, Events, Time, From, Channel, Csv, Json
+];
+
+pub const ENCODE_OPTIONS: &[OptionName] = options![Sdi, Ssm, Data, Bnr, Bits, Bcd];
+
+impl OptionName {
+    /// The name without the two hyphens.
+    pub fn id(self) -> &'static str
+        ensures { result.now ≡ id_of self }
+    {
+        OPTIONS[self as usize].1
+    }
+
+    /// What is given with it.
+    pub fn kind(self) -> OptionKind
+        ensures { result ≡ kind_of self }
+    {
+        OPTIONS[self as usize].2
+    }
+}
