@@ -1,6 +1,6 @@
 -- Tables of one station: `diff` has no row of what they have.
 use Rattle.std.proofs.Common.{◌≡◌, ◌==◌, ℕ, zero, suc, Bool, true, List, [], ◌∷◌, ◌++◌, length, Option, Some, ap, ap₂, sym, refl, inl, inr, eq-eqb, ◌∙◌}
-use Rattle.std.specs.Prelude.{◌&&◌, codes, if◌then◌else◌, is_some, option_and_then, position, slice_get, slice_index_or}
+use Rattle.std.specs.Prelude.{◌&&◌, codes, is_some, option_and_then, position, slice_get, slice_index_or}
 use Rattle.std.specs.List.{flat_map, list_all, zip}
 use Rattle.std.specs.Option.{option_map_or}
 use Rattle.std.specs.Str.{bytes_eq}

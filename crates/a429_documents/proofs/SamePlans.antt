@@ -20,7 +20,7 @@ use Rattle.a429_slots.specs.Tables.{SlotTable, groups_of, no_table}
 use Rattle.a429_cert.specs.Checked.{Stated, stated_text}
 use Rattle.a429_cert.specs.PlanText.{head_text, plan_text_of, stated_groups, stated_of}
 use Rattle.a429_cert.specs.Spelling.{rate_text, version_text}
-use Rattle.a429_documents.specs.Diff.{Both, Sent, both_of, both_rows, change_row, count_rows, diff_rows, equipment_rows, group_both_rows, group_moved, groups_rows, lists_rows, moved_count, moved_in, of_kind, plan_rows, rate_in, sent_by, station_rows, table_change, table_rows, with_number, with_rates}
+use Rattle.a429_documents.specs.Diff.{Both, Sent, both_of, both_rows, change_row, count_rows, diff_rows, equipment_rows, group_both_rows, group_moved, groups_rows, lists_rows, moved_count, moved_in, of_kind, plan_rows, rate_in, sent_by, station_rows, table_change, table_rows, with_number}
 use Rattle.a429_documents.specs.Unchanged.{HaveSameIntervals}
 use Rattle.a429_documents.proofs.Changes.{both_is}
 use Rattle.a429_documents.proofs.Differences.{named_at}

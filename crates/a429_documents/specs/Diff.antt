@@ -135,7 +135,7 @@ both_named name subject change a b second x = of_both name subject (change a.rec
 
 abbrev pub boths_named : {X : Type 0} → (X → List ℕ) → (X → Subject) → (List ReceiverRow → List ReceiverRow → X → X → List ℕ)
     → TableRecord → TableRecord → List X → List X → List (List Field)
-boths_named name subject change a b second first = flat_map (both_named name subject change a b second) first
+boths_named name subject change a b second first = flat_map (of_both name subject (change a.receivers b.receivers) second) first
 
 -- the things that only the first list has, then those that only the second has, then those of both that change: their numbers do not count
 abbrev pub list_rows : {X : Type 0} → (X → List ℕ) → (X → Subject) → (X → X → List ℕ) → List X → List X → List (List Field)

@@ -1,4 +1,4 @@
-use Rattle.std.proofs.Common.{◌≡◌, ◌<◌, ◌++◌, ◌∙◌, ℕ, List, Option, ap, arith, length, sym}
+use Rattle.std.proofs.Common.{◌≡◌, ◌<◌, ◌++◌, ◌∙◌, ℕ, List, ap, arith, get_or, length, sym}
 use Rattle.std.proofs.lemmas.Option.{get_or_from_slice_get}
 use Rattle.a429_word.proofs.Lists.{read_is}
 use Rattle.a429_text.specs.Fields.{Field}
@@ -20,10 +20,11 @@ loop-output-preserved c =
     let read : demand_at demands o ≡ d = get_or_from_slice_get demands o d _ (read_is demands o d below c.index-demands-output.is) in
     let source : List ℕ = c.output_name-source.result.now in
     let max_us : ℕ = c.max_of.result in
-    let same : coarse_row c.as_str-name.result.now source g.rate max_us d.period ≡ coarse_rows sources g.name g.rate rows demands o =
-    ap (λ (n : List ℕ). coarse_row n source g.rate max_us d.period) c.as_str-name.ensures
-    ∙ ap (λ (n : List ℕ). coarse_row g.name n g.rate max_us d.period) c.output_name-source.ensures
-    ∙ ap (λ (n : ℕ). coarse_row g.name (output_name sources rows o) g.rate n d.period) c.max_of.ensures
-    ∙ ap (λ (e : Demand). coarse_row g.name (output_name sources rows o) g.rate (max_of rows o) e.period) (sym read) in
+    let e : Demand = get_or demands o d in
+    let same : coarse_row c.as_str-name.result.now source g.rate max_us e.period ≡ coarse_rows sources g.name g.rate rows demands o =
+    ap (λ (n : List ℕ). coarse_row n source g.rate max_us e.period) c.as_str-name.ensures
+    ∙ ap (λ (n : List ℕ). coarse_row g.name n g.rate max_us e.period) c.output_name-source.ensures
+    ∙ ap (λ (n : ℕ). coarse_row g.name (output_name sources rows o) g.rate n e.period) c.max_of.ensures
+    ∙ ap (λ (d : Demand). coarse_row g.name (output_name sources rows o) g.rate (max_of rows o) d.period) (sym c.index-demands-output.is ∙ sym read) in
     lines_more (coarse_rows sources g.name g.rate rows demands) c.loop-output.found c.add_period.new.found c.args.found.now o c.loop-output.invariant
     (c.add_period.ensures ∙ ap (λ (l : List (List Field)). c.loop-output.found ++ l) same)
