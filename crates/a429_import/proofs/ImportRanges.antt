@@ -2,7 +2,6 @@
 use Rattle.std.proofs.Common.{◌≡◌, ℕ, ◌^◌, ◌<◌, ◌≤◌, ◌-◌, ◌++◌, ◌∷◌, [], Bool, true, false, List, length, Option, None, Some, Result, Ok, Err, ap, refl, subst, arith, eqb-true, inl, inr, ◌+◌, ◌*◌, drop, take}
 use Rattle.std.specs.Prelude.{IfSome, codes, if◌then◌else◌, nat_le, nat_lt, position, ◌==◌, ◌||◌, ◌&&◌}
 use Rattle.std.specs.Option.{ok_or, option_and_then, option_map}
-use Rattle.std.specs.List.{AllByRecursion}
 use Rattle.std.specs.Str.{bytes_eq}
 use Rattle.std.proofs.lemmas.Bool.{and_parts, leb-true, ltb-true}
 use Rattle.std.proofs.lemmas.Option.{cond_some}

@@ -1,5 +1,5 @@
 -- The names that are chosen are apart.
-use Rattle.std.proofs.Common.{◌≡◌, ◌∙◌, ℕ, zero, suc, ◌+◌, ◌<◌, ◌≤◌, ◌&&◌, Bool, true, false, cond, not, List, [], ◌∷◌, ◌++◌, length, map, Some, ap, arith, inl, inr, ◌⊎◌, refl, subst, sym}
+use Rattle.std.proofs.Common.{◌≡◌, ◌∙◌, ℕ, zero, suc, ◌+◌, ◌<◌, ◌≤◌, Bool, true, false, cond, not, List, [], ◌∷◌, ◌++◌, length, map, Some, ap, arith, inl, inr, ◌⊎◌, refl, subst, sym}
 use Rattle.std.specs.Prelude.{nat_lt, slice_get}
 use Rattle.std.specs.List.{count_by}
 use Rattle.std.specs.Option.{option_map}
@@ -13,7 +13,7 @@ use Rattle.a429_import.specs.declared.firsts.Part.{Part}
 use Rattle.a429_import.specs.declared.rows.ImportRow.{ImportRow}
 use Rattle.a429_import.specs.ImportTables.{firsts, is_word}
 use Rattle.a429_import.specs.MadeNames.{numbered_name}
-use Rattle.a429_import.specs.Renamed.{AreApart, base_of, chosen, end_of, free_name, is_alone, is_taken, long_name, names_after, names_in, plain_of, plains_of, text_of}
+use Rattle.a429_import.specs.Renamed.{AreApart, base_of, chosen, end_of, free_name, is_alone, is_taken, long_name, names_after, names_in, plain_of, text_of}
 use Rattle.a429_import.proofs.ChosenNames.{not_true}
 use Rattle.a429_import.proofs.Knowing.{last_or_before}
 

@@ -1,11 +1,11 @@
-use Rattle.std.proofs.Common.{◌≡◌, ◌∙◌, [], List, ℕ, ap, map}
+use Rattle.std.proofs.Common.{◌∙◌, [], List, ℕ, ap, map}
 use Rattle.std.specs.Prelude.{unwrap_or}
 use Rattle.std.specs.List.{position_from}
 use Rattle.std.specs.Str.{bytes_eq}
 use Rattle.a429_import.specs.ImportFields.{field_in, utf8_in}
 use Rattle.a429_import.specs.ImportTables.{firsts, name_in}
 use Rattle.a429_import.specs.Names.{texts_of}
-use Rattle.a429_import.specs.Renamed.{name_for, names_in}
+use Rattle.a429_import.specs.Renamed.{name_for}
 use Rattle.a429_import.proofs.renamed.name_for.Goals as goal
 
 pub returns : goal.returns

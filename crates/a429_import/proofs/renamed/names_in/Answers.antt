@@ -1,4 +1,4 @@
-use Rattle.std.proofs.Common.{◌≡◌, ◌≤◌, ◌∙◌, [], List, ℕ, ap, arith, length, sym}
+use Rattle.std.proofs.Common.{◌≤◌, ◌∙◌, [], List, ℕ, ap, arith, length, sym}
 use Rattle.std.proofs.lemmas.List.{drop_all}
 use Rattle.a429_import.specs.declared.rows.ImportRow.{ImportRow}
 use Rattle.a429_import.specs.ImportTables.{firsts}

@@ -1,4 +1,4 @@
-use Rattle.std.proofs.Common.{◌≡◌, ◌≤◌, ◌∙◌, ◌++◌, List, ap, arith, drop, length, map, sym}
+use Rattle.std.proofs.Common.{◌≤◌, ◌∙◌, ◌++◌, List, ap, arith, length, map, sym}
 use Rattle.std.proofs.lemmas.List.{append-nil, drop_all}
 use Rattle.a429_import.specs.declared.rows.ImportRow.{ImportRow}
 use Rattle.a429_import.specs.ImportTables.{firsts}

@@ -1,5 +1,4 @@
-use Rattle.std.proofs.Common.{◌++◌, ◌∷◌, [], List, subst}
-use Rattle.a429_import.specs.declared.rows.ImportRow.{ImportRow}
+use Rattle.std.proofs.Common.{◌++◌, ◌∷◌, [], subst}
 use Rattle.a429_import.specs.declared.rows.RowTexts.{RowTexts}
 use Rattle.a429_import.specs.ImportReading.{HasRows}
 use Rattle.a429_import.proofs.renamed.take_renamed.Goals as goal
