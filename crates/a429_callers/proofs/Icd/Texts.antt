@@ -76,7 +76,7 @@ starts rest = ap (λ (o : Option ℕ). drop (unwrap_or o (length (after_names re
 first_names : (rest : List ℕ) → first_line (after_names rest) ≡ names
 first_names rest =
     ap (λ (o : Option ℕ). take (unwrap_or o (length (after_names rest))) (after_names rest))
-    (position_first ends_line (after_names rest) 100 10 (none_before ends_line names refl) refl refl)
+    (position_first ends_line (after_names rest) 114 10 (none_before ends_line names refl) refl refl)
 
 commas : find (is_heading [] names) separators ≡ Some 44
 unfolding is_named
