@@ -4,16 +4,16 @@ use Rattle.std.specs.Prelude.{nat_lt, slice_get}
 use Rattle.std.specs.List.{count_by}
 use Rattle.std.specs.Option.{option_map}
 use Rattle.std.specs.Str.{bytes_eq}
-use Rattle.std.proofs.lemmas.Bool.{and_parts, ltb-false}
-use Rattle.std.proofs.lemmas.List.{length-append}
+use Rattle.std.proofs.lemmas.Bool.{and_parts, le-ltb, ltb-false}
+use Rattle.std.proofs.lemmas.List.{length-append, length-map}
 use Rattle.std.proofs.lemmas.List.Sums.{sum_by-append, sum_by-cons}
 use Rattle.std.proofs.lemmas.Option.{same_Some, slice_get-map, slice_get_within}
 use Rattle.std.proofs.lemmas.Slice.Eq.{bytes_eq-Decides}
 use Rattle.a429_import.specs.declared.firsts.Part.{Part}
 use Rattle.a429_import.specs.declared.rows.ImportRow.{ImportRow}
-use Rattle.a429_import.specs.ImportTables.{firsts, is_word}
+use Rattle.a429_import.specs.ImportTables.{firsts, is_word, name_in}
 use Rattle.a429_import.specs.MadeNames.{numbered_name}
-use Rattle.a429_import.specs.Renamed.{AreApart, base_of, chosen, end_of, free_name, is_alone, is_taken, long_name, names_after, names_in, plain_of, text_of}
+use Rattle.a429_import.specs.Renamed.{AreApart, base_of, chosen, end_of, free_name, is_alone, is_taken, long_name, most_texts, names_after, names_in, plain_of, text_of}
 use Rattle.a429_import.proofs.ChosenNames.{not_true}
 use Rattle.a429_import.proofs.Knowing.{last_or_before}
 
@@ -110,10 +110,11 @@ long_is_new plains earlier base end name is word =
       from = inl (omega (arith, none, both));
     }
 
-chosen_is_new : (plains earlier : List (List ℕ)) (part : Part) (row : ImportRow) → AreFrom plains earlier → slice_get plains (length earlier) ≡ Some (plain_of part row) → is_word (chosen plains earlier part row) ≡ true
+chosen_is_new : (plains earlier : List (List ℕ)) (part : Part) (row : ImportRow) → nat_lt most_texts (length plains) ≡ false → AreFrom plains earlier → slice_get plains (length earlier) ≡ Some (plain_of part row) → is_word (chosen plains earlier part row) ≡ true
     → IsNew plains earlier (chosen plains earlier part row)
 unfolding chosen
-chosen_is_new plains earlier part row from there word = by (is_word (text_of part row)) (is_alone plains (plain_of part row)) refl word
+chosen_is_new plains earlier part row most from there word =
+    within (nat_lt most_texts (length plains)) (is_word (text_of part row)) (is_alone plains (plain_of part row)) most refl word
   where
     long : List ℕ
     long = long_name (plains ++ earlier) (base_of part row) (end_of part row)
@@ -122,6 +123,13 @@ chosen_is_new plains earlier part row from there word = by (is_word (text_of par
     by false b e w = cc w
     by true true e w = alone_is_new plains earlier (plain_of part row) from there e
     by true false e w = long_is_new plains earlier _ _ long refl w
+
+    named : Bool → Bool → Bool → List ℕ
+    named far a b = cond far (name_in part row) (cond (not a) [] (cond b (plain_of part row) long))
+
+    within : (far a b : Bool) → far ≡ false → is_alone plains (plain_of part row) ≡ b → is_word (named far a b) ≡ true → IsNew plains earlier (named far a b)
+    within true a b few e w = cc few
+    within false a b few e w = by a b e w
 
 -- ---- all names
 
@@ -145,27 +153,28 @@ more_apart plains earlier name apart new = λ i j other word a b. elim (last_or_
   ]
 ]
 
-apart_after : (plains : List (List ℕ)) (part : Part) (earlier : List (List ℕ)) (rows : List ImportRow) → ((k : ℕ) (row : ImportRow) → slice_get rows k ≡ Some row → slice_get plains (length earlier + k) ≡ Some (plain_of part row))
+apart_after : (plains : List (List ℕ)) (part : Part) (earlier : List (List ℕ)) (rows : List ImportRow) → nat_lt most_texts (length plains) ≡ false → ((k : ℕ) (row : ImportRow) → slice_get rows k ≡ Some row → slice_get plains (length earlier + k) ≡ Some (plain_of part row))
     → AreFrom plains earlier → AreApart earlier → AreApart (names_after plains part earlier rows)
-apart_after plains part earlier [] aligned from apart = apart
-apart_after plains part earlier (row ∷ rows) aligned from apart =
+apart_after plains part earlier [] most aligned from apart = apart
+apart_after plains part earlier (row ∷ rows) most aligned from apart =
     let name : List ℕ = chosen plains earlier part row in
     let first : length earlier + 0 ≡ length earlier = omega arith in
     let there : slice_get plains (length earlier) ≡ Some (plain_of part row) = subst (λ (n : ℕ). slice_get plains n ≡ Some (plain_of part row)) first (aligned 0 row refl) in
-    let new = chosen_is_new plains earlier part row from there in
-    apart_after plains part (earlier ++ name ∷ []) rows
+    let new = chosen_is_new plains earlier part row most from there in
+    apart_after plains part (earlier ++ name ∷ []) rows most
     (λ k other at.
     let long = length-append earlier (name ∷ []) in
     let same : length earlier + suc k ≡ length (earlier ++ name ∷ []) + k = omega (arith, long) in
     subst (λ (n : ℕ). slice_get plains n ≡ Some (plain_of part other)) same (aligned (suc k) other at))
     (more_from plains earlier name from new) (more_apart plains earlier name apart new)
 
-pub names_apart : (part : Part) (rows : List ImportRow) → AreApart (names_in part rows)
+pub names_apart : (part : Part) (rows : List ImportRow) → length (firsts part rows) ≤ most_texts → AreApart (names_in part rows)
 unfolding names_in
-names_apart part rows =
+names_apart part rows few =
     let none : List (List ℕ) = [] in
     let plains : List (List ℕ) = map (plain_of part) (firsts part rows) in
-    apart_after plains part none (firsts part rows)
+    let most : nat_lt most_texts (length plains) ≡ false = le-ltb most_texts (length plains) (omega (arith, few, length-map (firsts part rows) (plain_of part))) in
+    apart_after plains part none (firsts part rows) most
     (λ k row at.
     let same : k ≡ length none + k = omega arith in
     subst (λ (n : ℕ). slice_get plains n ≡ Some (plain_of part row)) same (slice_get-map (plain_of part) (firsts part rows) k ∙ ap (option_map (plain_of part)) at))

@@ -1,5 +1,5 @@
 -- Rows whose texts of groups, sources and receivers become names. No two of a column become one name (profile: import).
-use Rattle.std.specs.Prelude.{◌≡◌, ℕ, ◌+◌, ◌-◌, ◌&&◌, Bool, true, not, List, [], ◌∷◌, ◌++◌, Some, codes, if◌then◌else◌, length, map, nat_lt, slice_get, take, unwrap_or, zero, suc}
+use Rattle.std.specs.Prelude.{◌≡◌, ◌≤◌, ℕ, ◌+◌, ◌-◌, ◌&&◌, Bool, true, not, List, [], ◌∷◌, ◌++◌, Some, codes, if◌then◌else◌, length, map, nat_lt, slice_get, take, unwrap_or, zero, suc}
 use Rattle.std.specs.List.{count_by, position_from}
 use Rattle.std.specs.Str.{bytes_eq}
 use Rattle.a429_import.specs.declared.firsts.Part.{Part}
@@ -56,11 +56,16 @@ long_name taken base end = free_name taken base end 1000 0
 abbrev pub is_alone : List (List ℕ) → List ℕ → Bool
 is_alone plains plain = is_word plain && not (nat_lt 1 (count_by (bytes_eq plain) plains))
 
--- the name of a row's receiver, source or group, after names that earlier ones have: the plain name if no other text has it, otherwise a long name that
--- is no plain name
+-- the most texts of a column that are told apart: a table has at most so many sources, and fewer receivers and groups
+abbrev pub most_texts : ℕ
+most_texts = 256
+
+-- The name of a row's receiver, source or group, after names that earlier ones have: the plain name if no other text has it, otherwise a long name that
+-- is no plain name. If the column has more texts than a table can have, it is the text itself, and the table is refused.
 unfoldable pub chosen : List (List ℕ) → List (List ℕ) → Part → ImportRow → List ℕ
 chosen plains earlier part row =
-    if not (is_word (text_of part row)) then []
+    if nat_lt most_texts (length plains) then name_in part row
+    else if not (is_word (text_of part row)) then []
     else if is_alone plains (plain_of part row) then plain_of part row
     else long_name (plains ++ earlier) (base_of part row) (end_of part row)
 
@@ -103,6 +108,6 @@ all_renamed rows = map (renamed rows) rows
 abbrev pub AreApart : List (List ℕ) → Type 0
 AreApart names = (i j : ℕ) (name : List ℕ) → is_word name ≡ true → slice_get names i ≡ Some name → slice_get names j ≡ Some name → i ≡ j
 
--- so it is for the names of receivers, sources and groups
+-- so it is for the names of receivers, sources and groups, as many as a table can have
 abbrev pub NamesAreApart : Type 0
-NamesAreApart = (part : Part) (rows : List ImportRow) → AreApart (names_in part rows)
+NamesAreApart = (part : Part) (rows : List ImportRow) → length (firsts part rows) ≤ most_texts → AreApart (names_in part rows)

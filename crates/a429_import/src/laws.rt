@@ -25,7 +25,8 @@ pub fn forms_are_read_as_written()
     ensures above { ReadsAbove }
 {}
 
-/// No two texts of a column become one name: a name that is not empty is that of one text alone.
+/// No two texts of a column become one name: a name that is not empty is that of one text alone. The column has at most as
+/// many texts as a table can have sources.
 pub fn names_are_apart()
     ensures { NamesAreApart }
 {}

@@ -24,7 +24,10 @@ use crate::texts::Texts;
 use a429_text::Text;
 use std::alloc::{AllocError, Global};
 
-/// How many long names are tried. A table has at most 256 texts of a column, so fewer are taken.
+/// How many texts of a column are told apart: a table has at most so many sources, and fewer receivers and groups.
+const MOST_TEXTS: usize = 256;
+
+/// How many long names are tried. Fewer are taken.
 const NUMBERS: u64 = 1000;
 
 /// The text of a row's receiver, source or group; a source has its key.
@@ -181,7 +184,8 @@ fn long_of(
     long_name(alloc, names, others, &base, &end)
 }
 
-/// The name of a row's receiver, source or group, after names that earlier ones have. Error: an allocation failed.
+/// The name of a row's receiver, source or group, after names that earlier ones have. Above `MOST_TEXTS` it is the text:
+/// the table is refused. Error: an allocation failed.
 #[tactic(auto, unfolding(crate::specs::Renamed::chosen))]
 fn chosen(
     alloc: Global,
@@ -194,6 +198,9 @@ fn chosen(
     requires earlier { AreTexts earlier.now }
     ensures { IfOk result (λ name. name.items ≡ chosen (texts_of plains.now) (texts_of earlier.now) part row.now) }
 {
+    if plains.len() > MOST_TEXTS {
+        return Vec::from_slice(alloc, name_in(part, row).as_bytes());
+    }
     if text_of(alloc, part, row)?.is_empty() {
         return Ok(Vec::new(alloc));
     }
