@@ -190,15 +190,15 @@ pub const JSON: &str = "As JSON, an array with an object for each row";
 
 pub const ICD_END: &str = "\
 There is a row for each output:
-  group, rate        its group, and the bit rate in bit/s
-  source, receiver   its source, and the receiver of that source
-  label, sdi         the label in octal, and the SDI or `any`
-  bus, slot          its bus, and its first slot, both from 0
-  period, period_us  its transmit period, in slots and in microseconds
-  min_us, max_us     minimum and maximum transmit interval, as in the table
-  hold               as in the table
-  spacing            the minimum transmit interval in slots
-  latency_us         how long it takes at most until an accepted word is sent
+  group, rate              its group, and the bit rate in bit/s
+  source, receiver         its source, and the receiver of that source
+  label, sdi               the label in octal, and the SDI or `any`
+  bus, offset              its bus, and its first slot, both from 0
+  period_slots, period_us  its transmit period
+  min_us, max_us           its transmit interval, as in the table
+  hold                     as in the table
+  spacing_slots            the minimum transmit interval in slots
+  latency_us               how long it takes at most until a word is sent
 
 Example:
   a429 icd --csv examples/displays/table.toml";
@@ -228,10 +228,10 @@ pub const LOAD: &str = "Print the load of each bus, and how many more outputs it
 pub const LIMIT: &str = "Status 1 if a bus load is above PERCENT, 1 to 100";
 
 pub const LOAD_END: &str = "\
-There is a row for each bus, and a row for each group with all its buses. Column
-room_2 is the number of outputs with a period of 2 slots that fit into the free
-cells, room_4 the same for 4 slots, and so on. With --limit, `needed` in the row
-of a group above the limit is the fewest buses that stay within the limit.
+There is a row for each bus, and a row for each group with all its buses. The
+rows after it say how many further outputs of each period its free cells take
+(`room`). With --limit, `needed` in the row of a group above the limit is the
+fewest buses that stay within the limit.
 
 Example:
   a429 load --limit 80 examples/displays/table.toml";
@@ -247,7 +247,7 @@ The cells are in the order in which each group sends them in one frame.
   slot, time_us       the slot from 0, and when it begins in the frame
   bus                 the bus from 0
   label, sdi, source  the source of the output in this cell
-  period              the transmit period of the output in slots
+  period_slots        the transmit period of the output
 
 Example:
   a429 slots --group displays examples/displays/table.toml";
@@ -276,6 +276,9 @@ There is a row for each finding, and the status is 1 if there is a finding:
   blind           the filter with this number passes no source of its receiver
   alike           two outputs have the same label, and one has the SDI `any`
   full            a group has no empty cell
+  coarse          an output goes out far more often than its maximum asks for
+  same-filters    two receivers have the same filters
+  crowded         a bus is filled to more than 80 per cent
 
 Example:
   a429 lint examples/air_data_and_inertial/station.toml";
@@ -287,10 +290,11 @@ pub const OTHER: &str = "Equipment table that replaces TABLE (TOML)";
 pub const ALL: &str = "A row for each output that only moves, instead of their number";
 
 pub const DIFF_END: &str = "\
-There is a row for each change, and the status is 1 if there is a change. A row
-`receiver`, `filters`, `source`, `source-receiver`, `label`, `sdi`, `group` or
-`rate` means that OTHER cannot be published while TABLE runs. A row `moved` has
-the number of outputs that only change their slots.
+There is a row for each thing that changes, with all that changes of it, and the
+status is 1 if there is one. A row `station` means that OTHER cannot be published
+while TABLE runs. A row `moved` has the number of outputs that only change their
+slots. `gap_slots` and `gap_us` are the time from the last send of an output to
+the first one after the change, and `over_max` says if it is above the maximum.
 
 Example:
   a429 diff examples/displays/table.toml examples/displays/faster.toml";
