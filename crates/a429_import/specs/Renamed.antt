@@ -56,7 +56,7 @@ long_name taken base end = free_name taken base end 1000 0
 abbrev pub is_alone : List (List ℕ) → List ℕ → Bool
 is_alone plains plain = is_word plain && not (nat_lt 1 (count_by (bytes_eq plain) plains))
 
--- the most texts of a column that are told apart: a table has at most so many sources, and fewer receivers and groups
+-- the most texts of a column that are kept apart: as many as a table has sources at most; it has fewer receivers and groups
 abbrev pub most_texts : ℕ
 most_texts = 256
 

@@ -24,7 +24,7 @@ use crate::texts::Texts;
 use a429_text::Text;
 use std::alloc::{AllocError, Global};
 
-/// How many texts of a column are told apart: a table has at most so many sources, and fewer receivers and groups.
+/// How many texts of a column are kept apart: as many as a table has sources at most.
 const MOST_TEXTS: usize = 256;
 
 /// How many long names are tried. Fewer are taken.
@@ -184,8 +184,7 @@ fn long_of(
     long_name(alloc, names, others, &base, &end)
 }
 
-/// The name of a row's receiver, source or group, after names that earlier ones have. Above `MOST_TEXTS` it is the text:
-/// the table is refused. Error: an allocation failed.
+/// The name of a row's receiver, source or group, after names that earlier ones have. Error: an allocation failed.
 #[tactic(auto, unfolding(crate::specs::Renamed::chosen))]
 fn chosen(
     alloc: Global,
