@@ -73,20 +73,10 @@ async function tableOf(given) {
   const imported = await run(spreadsheet.words(), [spreadsheet.input()]), lines = spreadsheetLines(spreadsheet);
   if (imported.status !== 0) {
     setVerdict("bad", element("b", {}, `${given.name} cannot be read. `), "The row at fault is below, with what is wrong in it.");
-    panel("plan", refusal(imported, given.name, lines), namesOffer(spreadsheet, imported));
+    panel("plan", refusal(imported, given.name, lines));
     return undefined;
   }
-  return { table: fileOf(TABLE_NAME, imported.out), lines, texts: spreadsheet.texts(), warnings: hintsOf(imported, given.name), isImported: true };
-}
-
-// If two rows give one source different labels, sources can be named for their receiver and label.
-function namesOffer(spreadsheet, imported) {
-  const hasColumns = spreadsheet.columns.get("receiver") >= 0 && spreadsheet.columns.get("label") >= 0;
-  if (spreadsheet.isMade || !hasColumns || !/ differs$/m.test(imported.text)) return null;
-  return element("p", {}, "Two labels may have one name in this sheet. ", element("button", { type: "button", onclick: () => {
-    spreadsheet.columns.set("source", MADE);
-    analyse();
-  } }, "Name each label by its receiver and number"));
+  return { table: fileOf(TABLE_NAME, imported.out), lines, texts: spreadsheet.texts(imported.text), warnings: hintsOf(imported, given.name), isImported: true };
 }
 
 async function showUnplanned({ table, lines, isImported }, given, plan) {

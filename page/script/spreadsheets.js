@@ -107,18 +107,17 @@ class Spreadsheet {
 
   cell(row, column) { return row.cells[this.columns.get(column)] ?? ""; }
 
-  // The name of a row's source, as the command makes it of the text there.
+  // A name for a row's source, of its receiver and label.
   sourceName(row) {
-    if (!this.isMade) return nameOf(this.cell(row, "source"));
     const label = this.cell(row, "label").replace(/[^0-7]/g, "").padStart(3, "0"), sdi = nameOf(this.cell(row, "sdi"));
     return `${nameOf(this.cell(row, "receiver")).slice(0, 10)}-${label}${/^([0-3]|[01][01])$/.test(sdi) ? "-" + sdi : ""}`;
   }
 
   dataRows() { return this.rows.filter((row) => row.line > this.heading.line); }
 
-  // What a source is called in the sheet, by its name.
-  texts() {
-    return new Map(this.dataRows().map((row) => [this.sourceName(row), row.cells[this.named]?.trim() ?? ""]));
+  // What a source is called in the sheet, by its name in this table.
+  texts(table) {
+    return this.isMade ? new Map(this.dataRows().map((row) => [this.sourceName(row), row.cells[this.named]?.trim() ?? ""])) : commentsOf(table);
   }
 
   // The file for `import`. If sources are named for their receiver and label, it has one more column; each row keeps its line.
@@ -143,7 +142,23 @@ class Spreadsheet {
   }
 }
 
-// The name that `import --names` makes of a text.
+// The text of each source by its name: `import --names` writes it as a comment above the source.
+function commentsOf(table) {
+  const texts = new Map();
+  let comment, kind;
+  for (const line of table.split("\n")) {
+    const name = /^name = "(.*)"$/.exec(line);
+    if (line.startsWith("# ")) comment = line.slice(2);
+    else if (line.startsWith("[[")) kind = line;
+    else if (name) {
+      if (kind === "[[source]]" && comment !== undefined) texts.set(name[1], comment);
+      comment = undefined;
+    }
+  }
+  return texts;
+}
+
+// The name that `import --names` makes of a text alone.
 function nameOf(text) {
   if (/^[a-z0-9_-]{1,16}$/.test(text)) return text;
   return text.toLowerCase().replace(/[^a-z0-9_]+/g, "-").replace(/^-|-$/g, "").slice(0, 16).replace(/-$/, "");
