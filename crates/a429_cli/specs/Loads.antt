@@ -4,11 +4,10 @@ use Rattle.a429_text.specs.Sheets.{sheet_text}
 use Rattle.a429_text.specs.declared.sheets.SheetForm.{SheetForm}
 use Rattle.a429_slots.specs.Proposed.{Proposed}
 use Rattle.a429_documents.specs.Load.{any_above, load_columns, load_rows}
-use Rattle.a429_arguments.specs.CommandLine.{most_percent}
 
 -- the limit in per cent: the rules of the command line let only 1 to 100 through
 abbrev pub limit_of : Option ℕ → Option ℕ
-limit_of = option_map (λ limit. max 1 (min limit most_percent))
+limit_of = option_map (λ limit. max 1 (min limit 100))
 
 -- 1 if a bus is above the limit
 abbrev pub above_status : Bool → ℕ

@@ -107,14 +107,10 @@ fn reply_to<F: FileReader>(
         ),
         Verb::Check => check_reply(alloc, files, first, second),
         Verb::Lint => lint_reply(alloc, files, first, form),
-        Verb::Diff => diff_reply(
-            alloc,
-            files,
-            first,
-            second,
-            asked.has(OptionName::All),
-            form,
-        ),
+        Verb::Diff => {
+            let all = asked.has(OptionName::All);
+            diff_reply(alloc, files, first, second, all, form)
+        }
         Verb::Survey => survey_reply(alloc, files, asked),
         Verb::Judge => judge_reply(alloc, files, asked),
         _ => plan_reply(alloc, files, asked),

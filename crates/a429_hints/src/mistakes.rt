@@ -4,7 +4,7 @@ use crate::hint::HintText;
 use crate::nearest::Nearest;
 use crate::rows::short_text;
 use a429_arguments::forms::{CommandForm, commands};
-use a429_arguments::options::OptionName;
+use a429_arguments::options::{OPTIONS, OptionKind, OptionName};
 use std::alloc::Global;
 
 /// Says which command or which option is nearest to an unknown one, or which commands have an option.
@@ -101,7 +101,7 @@ fn tell_owners(form: &CommandForm, name: &str, hint: &HintText) {
 
 /// Says which option is nearest to one that is none. Its two hyphens are left out of the comparison.
 fn tell_nearest_option(name: &str, hint: &HintText) {
-    let nearest = or_all_options(hint.alloc, Nearest::after(2, name), commands());
+    let nearest = or_options(hint.alloc, Nearest::after(2, name), &OPTIONS);
     let nearest = nearest.or(hint.alloc, "help").or(hint.alloc, "version");
     if let Some(other) = nearest.other_name() {
         hint.line_two(
@@ -112,24 +112,15 @@ fn tell_nearest_option(name: &str, hint: &HintText) {
     }
 }
 
-/// Compares the names of the options of all commands too.
-fn or_all_options<'a>(
+/// Compares the names of options too.
+fn or_options<'a>(
     alloc: Global,
     nearest: Nearest<'a>,
-    forms: &'a [CommandForm],
+    options: &'a [(OptionName, &'static str, OptionKind)],
 ) -> Nearest<'a> {
     let mut nearest = nearest;
-    for form in forms {
-        nearest = or_options(alloc, nearest, form.options);
-    }
-    nearest
-}
-
-/// Compares the names of options too.
-fn or_options<'a>(alloc: Global, nearest: Nearest<'a>, options: &'a [OptionName]) -> Nearest<'a> {
-    let mut nearest = nearest;
     for option in options {
-        nearest = nearest.or(alloc, option.id());
+        nearest = nearest.or(alloc, option.1);
     }
     nearest
 }

@@ -2,7 +2,9 @@ use Rattle.std.proofs.Common.{ℕ, Bool, List, ap, refl, subst, subst₂, sym}
 use Rattle.a429_console.proofs.ReadingParts.{read_none, read_weaker}
 use Rattle.a429_arguments.specs.Requests.{asked_of}
 use Rattle.a429_arguments.specs.declared.forms.Verb.TheVariants as verb
+use Rattle.a429_text.specs.declared.sheets.SheetForm.{SheetForm}
 use Rattle.a429_cli.specs.Encoding.{FieldBytes, IsEncoded, IsNotEncoded}
+use Rattle.a429_cli.specs.Findings.{AnswersDiff, IsLinted, IsNoLint}
 use Rattle.a429_cli.specs.WholeReplies.{Replies}
 use Rattle.a429_cli.specs.Importing.{ImportsNoShortGroup, IsImportReply}
 use Rattle.a429_cli.proofs.PlanReplies.{on_plan}
@@ -32,11 +34,18 @@ returns-in-Check-clause-replied g c =
 
 pub returns-in-Lint-clause-replied : goal.returns-in-Lint-clause-replied
 returns-in-Lint-clause-replied g c =
-    given_by g.F.FileReader.answers c.args.files.now c.lint_reply.new.files (asked_of c.args.asked.now) c.lint_reply.result c.args.asked.now.verb verb.Lint c.in-Lint.is c.lint_reply.ensures
+    let asked = c.args.asked.now in
+    given_by g.F.FileReader.answers c.args.files.now c.lint_reply.new.files (asked_of asked) c.lint_reply.result asked.verb verb.Lint c.in-Lint.is
+    (read_weaker c.lint_reply.ensures
+    (λ file is. subst (λ (f : SheetForm). Replies (IsLinted file f asked.first.now) (IsNoLint file asked.first.now) c.lint_reply.result) c.form-form.ensures is))
 
 pub returns-in-Diff-clause-replied : goal.returns-in-Diff-clause-replied
 returns-in-Diff-clause-replied g c =
-    given_by g.F.FileReader.answers c.args.files.now c.diff_reply.new.files (asked_of c.args.asked.now) c.diff_reply.result c.args.asked.now.verb verb.Diff c.in-Diff.is c.diff_reply.ensures
+    let asked = c.args.asked.now in
+    given_by g.F.FileReader.answers c.args.files.now c.diff_reply.new.files (asked_of asked) c.diff_reply.result asked.verb verb.Diff c.in-Diff.is
+    (read_weaker c.diff_reply.ensures
+    (λ file is.
+    subst₂ (λ (all : Bool) (f : SheetForm). AnswersDiff file all f asked.first.now asked.second.now c.diff_reply.result) c.has-all.ensures c.form-form.ensures is))
 
 pub returns-in-Survey-clause-replied : goal.returns-in-Survey-clause-replied
 returns-in-Survey-clause-replied g c =
