@@ -291,10 +291,11 @@ pub const ALL: &str = "A row for each output that only moves, instead of their n
 
 pub const DIFF_END: &str = "\
 There is a row for each thing that changes, with all that changes of it, and the
-status is 1 if there is one. A row `station` means that OTHER cannot be published
-while TABLE runs. A row `moved` has the number of outputs that only change their
-slots. `gap_slots` and `gap_us` are the time from the last send of an output to
-the first one after the change, and `over_max` says if it is above the maximum.
+status is 1 if there is one. A row `station` means that OTHER cannot be
+published while TABLE runs. A row `moved` has the number of outputs that only
+change their slots. `gap_slots` and `gap_us` are the time from the last send of
+an output to the first one after the change, and `over_max` says if it is above
+the maximum.
 
 Example:
   a429 diff examples/displays/table.toml examples/displays/faster.toml";

@@ -30,7 +30,7 @@ pub enum GroupFinding {
     Full,
     /// The grid period of an output is shorter than two thirds of its maximum interval.
     Coarse,
-    /// More than 80 per cent of a bus are filled.
+    /// More than 80 per cent of a bus is filled.
     Crowded,
 }
 

@@ -15,7 +15,7 @@ static ADVICE: [&str; 11] = [
     "full: the group's buses have no empty cell, so one more output needs one more bus: `a429 margin` prints what would free cells",
     "coarse: the period is shorter than two thirds of max_us, since periods are powers of two of slots: a little more max_us may halve the load of the output, and `a429 margin` prints how much",
     "same-filters: both receivers pass the same labels: if they hear one bus, one of them is enough; otherwise each source needs an SDI or a receiver of its own",
-    "crowded: more than 80 per cent of the bus are filled: `a429 load --limit 80` prints the fewest buses that keep to that",
+    "crowded: more than 80 per cent of the bus is filled: `a429 load --limit 80` prints the fewest buses that keep to that",
 ];
 
 /// The kinds of findings that can be corrected in receivers, filters or sources.

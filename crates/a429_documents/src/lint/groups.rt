@@ -292,7 +292,10 @@ fn add_coarses(
 )
     requires known { HaveSources sources.now rows.now }
     requires each { length demands.now ≡ length rows.now }
-    ensures { found.new ≡ found.old ++ of_each (length rows.now) (coarse_rows sources.now group.now.name group.now.rate rows.now demands.now) }
+    ensures { found.new
+        ≡ found.old
+        ++ of_each (length rows.now)
+        (coarse_rows sources.now group.now.name group.now.rate rows.now demands.now) }
 {
     for output in 0..rows.len() {
         let source = output_name(sources, rows, output);
