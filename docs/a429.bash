@@ -47,18 +47,18 @@ _a429() {
         help) COMPREPLY=($(compgen -W "$commands" -- "$word")); return ;;
         word) COMPREPLY=($(compgen -W "$options" -- "$word")); return ;;
         # options
-        import) options="--map --names $options" ;;
+        import) options="--map --names --fill $options" ;;
         icd) options="--csv --text --json $options" ;;
         draw) options="--group --slots --width --html $options" ;;
-        slots) options="--group --all --c --csv --json $options" ;;
+        slots) options="--group --all --c --board --csv --json $options" ;;
         buses) options="--csv --json $options" ;;
         load) options="--limit --csv --json $options" ;;
         margin) options="--csv --json $options" ;;
         lint) options="--csv --json $options" ;;
         diff) options="--all --csv --json $options" ;;
-        simulate) options="--time --from --channel --until --sent --summary --csv --json $options" ;;
-        survey) options="--time --from --channel --rate --rows --slack --csv --json $options" ;;
-        judge) options="--in --tolerance --events --time --from --channel --csv --json $options" ;;
+        simulate) options="--time --from --channel --reversed --until --sent --summary --csv --json $options" ;;
+        survey) options="--time --from --channel --reversed --rate --rows --slack --csv --json $options" ;;
+        judge) options="--in --tolerance --events --time --from --channel --reversed --csv --json $options" ;;
         encode) options="--sdi --ssm --data --bnr --bits --bcd $options" ;;
         # end of options
     esac
@@ -69,7 +69,7 @@ _a429() {
         --sdi | --ssm) COMPREPLY=($(compgen -W "0 1 2 3" -- "$word")); return ;;
         --group) COMPREPLY=($(compgen -W "$(_a429_groups "${COMP_WORDS[2]}")" -- "$word")); return ;;
         # values
-        --map | --group | --slots | --width | --limit | --time | --from | --channel | --until | --rate | --slack | --tolerance | --sdi | --ssm | --data | --bnr | --bits | --bcd) COMPREPLY=(); return ;;
+        --map | --group | --slots | --width | --limit | --time | --from | --channel | --reversed | --until | --rate | --slack | --tolerance | --sdi | --ssm | --data | --bnr | --bits | --bcd) COMPREPLY=(); return ;;
         # end of values
     esac
     case $word in

@@ -65,6 +65,7 @@ fits form.Any text = true
 fits form.Width text = bytes_eq text (codes "64") || (bytes_eq text (codes "128") || bytes_eq text (codes "256"))
 fits form.Unit text = is_some (unit_in text)
 fits form.Origin text = is_some (origin_in text)
+fits form.Order text = bytes_eq text (codes "label") || bytes_eq text (codes "word")
 fits form.Rename text = is_rename text
 fits form.Tolerance text = is_tolerance text
 

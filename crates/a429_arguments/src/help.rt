@@ -3,7 +3,8 @@
 use crate::forms::Verb;
 use crate::options::OptionName;
 use crate::recording_help::{
-    EVENTS, HEARD_LOGS, IMPORT_ROWS, JUDGE, JUDGE_END, RATE, SLACK, SURVEY, SURVEY_END, TOLERANCE,
+    CHANNEL, EVENTS, FROM, HEARD_LOGS, IMPORT_ROWS, JUDGE, JUDGE_END, RATE, REVERSED, SLACK,
+    SURVEY, SURVEY_END, TIME, TOLERANCE,
 };
 
 /// The help of a command: its first line, and its end, which has an example.
@@ -56,6 +57,7 @@ pub fn option_help(verb: Verb, option: OptionName) -> OptionHelp {
         OptionName::Text => ("", TEXT_LABELS),
         OptionName::Map => ("HEADING=COLUMN", MAP),
         OptionName::Names => ("", NAMES),
+        OptionName::Fill => ("", FILL),
         OptionName::All => ("", ALL),
         OptionName::Group => ("NAME", GROUP),
         OptionName::Slots => ("N", DRAWN_SLOTS),
@@ -64,10 +66,12 @@ pub fn option_help(verb: Verb, option: OptionName) -> OptionHelp {
         OptionName::Time => ("UNIT", TIME),
         OptionName::From => ("TIME", FROM),
         OptionName::Channel => ("FROM=TO", CHANNEL),
+        OptionName::Reversed => ("BITS", REVERSED),
         OptionName::Until => ("US", UNTIL),
         OptionName::Sent => ("", SENT),
         OptionName::Summary => ("", SUMMARY),
         OptionName::Code => ("", CODE),
+        OptionName::Board => ("", BOARD),
         OptionName::Limit => ("PERCENT", LIMIT),
         OptionName::Rate => ("RATE", RATE),
         OptionName::Rows => ("", IMPORT_ROWS),
@@ -141,8 +145,11 @@ Take a heading as this column, such as
 
 pub const NAMES: &str = "\
 Make names of texts that are none: `Radio Height`
-becomes radio-height. Two texts that become one
-name are refused";
+becomes radio-height. No two texts become one name";
+
+pub const FILL: &str = "\
+An empty group, rate or receiver is the one above,
+as below merged cells";
 
 pub const IMPORT_END: &str = "\
 The heading names the columns, in any order and any case, with spaces or
@@ -154,6 +161,9 @@ ignored, and so are up to ten lines above the heading.
   label, sdi         the label in octal, and the SDI, 0 to 3 or `any`
   min_us, max_us     minimum and maximum transmit interval in microseconds
   min_ms, max_ms     or in milliseconds, with at most three decimals
+  min_hz, max_hz     or the least and the greatest rate in Hz
+  interval_us        or both in one field, as 50000/100000 or 50000-100000;
+                     interval_ms and rate_hz alike
   hold               optional: a number, or empty
   filters            optional: filters of the receiver, separated by spaces
 A row without a group states its source and receiver alone.
@@ -242,12 +252,16 @@ pub const ALL_CELLS: &str = "The empty cells too";
 
 pub const CODE: &str = "As a header for C (C99), with an array for each group";
 
+pub const BOARD: &str = "As a schedule for bus boards: each word with data 0";
+
 pub const SLOTS_END: &str = "\
 The cells are in the order in which each group sends them in one frame.
   slot, time_us       the slot from 0, and when it begins in the frame
   bus                 the bus from 0
   label, sdi, source  the source of the output in this cell
   period_slots        the transmit period of the output
+With --board the words of each bus in one frame: group, bus, time_us, label,
+sdi, and the word as eight hexadecimal digits.
 
 Example:
   a429 slots --group displays examples/displays/table.toml";
@@ -337,16 +351,6 @@ pub const SIMULATE: &str = "Simulate a station on a log of received words with t
 pub const LOG: &str = "Received words, `TIME RECEIVER HEX` on each line";
 
 pub const LOGS: &str = "Further logs, read after the first as if they were one";
-
-pub const TIME: &str = "Unit of times in the log: us, ms or s [default: us]";
-
-pub const FROM: &str = "\
-Count times from the first word (first), or from this
-time in us [default: 0]";
-
-pub const CHANNEL: &str = "\
-Take channel or name FROM in a log as the name TO, as
-in --channel 3=adc-1; may be given again";
 
 pub const UNTIL: &str = "\
 Simulate until US

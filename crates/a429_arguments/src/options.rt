@@ -10,6 +10,7 @@ pub enum OptionName {
     Text,
     Map,
     Names,
+    Fill,
     All,
     Group,
     Slots,
@@ -18,10 +19,12 @@ pub enum OptionName {
     Time,
     From,
     Channel,
+    Reversed,
     Until,
     Sent,
     Summary,
     Code,
+    Board,
     Limit,
     Rate,
     Rows,
@@ -44,10 +47,12 @@ pub enum TextForm {
     Any,
     /// How many slots are drawn side by side: 64, 128 or 256.
     Width,
-    /// A unit of times: `us`, `ms` or `s`.
+    /// A unit of times: `us`, `ms`, `s` or `ns`.
     Unit,
     /// From when on times are counted: `first`, or microseconds of at most eighteen digits.
     Origin,
+    /// Which bits of a log are written the other way round: those of the `label`, or all of the `word`.
+    Order,
     /// FROM=TO.
     Rename,
     /// US or GROUP=US.
@@ -107,12 +112,13 @@ macro_rules! options {
 
 /// The options, in the order of `OptionName`: the name of each without the two hyphens, and what is given with it. The
 /// ranges are those of docs/RULES.md, Limits; that of `--rate` is the bit rate of a line (ARINC 429 Part 1).
-pub static OPTIONS: [(OptionName, &str, OptionKind); 30] = [
+pub static OPTIONS: [(OptionName, &str, OptionKind); 33] = [
     flag!(Csv, "csv"),
     flag!(Json, "json"),
     flag!(Text, "text"),
     texts!(Map, "map", Rename),
     flag!(Names, "names"),
+    flag!(Fill, "fill"),
     flag!(All, "all"),
     text!(Group, "group", Any),
     number!(Slots, "slots", 1, 8192),
@@ -121,10 +127,12 @@ pub static OPTIONS: [(OptionName, &str, OptionKind); 30] = [
     text!(Time, "time", Unit),
     text!(From, "from", Origin),
     texts!(Channel, "channel", Rename),
+    text!(Reversed, "reversed", Order),
     number!(Until, "until", 0, 99_999_999_999_999),
     flag!(Sent, "sent"),
     flag!(Summary, "summary"),
     flag!(Code, "c"),
+    flag!(Board, "board"),
     number!(Limit, "limit", 1, 100),
     number!(Rate, "rate", 12_000, 100_000),
     flag!(Rows, "rows"),
@@ -143,28 +151,28 @@ pub static OPTIONS: [(OptionName, &str, OptionKind); 30] = [
 /// The options of the commands that have some, in the order in which help lists them.
 pub const FORMS: &[OptionName] = options![Csv, Json];
 
-pub const IMPORT_OPTIONS: &[OptionName] = options![Map, Names];
+pub const IMPORT_OPTIONS: &[OptionName] = options![Map, Names, Fill];
 
 pub const ICD_OPTIONS: &[OptionName] = options![Csv, Text, Json];
 
 pub const DRAW_OPTIONS: &[OptionName] = options![Group, Slots, Width, Html];
 
-pub const SLOTS_OPTIONS: &[OptionName] = options![Group, All, Code, Csv, Json];
+pub const SLOTS_OPTIONS: &[OptionName] = options![Group, All, Code, Board, Csv, Json];
 
 pub const LOAD_OPTIONS: &[OptionName] = options![Limit, Csv, Json];
 
 pub const DIFF_OPTIONS: &[OptionName] = options![All, Csv, Json];
 
 pub const SIMULATE_OPTIONS: &[OptionName] = options![
-    Time, From, Channel, Until, Sent, Summary, Csv, Json
+    Time, From, Channel, Reversed, Until, Sent, Summary, Csv, Json
 ];
 
 pub const SURVEY_OPTIONS: &[OptionName] = options![
-    Time, From, Channel, Rate, Rows, Slack, Csv, Json
+    Time, From, Channel, Reversed, Rate, Rows, Slack, Csv, Json
 ];
 
 pub const JUDGE_OPTIONS: &[OptionName] = options![
-    In, Tolerance, Events, Time, From, Channel, Csv, Json
+    In, Tolerance, Events, Time, From, Channel, Reversed, Csv, Json
 ];
 
 pub const ENCODE_OPTIONS: &[OptionName] = options![Sdi, Ssm, Data, Bnr, Bits, Bcd];

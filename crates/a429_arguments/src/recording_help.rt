@@ -1,4 +1,4 @@
-//! The texts of help of `survey` and `judge`.
+//! The texts of help of `survey` and `judge`, and of the options for logs.
 
 pub const SURVEY: &str = "Print which words are on recorded lines, and how often each comes";
 
@@ -57,3 +57,19 @@ counts its foreign words. The status is 1 if something is found:
 
 Example:
   a429 judge examples/displays/table.toml examples/displays/log sent.log";
+
+pub const TIME: &str = "\
+Unit of times in the log, us, ms, s or ns, unless
+they are times of day or dates [default: us]";
+
+pub const FROM: &str = "\
+Count times from the first word (first), or from this
+time in us [default: 0]";
+
+pub const CHANNEL: &str = "\
+Take channel or name FROM in a log as the name TO, as
+in --channel 3=adc-1; may be given again";
+
+pub const REVERSED: &str = "\
+Bits of the words in a log that are written the other
+way round: those of the label, or all of the word";

@@ -32,7 +32,7 @@ pub enum Rule {
 }
 
 /// The rules, in the order in which they are checked. With a command: the rule is for that command alone.
-pub static RULES: [(Rule, Option<Verb>); 23] = [
+pub static RULES: [(Rule, Option<Verb>); 26] = [
     (
         Rule::OneOf(OptionName::Data, OptionName::Bnr, OptionName::Bcd),
         Some(Verb::Encode),
@@ -53,6 +53,7 @@ pub static RULES: [(Rule, Option<Verb>); 23] = [
     (Rule::Fits(OptionName::Width), None),
     (Rule::Fits(OptionName::Time), None),
     (Rule::Fits(OptionName::From), None),
+    (Rule::Fits(OptionName::Reversed), None),
     (Rule::Excludes(OptionName::Csv, OptionName::Json), None),
     (
         Rule::Needs(OptionName::Json, OptionName::Summary),
@@ -60,6 +61,8 @@ pub static RULES: [(Rule, Option<Verb>); 23] = [
     ),
     (Rule::Excludes(OptionName::Code, OptionName::Csv), None),
     (Rule::Excludes(OptionName::Code, OptionName::Json), None),
+    (Rule::Excludes(OptionName::Code, OptionName::Board), None),
+    (Rule::Excludes(OptionName::Board, OptionName::All), None),
     (Rule::Excludes(OptionName::Rows, OptionName::Csv), None),
     (Rule::Excludes(OptionName::Rows, OptionName::Json), None),
 ];
@@ -89,9 +92,12 @@ fn message(rule: Rule) -> &'static str {
             "'--sent' cannot be used with '--csv', '--json' or '--summary'"
         }
         Rule::Fits(OptionName::Width) => "'--width <N>' must be 64, 128 or 256",
-        Rule::Fits(OptionName::Time) => "'--time <UNIT>' takes us, ms or s",
+        Rule::Fits(OptionName::Time) => "'--time <UNIT>' takes us, ms, s or ns",
+        Rule::Fits(OptionName::Reversed) => "'--reversed <BITS>' takes label or word",
         Rule::Fits(_) => "'--from <TIME>' takes 'first' or a number of at most 18 digits",
         Rule::Excludes(OptionName::Csv, _) => "'--csv' and '--json' cannot be used together",
+        Rule::Excludes(_, OptionName::Board) => "'--c' and '--board' cannot be used together",
+        Rule::Excludes(OptionName::Board, _) => "'--all' and '--board' cannot be used together",
         Rule::Excludes(_, _) => "'--c' and '--rows' cannot be used with '--csv' or '--json'",
     }
 }
@@ -105,6 +111,7 @@ fn fits(form: TextForm, text: &str) -> bool
         TextForm::Width => text == "64" || text == "128" || text == "256",
         TextForm::Unit => unit_in(text).is_some(),
         TextForm::Origin => origin_in(text).is_some(),
+        TextForm::Order => text == "label" || text == "word",
         TextForm::Rename => is_rename(text),
         TextForm::Tolerance => is_tolerance(text),
     }
