@@ -2,8 +2,8 @@
 
 The toolchain makes an LLVM module of the proved crate, and machine code for x86-64 of that. Its own compiler for WebAssembly makes
 nothing that allocates, so the page takes this LLVM module. The clang of the toolchain translates it: both machines have addresses of
-64 bits and the same sizes, alignments and order of bytes. A module that has something for x86-64 alone is refused, and so is one that
-calls a function which the page does not have.
+64 bits and the same sizes, alignments and order of bytes. One instruction of x86-64 becomes the function of page/shuffle.ll. A module
+that has something else for x86-64 alone is refused, and so is one that calls a function which the page does not have.
 """
 import base64
 import gzip
@@ -25,6 +25,8 @@ PAGE = os.path.join(OUT, "a429.html")
 SCRIPTS = ("elements", "module", "spreadsheets", "refusals", "files", "plan", "loads", "changes", "judge", "words", "page")
 # The functions of other code that the module may call: those of page/heap.c.
 HEAP = {"rattle_alloc", "rattle_realloc", "rattle_dealloc"}
+# The instruction of x86-64 that the standard library uses, and the function of page/shuffle.ll that does the same.
+SHUFFLE, SHUFFLED = "@llvm.x86.ssse3.pshuf.b.128", "@a429_shuffle"
 EXPORT = "a429_command"
 STACK, LEAST_MEMORY, MOST_MEMORY = 8 << 20, 16 << 20, 4 << 30
 LAYOUT = "e-m:e-p:64:64-p10:8:8-p20:8:8-i64:64-i128:128-n32:64-S128"
@@ -91,7 +93,7 @@ def run(*words):
 
 def refuse_foreign(text):
     """Refuses the text of an LLVM module that has something for x86-64 alone, or that calls what the page does not have."""
-    alone = sorted(set(re.findall(r"@llvm\.x86[\w.]*| asm (?:sideeffect )?\"", text)))
+    alone = sorted(set(re.findall(r"@llvm\.x86[\w.]*| asm (?:sideeffect )?\"", text)) - {SHUFFLE})
     if alone:
         raise Failed(f"the module has code for x86-64 alone: {' '.join(alone)}")
     declared = set(re.findall(r"^declare [^@]*@\"?([\w.$:]+)", text, re.M))
@@ -101,7 +103,8 @@ def refuse_foreign(text):
 
 
 def for_wasm(text):
-    """The text of the LLVM module with the names of the other machine: its layout, its target, and no features of x86-64."""
+    """The text of the LLVM module for the other machine: its layout, its target, no features of x86-64, and no instruction of it."""
+    text = re.sub(rf"^declare .*{re.escape(SHUFFLE)}\(.*", "", text, flags=re.M).replace(SHUFFLE, SHUFFLED) + source("shuffle.ll")
     text = re.sub(r"^target datalayout = .*", f'target datalayout = "{LAYOUT}"', text, flags=re.M)
     text = re.sub(r"^target triple = .*", 'target triple = "wasm64-unknown-unknown"', text, flags=re.M)
     features = r' ?"(?:probe-stack|stack-probe-size|target-cpu|target-features|tune-cpu)"="[^"]*"'

@@ -293,6 +293,7 @@ There is a row for each finding, and the status is 1 if there is a finding:
   coarse          an output goes out far more often than its maximum asks for
   same-filters    two receivers have the same filters
   crowded         a bus is filled to more than 80 per cent
+  milliseconds    the intervals of a group may be milliseconds
 
 Example:
   a429 lint examples/air_data_and_inertial/station.toml";

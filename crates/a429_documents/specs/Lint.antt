@@ -16,7 +16,7 @@ use Rattle.a429_filter.specs.Filters.{filters_of, passes, set_passes}
 use Rattle.a429_filter.specs.declared.filters.Filter.{Filter}
 use Rattle.a429_grid.specs.Grid.{slot_time}
 use Rattle.a429_pack.specs.Demanded.{demand_of}
-use Rattle.a429_pack.specs.Demands.{demand_at, exponents_of, greatest}
+use Rattle.a429_pack.specs.Demands.{demand_at, exponent_of, exponents_of, greatest}
 use Rattle.a429_pack.specs.declared.demands.Demand.{Demand}
 use Rattle.a429_slots.specs.Asked.{IsAsked}
 use Rattle.a429_slots.specs.Planned.{rated_outputs}
@@ -24,7 +24,7 @@ use Rattle.a429_cert.specs.PlanText.{source_name}
 use Rattle.a429_documents.specs.declared.lint.Finding.{Finding}
 use Rattle.a429_documents.specs.declared.lint.Finding.TheVariants.{OfGroup, OfSource, OfReceiver}
 use Rattle.a429_documents.specs.declared.lint.GroupFinding.{GroupFinding}
-use Rattle.a429_documents.specs.declared.lint.GroupFinding.TheVariants.{Unfit, TooManyBuses, Alike, Full, Coarse, Crowded}
+use Rattle.a429_documents.specs.declared.lint.GroupFinding.TheVariants.{Unfit, TooManyBuses, Alike, Full, Coarse, Crowded, Millis}
 use Rattle.a429_documents.specs.declared.lint.SourceFinding.{SourceFinding}
 use Rattle.a429_documents.specs.declared.lint.SourceFinding.TheVariants.{Unheard, Unsent}
 use Rattle.a429_documents.specs.declared.lint.ReceiverFinding.{ReceiverFinding}
@@ -166,6 +166,22 @@ crowded_row group bus frame cells =
 abbrev pub crowded_rows : List ℕ → List Demand → ℕ → List (List Field)
 crowded_rows group demands bus = crowded_row group bus (2 ^ greatest (exponents_of demands)) (cells_of_bus demands bus)
 
+-- each maximum interval is below five milliseconds
+abbrev pub are_brief : List OutputRow → Bool
+are_brief rows = list_all (λ row. nat_lt row.max_us 5000) rows
+
+-- an output takes a quarter of a bus or more: its period has at most four slots
+abbrev pub has_quarter : List Demand → Bool
+has_quarter demands = list_any (λ d. nat_le (exponent_of d) 2) demands
+
+-- The intervals of a group that can be planned, of four outputs or more, may be milliseconds in a column of microseconds: labels of
+-- ARINC 429 Part 1 have intervals of ten milliseconds and more.
+abbrev pub may_be_millis : List OutputRow → List Demand → Bool
+may_be_millis rows demands = (are_fit demands && nat_le 4 (length rows)) && (are_brief rows && has_quarter demands)
+
+abbrev pub millis_rows : List ℕ → List OutputRow → List Demand → List (List Field)
+millis_rows group rows demands = if may_be_millis rows demands then group_row (codes "milliseconds") group Absent Absent Absent ∷ [] else []
+
 -- the findings of one kind in a group, outputs in table order
 abbrev pub group_finding : List SourceRow → GroupFinding → GroupRow → List OutputRow → List Demand → List (List Field)
 group_finding sources Unfit g rows demands = of_each (length rows) (unfit_rows sources g.name rows demands)
@@ -174,6 +190,7 @@ group_finding sources Alike g rows demands = of_each (length rows) (alike_rows s
 group_finding sources Full g rows demands = full_rows g.name demands
 group_finding sources Coarse g rows demands = of_each (length rows) (coarse_rows sources g.name g.rate rows demands)
 group_finding sources Crowded g rows demands = of_each (planned_buses demands) (crowded_rows g.name demands)
+group_finding sources Millis g rows demands = millis_rows g.name rows demands
 
 abbrev pub group_rows : TableRecord → List (List Demand) → GroupFinding → ℕ → List (List Field)
 group_rows e asked kind n =
@@ -262,7 +279,7 @@ finding_rows e asked (OfReceiver kind) = of_each (length e.receivers) (receiver_
 abbrev pub findings : List Finding
 findings =
     OfGroup Unfit ∷ OfGroup TooManyBuses ∷ OfSource Unheard ∷ OfSource Unsent ∷ OfReceiver Idle ∷ OfReceiver Blind ∷ OfGroup Alike ∷ OfGroup Full ∷ OfGroup Coarse
-    ∷ OfReceiver SameFilters ∷ OfGroup Crowded ∷ []
+    ∷ OfReceiver SameFilters ∷ OfGroup Crowded ∷ OfGroup Millis ∷ []
 
 -- a row for each finding, kind by kind, from the demands of the groups
 abbrev pub lint_rows : TableRecord → List (List Demand) → List (List Field)

@@ -5,6 +5,7 @@ ghost use Rattle.a429_documents.specs.Lint.{AreAsked, AreFindings, finding_rows,
 
 mod demands;
 mod groups;
+mod millis;
 mod receivers;
 mod sources;
 
@@ -32,6 +33,8 @@ pub enum GroupFinding {
     Coarse,
     /// More than 80 per cent of a bus is filled.
     Crowded,
+    /// The intervals may be milliseconds.
+    Millis,
 }
 
 /// A finding of a source.
@@ -63,7 +66,7 @@ pub enum Finding {
 }
 
 /// The kinds, in the order of the rows.
-const FINDINGS: [Finding; 11] = [
+const FINDINGS: [Finding; 12] = [
     Finding::OfGroup(GroupFinding::Unfit),
     Finding::OfGroup(GroupFinding::TooManyBuses),
     Finding::OfSource(SourceFinding::Unheard),
@@ -75,6 +78,7 @@ const FINDINGS: [Finding; 11] = [
     Finding::OfGroup(GroupFinding::Coarse),
     Finding::OfReceiver(ReceiverFinding::SameFilters),
     Finding::OfGroup(GroupFinding::Crowded),
+    Finding::OfGroup(GroupFinding::Millis),
 ];
 
 /// The names of the columns.
@@ -107,8 +111,9 @@ fn add_findings(found: &mut Rows, equipment: &Equipment, asked: &[Vec<Demand>], 
 /// The findings of an equipment (profile: lint), one row each. First come the outputs without a grid period and the
 /// groups that need more than 16 buses. Then come the sources that no filter passes, the sources that no group sends, the
 /// receivers without a source, and the filters that pass no source. Then come the outputs that a display cannot
-/// distinguish, and the groups without an empty cell. Last come what costs load: periods far below their maximum interval,
-/// receivers with the same filters, and buses that are filled to more than 80 per cent. If nothing is found, there is no row. Error: an allocation failed.
+/// distinguish, and the groups without an empty cell. Then come what costs load: periods far below their maximum interval,
+/// receivers with the same filters, and buses that are filled to more than 80 per cent. Last come the groups whose
+/// intervals may be milliseconds. If nothing is found, there is no row. Error: an allocation failed.
 pub fn lint_sheet(alloc: Global, equipment: &Equipment) -> Result<Sheet, AllocError>
     ensures columns { IfOk result (λ sheet. map (λ name. name.now) sheet.columns.now ≡ lint_columns) }
     ensures rows { IfOk result (λ sheet. AreFindings equipment.now sheet.rows) }

@@ -4,7 +4,7 @@ use crate::hint::HintText;
 use a429_text::Rows;
 
 /// The kinds of findings, in the order in which `lint` prints them, with what each means and what to do about it.
-static ADVICE: [&str; 11] = [
+static ADVICE: [&str; 12] = [
     "unfit: no transmit period lies within the interval, so the table has no plan: `a429 plan` prints intervals that work",
     "too-many-buses: a group can have at most 16 buses, so the table has no plan: give some of its outputs a longer max_us, or move them to another group",
     "unheard: no filter of the receiver passes the source's label, so its words are never accepted: add a filter LLL/377, or remove the filters",
@@ -16,6 +16,7 @@ static ADVICE: [&str; 11] = [
     "coarse: the period is shorter than two thirds of max_us, since periods are powers of two of slots: a little more max_us may halve the load of the output, and `a429 margin` prints how much",
     "same-filters: both receivers pass the same labels: if they hear one bus, one of them is enough; otherwise each source needs an SDI or a receiver of its own",
     "crowded: more than 80 per cent of the bus is filled: `a429 load --limit 80` prints the fewest buses that keep to that",
+    "milliseconds: each maximum interval is below 5 ms, and an output takes a quarter of a bus: if the intervals are milliseconds, multiply them by 1000, or import them as min_ms and max_ms",
 ];
 
 /// The kinds of findings that can be corrected in receivers, filters or sources.

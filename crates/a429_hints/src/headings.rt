@@ -1,16 +1,14 @@
 //! Hints about the heading of rows of comma-separated values that `import` refuses.
 
 use crate::file_rows::FileRows;
+use crate::guesses::{Guess, are_alike, guess_for, guesses_of, is_missing, text_of, times_in};
 use crate::hint::HintText;
 use crate::lists::{LISTED, say_more};
 use crate::nearest::Nearest;
-use a429_import::{
-    CsvLine, IMPORT_COLUMNS, ImportColumn, column_in, is_column, is_column_named, is_met,
-};
+use a429_import::{CsvLine, IMPORT_COLUMNS, ImportColumn, column_in, is_column, is_met};
 use a429_text::renames::halves;
 use std::alloc::Global;
 use std::cmp::min;
-use std::str::Chars;
 
 /// Says which of the texts HEADING=COLUMN is not met. If all are, names each column that the heading lacks or has twice.
 pub fn tell_heading(file: FileRows, maps: &[&str], hint: &HintText) {
@@ -23,7 +21,7 @@ pub fn tell_heading(file: FileRows, maps: &[&str], hint: &HintText) {
         }
     }
     if are_met {
-        tell_columns(file, hint);
+        tell_columns(file, maps, hint);
     }
 }
 
@@ -50,9 +48,8 @@ fn tell_map(titles: &CsvLine, text: &str, hint: &HintText) {
     hint.end("");
 }
 
-/// Names each column that the heading lacks or has twice.
-fn tell_columns(file: FileRows, hint: &HintText) {
-    let mut unlike: usize = 0;
+/// Names each column that the heading lacks or has twice, and the fields that are likely meant.
+fn tell_columns(file: FileRows, maps: &[&str], hint: &HintText) {
     for column in IMPORT_COLUMNS.as_slice() {
         let times = times_in(&file.heading.line, *column);
         if times > 1 {
@@ -61,25 +58,47 @@ fn tell_columns(file: FileRows, hint: &HintText) {
                 column.name(),
                 times,
             );
-        } else if times == 0 && column.is_needed() && !tell_missing(file, column.name(), hint) {
-            unlike = unlike.saturating_add(1);
         }
     }
+    let Ok(guesses) = guesses_of(hint.alloc, file) else {
+        return hint.give_up();
+    };
+    match guesses.as_slice() {
+        [] => {}
+        [guess] => tell_guess(file, *guess, hint),
+        _ => tell_guesses(file, maps, &guesses, hint),
+    }
+    let unlike = unlike_columns(file, &guesses);
     if unlike > 0 {
-        tell_unlike(file, unlike, hint);
+        tell_unlike(file, &guesses, unlike, hint);
     }
 }
 
+/// How many columns the heading lacks that no field is like.
+fn unlike_columns(file: FileRows, guesses: &[Guess]) -> usize {
+    let mut unlike: usize = 0;
+    for column in IMPORT_COLUMNS.as_slice() {
+        if is_unlike(file, guesses, *column) {
+            unlike = unlike.saturating_add(1);
+        }
+    }
+    unlike
+}
+
+/// Whether the heading lacks a column, and no field is like it.
+fn is_unlike(file: FileRows, guesses: &[Guess], column: ImportColumn) -> bool {
+    is_missing(file, column) && guess_for(guesses, column).is_none()
+}
+
 /// Names the columns that the heading lacks and that no field is like, and the fields of the heading.
-fn tell_unlike(file: FileRows, count: usize, hint: &HintText) {
+fn tell_unlike(file: FileRows, guesses: &[Guess], count: usize, hint: &HintText) {
     hint.begin(if count == 1 {
         ": this column is missing:"
     } else {
         ": these columns are missing:"
     });
     for column in IMPORT_COLUMNS.as_slice() {
-        let is_missing = times_in(&file.heading.line, *column) == 0 && column.is_needed();
-        if is_missing && nearest_field(hint.alloc, file.titles, column.name()).is_none() {
+        if is_unlike(file, guesses, *column) {
             hint.say_one(" {}", column.name());
         }
     }
@@ -87,15 +106,51 @@ fn tell_unlike(file: FileRows, count: usize, hint: &HintText) {
     hint.end("");
 }
 
-/// Says that the heading lacks a column, and which field is like it. The answer is whether one is.
-fn tell_missing(file: FileRows, name: &str, hint: &HintText) -> bool {
-    let Some(near) = nearest_field(hint.alloc, file.titles, name) else {
-        return false;
-    };
+/// Says that the heading lacks a column, and which field is likely meant.
+fn tell_guess(file: FileRows, guess: Guess, hint: &HintText) {
+    let title = text_of(file.titles.field(guess.place));
     hint.begin(": ");
-    hint.say_two("the column {} is missing; the nearest is {?}", name, near);
-    hint.end_two("; rename it, or add --map \"{..}={}\"", near, name);
-    true
+    hint.say_two(
+        "the column {} is missing; the nearest is {?}; rename it, or add",
+        guess.name,
+        title,
+    );
+    say_map(title, guess.name, hint);
+    hint.end("");
+}
+
+/// Says with which command the fields that are likely meant are read as the columns that the heading lacks.
+fn tell_guesses(file: FileRows, maps: &[&str], guesses: &[Guess], hint: &HintText) {
+    hint.begin(": columns have other names; rename them, or write a429 import ");
+    hint.say_file_name();
+    if file.makes_names {
+        hint.say(" --names");
+    }
+    for text in maps {
+        hint.say_one(" --map \"{}\"", *text);
+    }
+    for column in IMPORT_COLUMNS.as_slice() {
+        if let Some(guess) = guess_for(guesses, *column) {
+            say_map(text_of(file.titles.field(guess.place)), guess.name, hint);
+        }
+    }
+    hint.end("");
+}
+
+/// Says the option that reads a field of a heading as a column, for a shell.
+fn say_map(title: &str, name: &str, hint: &HintText) {
+    hint.say(" --map \"");
+    for c in title.chars() {
+        match c {
+            '"' | '\\' | '$' | '`' => {
+                hint.write_fmt('\\');
+                hint.write_fmt(c);
+            }
+            _ if c.is_control() => hint.write_fmt(' '),
+            _ => hint.write_fmt(c),
+        }
+    }
+    hint.say_one("={}\"", name);
 }
 
 /// Names the fields of a heading.
@@ -105,43 +160,6 @@ fn say_fields(titles: &CsvLine, hint: &HintText) {
         hint.say_one(" {?}", text_of(titles.field(place)));
     }
     say_more(titles.len(), hint);
-}
-
-/// How many fields of a heading name this column.
-fn times_in(heading: &CsvLine, column: ImportColumn) -> usize {
-    let mut times: usize = 0;
-    for place in 0..heading.len() {
-        if is_column_named(column, heading.field(place)) {
-            times = times.saturating_add(1);
-        }
-    }
-    times
-}
-
-/// A field as a text; the empty text if it is not UTF-8.
-fn text_of(field: &[u8]) -> &str {
-    str::from_utf8(field).unwrap_or("")
-}
-
-/// The next letter or digit, in lower case.
-fn next_letter(chars: &mut Chars<'_>) -> Option<char> {
-    for c in chars {
-        if c.is_ascii_alphanumeric() {
-            return Some(c.to_ascii_lowercase());
-        }
-    }
-    None
-}
-
-/// Whether two texts have the same letters and digits: names of one column differ in case, spaces and signs.
-fn are_alike(a: &str, b: &str) -> bool {
-    let mut rest = b.chars();
-    for c in a.chars() {
-        if c.is_ascii_alphanumeric() && next_letter(&mut rest) != Some(c.to_ascii_lowercase()) {
-            return false;
-        }
-    }
-    next_letter(&mut rest).is_none()
 }
 
 /// The field of a heading that is nearest to a name. Fields that name a column are left out.

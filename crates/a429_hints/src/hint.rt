@@ -146,9 +146,19 @@ impl HintText {
     }
 
     fn say_file(&self) {
+        self.say_name(": {}");
+    }
+
+    /// Says the name of the file.
+    pub fn say_file_name(&self) {
+        self.say_name("{}");
+    }
+
+    /// Says a form with the name of the file, if there is one.
+    fn say_name(&self, form: &str) {
         if let Ok(file) = self.file.try_borrow() {
             if let Some(name) = &*file {
-                self.say_one(": {}", name.as_str());
+                self.say_one(form, name.as_str());
             }
         }
     }

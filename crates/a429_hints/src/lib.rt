@@ -16,6 +16,7 @@ mod faults;
 mod file_rows;
 mod files;
 mod findings;
+mod guesses;
 mod headings;
 mod hint;
 mod imported;

@@ -11,7 +11,7 @@ use Rattle.a429_word.proofs.Ones.{number_is}
 use Rattle.a429_word.specs.Bits.{label_of, sdi_of}
 use Rattle.a429_word.specs.Hexadecimal.{hex}
 use Rattle.a429_survey.specs.Figures.{Noted, first_of, greatest_field, intervals, intervals_after, is_even, last_of, least_field, load_field, mean_field, times_of}
-use Rattle.a429_survey.specs.Survey.{label_rows, name_rows, names_of, pair_row, pair_rows, rows_if_any, survey_row, survey_rows, words_of, words_with}
+use Rattle.a429_survey.specs.Survey.{label_rows, name_rows, names_of, pair_row, pair_rows, rows_if_any, sdi_text, survey_row, survey_rows, words_of, words_with}
 use Rattle.a429_survey.specs.Starts.{interval_field, longer_field, shorter_field, source_name, start_row, start_rows}
 use Rattle.a429_survey.specs.Kept.{LineKept, figures_of, label_in, least_of, line_of, lines_of, load_in, longer_in, no_figures, pair_by, pair_in, place_of, row_in, rows_by, rows_in, shorter_in, start_in, words_at}
 use Rattle.a429_survey.specs.declared.rows.RowKind.{RowKind}
@@ -74,7 +74,7 @@ pair_of kind.Figures rate name = pair_row name
 pair_of (kind.Starts slack) rate name = start_row slack rate name
 
 pair_by_is : (k : RowKind) (rate : ℕ) (name : List ℕ) (label sdi : ℕ) (ws : List Noted) → pair_by k rate name label sdi (figures_of ws) ≡ pair_of k rate name label sdi ws
-pair_by_is kind.Figures rate name label sdi ws = row_is name (Text (octal label)) (Number sdi) Absent ws
+pair_by_is kind.Figures rate name label sdi ws = row_is name (Text (octal label)) (Text (sdi_text sdi)) Absent ws
 pair_by_is (kind.Starts slack) rate name label sdi ws = start_is slack rate name label sdi ws
 
 rows_by_is : (k : RowKind) (rate : ℕ) (name : List ℕ) (label sdi : ℕ) (ws : List Noted) → rows_by k rate name label sdi (figures_of ws) ≡ rows_if_any (pair_of k rate name label sdi) ws

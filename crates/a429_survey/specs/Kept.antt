@@ -13,7 +13,7 @@ use Rattle.a429_word.specs.Hexadecimal.{hex}
 use Rattle.a429_survey.specs.declared.figures.Figures.{Figures}
 use Rattle.a429_survey.specs.Figures.{Noted, first_of, intervals, is_even, last_of, tenths_field, times_of}
 use Rattle.a429_survey.specs.Starts.{interval_field, source_name}
-use Rattle.a429_survey.specs.Survey.{names_of, words_of}
+use Rattle.a429_survey.specs.Survey.{names_of, sdi_text, words_of}
 use Rattle.a429_survey.specs.declared.rows.RowKind.{RowKind}
 use Rattle.a429_survey.specs.declared.rows.RowKind.TheVariants as kind
 
@@ -182,7 +182,7 @@ start_in slack rate name label sdi f =
 
 -- the row of a label and an SDI of a name, and what follows the rows of a name, by what is asked for
 abbrev pub pair_by : RowKind → ℕ → List ℕ → ℕ → ℕ → Figures → List Field
-pair_by kind.Figures rate name label sdi f = row_in name (Text (octal label)) (Number sdi) Absent f
+pair_by kind.Figures rate name label sdi f = row_in name (Text (octal label)) (Text (sdi_text sdi)) Absent f
 pair_by (kind.Starts slack) rate name label sdi f = start_in slack rate name label sdi f
 
 abbrev pub end_by : RowKind → ℕ → LineKept → List (List Field)

@@ -1,5 +1,5 @@
 -- What is on the lines of a recording: the rows of a survey (profile: docs/FORMATS.md, Output of `survey`).
-use Rattle.std.specs.Prelude.{ℕ, ◌==◌, ◌&&◌, List, [], ◌∷◌, ◌++◌, bytes_eq, codes, count_by, filter, flat_map, fold, if◌then◌else◌, length, map}
+use Rattle.std.specs.Prelude.{ℕ, ◌+◌, ◌==◌, ◌&&◌, List, [], ◌∷◌, ◌++◌, bytes_eq, codes, count_by, filter, flat_map, fold, if◌then◌else◌, length, map}
 use Rattle.std.specs.Cmp.Lexicographic.{slice_cmp}
 use Rattle.std.specs.List.{range_with_len}
 use Rattle.std.specs.Ordering.{is_eq, is_lt, nat_cmp}
@@ -60,9 +60,13 @@ label_rows row words label = flat_map (λ sdi. rows_if_any (row label sdi) (word
 abbrev pub pair_rows : (ℕ → ℕ → List Noted → List Field) → List Noted → List (List Field)
 pair_rows row words = flat_map (label_rows row words) (range_with_len 0 256)
 
+-- an SDI, 0 to 3, is a text, as in all sheets
+abbrev pub sdi_text : ℕ → List ℕ
+sdi_text sdi = (48 + sdi) ∷ []
+
 -- the row of a label and an SDI of a name
 abbrev pub pair_row : List ℕ → ℕ → ℕ → List Noted → List Field
-pair_row name label sdi words = survey_row name (Text (octal label)) (Number sdi) Absent words
+pair_row name label sdi words = survey_row name (Text (octal label)) (Text (sdi_text sdi)) Absent words
 
 -- the rows of the words of a name, and then that of all these words
 abbrev pub name_rows : ℕ → List ℕ → List Noted → List (List Field)

@@ -1,13 +1,13 @@
 //! The cells of a row.
-ghost use Rattle.std.specs.Prelude.{◌≡◌, ◌∷◌, ◌++◌, ◌-◌, [], map, string_bytes, IfOk, OnOk};
+ghost use Rattle.std.specs.Prelude.{◌≡◌, ◌<◌, ◌∷◌, ◌++◌, ◌-◌, [], map};
 ghost use Rattle.a429_text.specs.Sheets.{field_of};
-ghost use Rattle.a429_word.specs.Hexadecimal.{hex};
 ghost use Rattle.a429_survey.specs.Figures.{tenths_field};
+ghost use Rattle.a429_text.specs.Fields.{Text};
+ghost use Rattle.a429_survey.specs.Survey.{sdi_text};
 ghost use Rattle.a429_survey.specs.Kept.{interval_in, load_in, mean_in, row_with, span_in};
 
 use crate::figures::Figures;
 use a429_text::{Cell, Rows};
-use std::alloc::{AllocError, Global};
 
 /// The time that a word takes at 1 bit/s, in microseconds, times the 1000 tenths of a percent in a whole: 36 bit times.
 const WORD_SHARE: u128 = 36 * 1_000_000 * 1000;
@@ -62,12 +62,25 @@ pub fn load_cell(rate: u32, figures: &Figures) -> Cell<'static>
     tenths_cell((WORD_SHARE * intervals).div_ceil(room))
 }
 
-/// Eight hexadecimal digits in lower case. Error: an allocation failed.
-#[tactic(auto, unfolding(a429_word::specs::Hexadecimal::hex))]
-fn hex_text(alloc: Global, raw: u32) -> Result<String, AllocError>
-    ensures { IfOk result (λ text. string_bytes text ≡ hex raw) }
+/// An SDI as a text.
+fn sdi_text(sdi: u8) -> &'static str
+    requires { sdi < 4 }
+    ensures { result.now ≡ sdi_text sdi }
 {
-    format!(in alloc; "{raw:08x}")
+    match sdi {
+        0 => "0",
+        1 => "1",
+        2 => "2",
+        _ => "3",
+    }
+}
+
+/// The cell of an SDI.
+pub fn sdi_cell(sdi: u8) -> Cell<'static>
+    requires { sdi < 4 }
+    ensures { field_of result ≡ Text (sdi_text sdi) }
+{
+    Cell::Text(sdi_text(sdi))
 }
 
 /// The cells of the row of some words.
@@ -78,9 +91,7 @@ fn cells<'a>(
     sdi: Cell<'a>,
     load: Cell<'a>,
     figures: &Figures,
-    last_word: &'a str,
 ) -> [Cell<'a>; 12]
-    requires { last_word.now ≡ hex figures.now.last_word }
     ensures { map field_of result ≡ row_with name.now label.entry sdi.entry load.entry figures.now }
 {
     [
@@ -94,24 +105,21 @@ fn cells<'a>(
         interval_cell(figures, figures.greatest),
         Cell::Number(figures.first),
         Cell::Number(figures.last),
-        Cell::Text(last_word),
+        Cell::Hex(figures.last_word),
         load,
     ]
 }
 
-/// Adds the row of some words. Error: an allocation failed.
+/// Adds the row of some words.
 pub fn add_row(
     rows: &mut Rows,
-    alloc: Global,
     name: &str,
     label: Cell<'_>,
     sdi: Cell<'_>,
     load: Cell<'_>,
     figures: &Figures,
-) -> Result<(), AllocError>
-    ensures { OnOk result (rows.new ≡ rows.old ++ row_with name.now label.entry sdi.entry load.entry figures.now ∷ []) }
+)
+    ensures { rows.new ≡ rows.old ++ row_with name.now label.entry sdi.entry load.entry figures.now ∷ [] }
 {
-    let last_word = hex_text(alloc, figures.last_word)?;
-    rows.add(&cells(name, label, sdi, load, figures, last_word.as_str()));
-    Ok(())
+    rows.add(&cells(name, label, sdi, load, figures));
 }

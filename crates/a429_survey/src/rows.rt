@@ -3,7 +3,7 @@ ghost use Rattle.std.specs.Prelude.{◌≡◌, ◌<◌, ◌∷◌, ◌++◌, [],
 ghost use Rattle.std.specs.List.{range_with_len};
 ghost use Rattle.a429_survey.specs.Kept.{end_by, label_in, pair_by, pair_in, rows_in};
 
-use crate::cells::{add_row, load_cell};
+use crate::cells::{add_row, load_cell, sdi_cell};
 use crate::figures::Figures;
 use crate::lines::Line;
 use crate::starts::add_start;
@@ -35,16 +35,15 @@ fn add_figures(
 {
     match kind {
         RowKind::Figures => {
-            let sdi = Cell::Number(u64::from(sdi));
             add_row(
                 rows,
-                alloc,
                 name,
                 Cell::Octal(label),
-                sdi,
+                sdi_cell(sdi),
                 Cell::Absent,
                 figures,
-            )
+            );
+            Ok(())
         }
         RowKind::Starts(slack) => add_start(rows, alloc, slack, rate, name, label, sdi, figures),
     }
@@ -113,31 +112,17 @@ fn add_labels(
     Ok(())
 }
 
-/// Adds what follows the rows of each label. Error: an allocation failed.
-fn add_end(
-    rows: &mut Rows,
-    alloc: Global,
-    kind: RowKind,
-    rate: u32,
-    line: &Line,
-) -> Result<(), AllocError>
-    ensures { OnOk result (rows.new ≡ rows.old ++ end_by kind rate line.now) }
+/// Adds what follows the rows of each label.
+fn add_end(rows: &mut Rows, kind: RowKind, rate: u32, line: &Line)
+    ensures { rows.new ≡ rows.old ++ end_by kind rate line.now }
 {
     match kind {
         RowKind::Figures => {
             let load = load_cell(rate, line.all());
             let name = line.name().as_str();
-            add_row(
-                rows,
-                alloc,
-                name,
-                Cell::Absent,
-                Cell::Absent,
-                load,
-                line.all(),
-            )
+            add_row(rows, name, Cell::Absent, Cell::Absent, load, line.all());
         }
-        RowKind::Starts(_) => Ok(()),
+        RowKind::Starts(_) => {}
     }
 }
 
@@ -152,7 +137,8 @@ fn add_line(
     ensures { OnOk result (rows.new ≡ rows.old ++ rows_in kind rate line.now) }
 {
     add_labels(rows, alloc, kind, rate, line)?;
-    add_end(rows, alloc, kind, rate, line)
+    add_end(rows, kind, rate, line);
+    Ok(())
 }
 
 /// The rows of each name, in order. Error: an allocation failed.

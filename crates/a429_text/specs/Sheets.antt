@@ -11,12 +11,14 @@ use Rattle.a429_text.specs.declared.sheets.SheetForm.TheVariants.{Columns, Csv, 
 use Rattle.a429_text.specs.Fields.{Field, Text, Number, Tenths, Absent, texts_of, json_text}
 use Rattle.a429_text.specs.Aligned.{aligned_text}
 use Rattle.a429_text.specs.Texts.{formula, octal}
+use Rattle.a429_word.specs.Hexadecimal.{hex}
 
 -- what is written into a cell
 abbrev pub field_of : Cell → Field
 field_of (given.Text words) = Text words.now
 field_of (given.Number number) = Number number
 field_of (given.Tenths number) = Tenths number
+field_of (given.Hex raw) = Text (hex raw)
 field_of (given.Octal value) = Text (octal value)
 field_of (given.OctalFormula value) = Text (formula (octal value))
 field_of given.Absent = Absent

@@ -15,6 +15,8 @@ pub enum Cell<'a> {
     Number(u64),
     /// A number of tenths, as a number with one decimal: 37 is `3.7`.
     Tenths(u64),
+    /// A raw word as eight hexadecimal digits: a text.
+    Hex(u32),
     /// Three octal digits, as labels are written: a text.
     Octal(u8),
     /// Three octal digits, as labels are written, as a formula of a spreadsheet such as `="003"`. Its value is the text,
@@ -54,6 +56,11 @@ impl KeptCell {
             }
             Cell::Number(number) => KeptCell::Number(*number),
             Cell::Tenths(tenths) => KeptCell::Tenths(*tenths),
+            Cell::Hex(raw) => {
+                let mut text = Text::new(alloc);
+                text.put_hex(*raw);
+                KeptCell::Text(text)
+            }
             Cell::Octal(value) => {
                 let mut text = Text::new(alloc);
                 text.put_octal(*value);

@@ -1,8 +1,10 @@
 //! A text that is written at its end.
 ghost use Rattle.std.specs.Prelude.{◌≡◌, ◌++◌, [], IfOk, map, replicate};
 ghost use Rattle.std.specs.Fmt.{decimal};
+ghost use Rattle.a429_word.specs.Hexadecimal.{hex};
 ghost use Rattle.a429_text.specs.Texts.{filled, octal, tenths};
 
+use crate::from_end::put_hex;
 use crate::said::Said;
 use itoa::Buffer;
 use std::alloc::{AllocError, Global};
@@ -89,6 +91,15 @@ impl Text {
         ensures { self.new ≡ self.old ++ octal value }
     {
         self.put_bytes(&[b'0' + value / 64, b'0' + value / 8 % 8, b'0' + value % 8]);
+    }
+
+    /// Writes a raw word as eight hexadecimal digits.
+    pub fn put_hex(&mut self, raw: u32)
+        ensures { self.new ≡ self.old ++ hex raw }
+    {
+        let mut room = [0u8; 8];
+        let start = put_hex(&mut room, 8, raw);
+        self.put_bytes(&room[start..]);
     }
 
     /// Writes spaces.

@@ -35,7 +35,7 @@ pub fn are_fit(demands: &[Demand]) -> bool
 }
 
 /// The period of a demand; one slot if it has none.
-fn period_of(demand: &Demand) -> Period
+pub fn period_of(demand: &Demand) -> Period
     ensures { result ≡ exponent_of demand.now }
 {
     match demand.period {

@@ -7,6 +7,7 @@ ghost use Rattle.a429_documents.specs.Lint.{AreAsked, alike_row, alike_rows, are
 use crate::document::number;
 use crate::lint::GroupFinding;
 use crate::lint::demands::{are_fit, bus_count, cells_of, filled_from, frame_of, planned_buses};
+use crate::lint::millis::add_millis;
 use a429_equipment::{Equipment, GroupRow, OutputRow, SourceRow};
 use a429_grid::{Period, SLOT_TIME};
 use a429_pack::Demand;
@@ -23,7 +24,7 @@ fn output_name<'a>(sources: &'a [SourceRow], rows: &[OutputRow], output: usize) 
 }
 
 /// Adds a finding of a group: of one or two of its sources, or with a number.
-fn add_finding<'a>(
+pub fn add_finding<'a>(
     found: &mut Rows,
     finding: &'a str,
     group: &'a str,
@@ -361,6 +362,7 @@ fn add_group(
         GroupFinding::Full => add_full(found, name, demands),
         GroupFinding::Coarse => add_coarses(found, sources, group, rows, demands),
         GroupFinding::Crowded => add_buses(found, name, demands),
+        GroupFinding::Millis => add_millis(found, name, rows, demands),
     }
 }
 

@@ -1,6 +1,5 @@
 //! A row for each finding.
-ghost use Rattle.std.specs.Prelude.{◌≡◌, ◌<◌, ◌++◌, ◌∷◌, [], flat_map, length, map, string_bytes, IfOk, OnOk};
-ghost use Rattle.a429_word.specs.Hexadecimal.{hex};
+ghost use Rattle.std.specs.Prelude.{◌≡◌, ◌<◌, ◌++◌, ◌∷◌, [], flat_map, length, map, OnOk};
 ghost use Rattle.a429_text.specs.Fields.{Text};
 ghost use Rattle.a429_text.specs.Sheets.{field_of};
 ghost use Rattle.a429_recordings.specs.JudgeReplies.{given_by};
@@ -35,14 +34,6 @@ fn kind_text(kind: Kind) -> &'static str
     }
 }
 
-/// Eight hexadecimal digits in lower case. Error: an allocation failed.
-#[tactic(auto, unfolding(a429_word::specs::Hexadecimal::hex))]
-fn hex_text(alloc: Global, raw: u32) -> Result<String, AllocError>
-    ensures { IfOk result (λ text. string_bytes text ≡ hex raw) }
-{
-    format!(in alloc; "{raw:08x}")
-}
-
 /// The cell of a bus that may be unknown.
 fn bus_cell(bus: Option<u32>) -> Cell<'static>
     ensures { field_of result ≡ bus_field bus }
@@ -60,9 +51,7 @@ fn event_cells<'a>(
     source: Cell<'a>,
     finding: &'a str,
     mark: Mark,
-    word: &'a str,
 ) -> [Cell<'a>; 6]
-    requires { word.now ≡ hex mark.raw }
     ensures { map field_of result ≡ event_row group.now (bus_field bus) (field_of source.entry) finding.now mark }
 {
     [
@@ -71,63 +60,50 @@ fn event_cells<'a>(
         bus_cell(bus),
         source,
         Cell::Text(finding),
-        Cell::Text(word),
+        Cell::Hex(mark.raw),
     ]
 }
 
-/// Adds the row of a word. Error: an allocation failed.
+/// Adds the row of a word.
 fn add_event(
     rows: &mut Rows,
-    alloc: Global,
     group: &str,
     bus: Option<u32>,
     source: Cell<'_>,
     finding: &str,
     mark: Mark,
-) -> Result<(), AllocError>
-    ensures { OnOk result (rows.new ≡ rows.old ++ event_row group.now (bus_field bus) (field_of source.entry) finding.now mark ∷ []) }
+)
+    ensures { rows.new ≡ rows.old ++ event_row group.now (bus_field bus) (field_of source.entry) finding.now mark ∷ [] }
 {
-    let word = hex_text(alloc, mark.raw)?;
-    let cells = event_cells(group, bus, source, finding, mark, word.as_str());
-    rows.add(&cells);
-    Ok(())
+    rows.add(&event_cells(group, bus, source, finding, mark));
 }
 
-/// Adds the rows of an output's findings. Error: an allocation failed.
-fn add_findings(
-    rows: &mut Rows,
-    alloc: Global,
-    group: &str,
-    source: &str,
-    bus: u32,
-    found: &[Finding],
-) -> Result<(), AllocError>
-    ensures { OnOk result (rows.new ≡ rows.old ++ map (finding_row group.now source.now bus) found.now) }
+/// Adds the rows of an output's findings.
+fn add_findings(rows: &mut Rows, group: &str, source: &str, bus: u32, found: &[Finding])
+    ensures { rows.new ≡ rows.old ++ map (finding_row group.now source.now bus) found.now }
 {
     for finding in found {
         let source = Cell::Text(source);
         let kind = kind_text(finding.kind);
-        add_event(rows, alloc, group, Some(bus), source, kind, finding.mark)?;
+        add_event(rows, group, Some(bus), source, kind, finding.mark);
     }
-    Ok(())
 }
 
-/// Adds the rows of these findings at an output. Error: an allocation failed.
+/// Adds the rows of these findings at an output.
 fn add_found(
     rows: &mut Rows,
-    alloc: Global,
     equipment: &Equipment,
     group: usize,
     output: usize,
     bus: u32,
     found: &[Finding],
-) -> Result<(), AllocError>
-    ensures { OnOk result (rows.new ≡ rows.old
-        ++ map (finding_row (group_name equipment.now group) (output_name equipment.now group output) bus) found.now) }
+)
+    ensures { rows.new ≡ rows.old
+        ++ map (finding_row (group_name equipment.now group) (output_name equipment.now group output) bus) found.now }
 {
     let name = group_name(equipment, group);
     let source = source_name(equipment, group, output);
-    add_findings(rows, alloc, name.as_str(), source.as_str(), bus, found)
+    add_findings(rows, name.as_str(), source.as_str(), bus, found);
 }
 
 /// Adds the rows of the findings at an output. Error: an allocation failed.
@@ -149,7 +125,8 @@ fn add_output(
     let found = judging.judge.found(alloc, duties, &duty)?;
     let found = found.as_slice()?;
     let equipment = judging.proposal.equipment();
-    add_found(rows, alloc, equipment, group, output, duty.bus, found)
+    add_found(rows, equipment, group, output, duty.bus, found);
+    Ok(())
 }
 
 /// Adds the rows of the findings at a group's outputs. Error: an allocation failed.
@@ -172,39 +149,20 @@ fn add_outputs(
     Ok(())
 }
 
-/// Adds the row of a foreign word. Error: an allocation failed.
-fn add_foreign_event(
-    rows: &mut Rows,
-    alloc: Global,
-    group: &str,
-    word: &Sent,
-) -> Result<(), AllocError>
-    ensures { OnOk result (rows.new ≡ rows.old ++ foreign_event group.now word.now ∷ []) }
+/// Adds the row of a foreign word.
+fn add_foreign_event(rows: &mut Rows, group: &str, word: &Sent)
+    ensures { rows.new ≡ rows.old ++ foreign_event group.now word.now ∷ [] }
 {
-    add_event(
-        rows,
-        alloc,
-        group,
-        word.bus,
-        Cell::Absent,
-        "foreign",
-        word.mark,
-    )
+    add_event(rows, group, word.bus, Cell::Absent, "foreign", word.mark);
 }
 
-/// Adds the rows of foreign words. Error: an allocation failed.
-fn add_foreign(
-    rows: &mut Rows,
-    alloc: Global,
-    group: &str,
-    foreign: &[Sent],
-) -> Result<(), AllocError>
-    ensures { OnOk result (rows.new ≡ rows.old ++ map (foreign_event group.now) foreign.now) }
+/// Adds the rows of foreign words.
+fn add_foreign(rows: &mut Rows, group: &str, foreign: &[Sent])
+    ensures { rows.new ≡ rows.old ++ map (foreign_event group.now) foreign.now }
 {
     for word in foreign {
-        add_foreign_event(rows, alloc, group, word)?;
+        add_foreign_event(rows, group, word);
     }
-    Ok(())
 }
 
 /// Adds the rows of a group's foreign words. Error: an allocation failed.
@@ -222,7 +180,8 @@ fn add_foreign_of(
     let foreign = judging.judge.foreign(alloc, duties, group);
     let words = foreign.as_slice()?;
     let name = group_name(judging.proposal.equipment(), group);
-    add_foreign(rows, alloc, name.as_str(), words)
+    add_foreign(rows, name.as_str(), words);
+    Ok(())
 }
 
 /// Adds the rows of a group. Error: an allocation failed.

@@ -1,0 +1,336 @@
+//! Which fields of a heading are likely meant by columns that it lacks.
+
+use crate::file_rows::FileRows;
+use crate::nearest::Nearest;
+use a429_import::{CsvLine, IMPORT_COLUMNS, ImportColumn, is_column, is_column_named};
+use std::alloc::{AllocError, Global};
+use std::str::Chars;
+
+/// How many rows are looked at to see what a field may be.
+const ROWS: usize = 8;
+
+/// A field of a heading that is likely meant by a column, and the name of the column that it should have.
+#[derive(Clone, Copy)]
+pub struct Guess {
+    pub column: ImportColumn,
+    pub place: usize,
+    pub name: &'static str,
+}
+
+/// The words that people write in a heading for a column, the likeliest first.
+fn words_of(column: ImportColumn) -> &'static str {
+    match column {
+        ImportColumn::Group => "group lru dest destination to consumer user",
+        ImportColumn::Rate => "rate speed bitrate baud kbit kbps",
+        ImportColumn::Source => "source parameter name signal",
+        ImportColumn::Receiver => "receiver from input origin transmitter sender channel",
+        ImportColumn::Label => "label lbl octal",
+        ImportColumn::Sdi => "sdi",
+        ImportColumn::MinUs => "min minimum shortest",
+        ImportColumn::MaxUs => "max maximum longest",
+        _ => "",
+    }
+}
+
+/// Whether a text has a word, in any case. Words are separated by what is no letter and no digit.
+fn has_word(text: &[u8], word: &str) -> bool {
+    for part in text.split(|byte| !byte.is_ascii_alphanumeric()) {
+        if part.eq_ignore_ascii_case(word.as_bytes()) {
+            return true;
+        }
+    }
+    false
+}
+
+/// The place of the first of some words that a text has; the words are separated by spaces.
+fn first_word(text: &[u8], words: &str) -> Option<usize> {
+    for (rank, word) in words.split(' ').enumerate() {
+        if has_word(text, word) {
+            return Some(rank);
+        }
+    }
+    None
+}
+
+/// Whether a heading is about milliseconds, or about a rate in Hz.
+fn is_in_millis(title: &[u8]) -> bool {
+    first_word(title, "ms msec millisecond milliseconds").is_some()
+}
+
+fn is_in_hertz(title: &[u8]) -> bool {
+    has_word(title, "hz")
+}
+
+/// How likely a heading is meant by a column: 0 is the likeliest. `None` if it is not. The greatest rate in Hz is the least
+/// interval.
+fn rank_of(column: ImportColumn, title: &[u8]) -> Option<usize> {
+    let is_limit = first_word(title, "min minimum shortest max maximum longest").is_some();
+    match column {
+        ImportColumn::MinUs if is_in_hertz(title) => first_word(
+            title,
+            words_of(ImportColumn::MaxUs),
+        ),
+        ImportColumn::MaxUs if is_in_hertz(title) => first_word(
+            title,
+            words_of(ImportColumn::MinUs),
+        ),
+        ImportColumn::MinUs | ImportColumn::MaxUs => first_word(title, words_of(column)),
+        ImportColumn::Rate if is_in_millis(title) || is_in_hertz(title) => None,
+        _ if is_limit => None,
+        _ => first_word(title, words_of(column)),
+    }
+}
+
+/// Whether a field has octal digits: at most three, perhaps as `="203"`.
+fn is_octal(field: &[u8]) -> bool {
+    field.starts_with(b"=")
+        || field.len() <= 3 && field.iter().all(|byte| b'0' <= *byte && *byte <= b'7')
+}
+
+/// Whether a field may be one of a column. An empty one may.
+fn may_be(column: ImportColumn, field: &[u8]) -> bool {
+    let Some(first) = field.first() else {
+        return true;
+    };
+    match column {
+        ImportColumn::Rate => first.is_ascii_digit() || b"hHlL".contains(first),
+        ImportColumn::Label => is_octal(field),
+        ImportColumn::Sdi => field.len() <= 3,
+        ImportColumn::MinUs | ImportColumn::MaxUs => first.is_ascii_digit(),
+        _ => true,
+    }
+}
+
+/// Whether the first fields below a heading may be those of a column.
+fn may_all_be(file: FileRows, column: ImportColumn, place: usize) -> bool {
+    for row in file.rows.iter().take(ROWS) {
+        if !may_be(column, row.field(place)) {
+            return false;
+        }
+    }
+    true
+}
+
+/// Whether the first field below a heading has fewer than four digits before its point: an interval of so many microseconds is
+/// rare.
+fn is_short(file: FileRows, place: usize) -> bool {
+    let Some(row) = file.rows.first() else {
+        return false;
+    };
+    match row
+        .field(place)
+        .split(|byte| *byte == b'.' || *byte == b',')
+        .next()
+    {
+        Some(whole) => whole.len() < 4,
+        None => false,
+    }
+}
+
+/// The name of a column of intervals with this heading.
+fn name_of_limit(file: FileRows, column: ImportColumn, place: usize) -> &'static str {
+    let title = file.titles.field(place);
+    let is_min = column == ImportColumn::MinUs;
+    if is_in_hertz(title) {
+        return if is_min { "max_hz" } else { "min_hz" };
+    }
+    let is_micros = first_word(title, "us usec microsecond microseconds").is_some();
+    if is_in_millis(title) || !is_micros && is_short(file, place) {
+        return if is_min { "min_ms" } else { "max_ms" };
+    }
+    column.name()
+}
+
+/// The name that a field should have to be read as a column.
+fn name_for(file: FileRows, column: ImportColumn, place: usize) -> &'static str {
+    match column {
+        ImportColumn::MinUs | ImportColumn::MaxUs => name_of_limit(file, column, place),
+        _ => column.name(),
+    }
+}
+
+/// Whether a field is taken.
+fn is_taken(guesses: &[Guess], place: usize) -> bool {
+    guesses.iter().any(|guess| guess.place == place)
+}
+
+/// How many fields of a heading name a column.
+pub fn times_in(heading: &CsvLine, column: ImportColumn) -> usize {
+    let mut times: usize = 0;
+    for place in 0..heading.len() {
+        if is_column_named(column, heading.field(place)) {
+            times = times.saturating_add(1);
+        }
+    }
+    times
+}
+
+/// Whether a heading lacks a column.
+pub fn is_missing(file: FileRows, column: ImportColumn) -> bool {
+    column.is_needed() && times_in(&file.heading.line, column) == 0
+}
+
+/// The likeliest field for a column among those that name no column and are not taken.
+fn likeliest(file: FileRows, column: ImportColumn, guesses: &[Guess]) -> Option<usize> {
+    let mut best: Option<(usize, usize)> = None;
+    for place in 0..file.titles.len() {
+        let title = file.titles.field(place);
+        if is_column(file.heading.line.field(place)) || is_taken(guesses, place) {
+            continue;
+        }
+        let Some(rank) = rank_of(column, title) else {
+            continue;
+        };
+        let is_better = match best {
+            Some((least, _)) => rank < least,
+            None => true,
+        };
+        if is_better && may_all_be(file, column, place) {
+            best = Some((rank, place));
+        }
+    }
+    best.map(|(_, place)| place)
+}
+
+/// A field as a text; the empty text if it is not UTF-8.
+pub fn text_of(field: &[u8]) -> &str {
+    str::from_utf8(field).unwrap_or("")
+}
+
+/// The next letter or digit, in lower case.
+fn next_letter(chars: &mut Chars<'_>) -> Option<char> {
+    for c in chars {
+        if c.is_ascii_alphanumeric() {
+            return Some(c.to_ascii_lowercase());
+        }
+    }
+    None
+}
+
+/// Whether two texts have the same letters and digits: names of one column differ in case, spaces and signs.
+pub fn are_alike(a: &str, b: &str) -> bool {
+    let mut rest = b.chars();
+    for c in a.chars() {
+        if c.is_ascii_alphanumeric() && next_letter(&mut rest) != Some(c.to_ascii_lowercase()) {
+            return false;
+        }
+    }
+    next_letter(&mut rest).is_none()
+}
+
+/// The field that is nearest to the name of a column, among those that name no column and are not taken: the first one with the
+/// same letters, or the one that takes the fewest edits.
+fn nearest(
+    alloc: Global,
+    file: FileRows,
+    column: ImportColumn,
+    guesses: &[Guess],
+) -> Option<usize> {
+    let mut nearest = Nearest::to(column.name());
+    for place in 0..file.titles.len() {
+        if is_column(file.heading.line.field(place)) || is_taken(guesses, place) {
+            continue;
+        }
+        let title = text_of(file.titles.field(place));
+        if are_alike(title, column.name()) {
+            return Some(place);
+        }
+        nearest = nearest.or(alloc, title);
+    }
+    place_of(file, nearest.name()?)
+}
+
+/// The place of the first field of a heading that is this text.
+fn place_of(file: FileRows, text: &str) -> Option<usize> {
+    for place in 0..file.titles.len() {
+        if file.titles.field(place) == text.as_bytes() {
+            return Some(place);
+        }
+    }
+    None
+}
+
+/// The order in which columns take fields: those with the plainest words first.
+const ORDER: [ImportColumn; 8] = [
+    ImportColumn::MinUs,
+    ImportColumn::MaxUs,
+    ImportColumn::Label,
+    ImportColumn::Sdi,
+    ImportColumn::Rate,
+    ImportColumn::Source,
+    ImportColumn::Group,
+    ImportColumn::Receiver,
+];
+
+/// Adds a guess for each missing column that has a likely field.
+fn add_likely(guesses: &mut Vec<Guess>, file: FileRows) -> Result<(), AllocError> {
+    for column in ORDER.as_slice() {
+        if is_missing(file, *column) {
+            if let Some(place) = likeliest(file, *column, guesses) {
+                guesses.push(guess_of(file, *column, place))?;
+            }
+        }
+    }
+    Ok(())
+}
+
+/// Adds a guess for each missing column that has none and whose name is like a field.
+fn add_nearest(alloc: Global, guesses: &mut Vec<Guess>, file: FileRows) -> Result<(), AllocError> {
+    for column in ORDER.as_slice() {
+        if is_missing(file, *column) && guess_for(guesses, *column).is_none() {
+            if let Some(place) = nearest(alloc, file, *column, guesses) {
+                guesses.push(guess_of(file, *column, place))?;
+            }
+        }
+    }
+    Ok(())
+}
+
+/// Adds that the field `source` is the receiver, if another field is likely the source.
+fn add_swapped(guesses: &mut Vec<Guess>, file: FileRows) -> Result<(), AllocError> {
+    let receiver = ImportColumn::Receiver;
+    if !is_missing(file, receiver) || guess_for(guesses, receiver).is_some() {
+        return Ok(());
+    }
+    let Some(named) = column_place(file, ImportColumn::Source) else {
+        return Ok(());
+    };
+    let Some(other) = likeliest(file, ImportColumn::Source, guesses) else {
+        return Ok(());
+    };
+    guesses.push(guess_of(file, receiver, named))?;
+    guesses.push(guess_of(file, ImportColumn::Source, other))?;
+    Ok(())
+}
+
+/// The first field that names a column.
+fn column_place(file: FileRows, column: ImportColumn) -> Option<usize> {
+    for place in 0..file.heading.line.len() {
+        if is_column_named(column, file.heading.line.field(place)) {
+            return Some(place);
+        }
+    }
+    None
+}
+
+fn guess_of(file: FileRows, column: ImportColumn, place: usize) -> Guess {
+    Guess {
+        column,
+        place,
+        name: name_for(file, column, place),
+    }
+}
+
+/// The guess for a column. `None` if there is none.
+pub fn guess_for(guesses: &[Guess], column: ImportColumn) -> Option<Guess> {
+    guesses.iter().copied().find(|guess| guess.column == column)
+}
+
+/// The fields of a heading that are likely meant by the columns that it lacks. Error: an allocation failed.
+pub fn guesses_of(alloc: Global, file: FileRows) -> Result<Vec<Guess>, AllocError> {
+    let mut guesses = Vec::new(alloc);
+    add_likely(&mut guesses, file)?;
+    add_swapped(&mut guesses, file)?;
+    add_nearest(alloc, &mut guesses, file)?;
+    Ok(guesses)
+}
