@@ -12,7 +12,8 @@ A library is proved from nothing, and what stays of it are its statements, which
 cheapest way to a proved program. If `rt check` was run in each library below a crate, its build begins with what those checks
 kept, and proves only what changed. If `rt ci` made the program in this checkout, nothing is proved again.
 
-What a build proves and makes is kept next to the toolchain (kept.py), and other checkouts on the machine take it from there.
+What a build proves and makes is kept next to the toolchain (kept.py), and other checkouts on the machine take it from there. If
+`rt ci` made the program in this checkout, what it proved is kept too.
 """
 import fcntl
 import functools
@@ -27,7 +28,7 @@ import time
 from concurrent.futures import FIRST_COMPLETED, ThreadPoolExecutor, wait
 
 import repository
-from kept import Kept, is_anew
+from kept import Kept, gate_statements_of, is_anew
 from repository import ROOT, below, crates, kit, kit_line, rattle, rattle_words, say, stamp, sum_of, text_of, write
 
 # The seconds of a processor that the proof of each crate took in the last `tools/cost --build`: lines `NAME SECONDS`.
@@ -201,6 +202,15 @@ def say_step(name, names, due):
     say(f"step {len(names) - len(due)} of {len(names)}: {name} is proved ({100 * done:.0f} %)")
 
 
+def keep_libraries_of_the_gate(names, at, kept):
+    """Keeps the statements of libraries, lowest first, that the last `rt ci` of this checkout made. It began at this time."""
+    for name in names:
+        made = crates()[name].gate_statements
+        if not os.path.isdir(made) or os.stat(made).st_mtime < at:
+            return
+        kept.keep_statements(name, gate_statements_of)
+
+
 # ---- What is built
 
 class Target:
@@ -262,7 +272,9 @@ class Target:
         self.note(self.state(), at)
         # so that other checkouts take it; a file that was changed and then given an older time has a later ctime
         if all(os.stat(path).st_ctime < at for path in self.sources()):
-            self.keep(Kept([]))
+            kept = Kept(below(self.name))
+            self.keep(kept)
+            keep_libraries_of_the_gate(below(self.name), at, kept)
         return True
 
     def note(self, state, at):

@@ -1,4 +1,5 @@
-"""What builds in the checkouts of this machine proved: the statements of libraries, and the program and the archive that were built.
+"""What builds and `rt ci` proved in the checkouts of this machine: the statements of libraries, and the program and the archive that
+were built.
 
 It is kept in the folder a429-kept next to the toolchain. Each entry is a folder of it, NAME.KIND.KEY: KIND is `statements` or the
 compiler, and KEY is the sum of all that it was made from. In an entry are the packed files, and a note with their checksum. An
@@ -64,12 +65,20 @@ def marks(name):
     return sorted(found)
 
 
-def key_of_statements(name):
+def statements_of(name):
+    return crates()[name].statements
+
+
+def gate_statements_of(name):
+    return crates()[name].gate_statements
+
+
+def key_of_statements(name, path_of=statements_of):
     """The sum of all that the statements of a library are made from: its stamp, and the statements of the libraries below as they
     are in this checkout, since statements fit only those that they were proved over. A file `format` has the sum of its library."""
     found = hashlib.sha256(stamp(name).encode())
     for use in below(name):
-        found.update(text_of(os.path.join(crates()[use].statements, "format")).encode() + b"\0")
+        found.update(text_of(os.path.join(path_of(use), "format")).encode() + b"\0")
     return found.hexdigest()
 
 
@@ -218,10 +227,10 @@ class Kept:
         except OSError:
             shutil.rmtree(room or "", ignore_errors=True)
 
-    def keep_statements(self, name):
-        """Keeps the statements of a library that was proved just now."""
+    def keep_statements(self, name, path_of=statements_of):
+        """Keeps the statements of a library that was proved just now, or by the last `rt ci`."""
         if self.is_untouched(name):
-            self.keep(name, STATEMENTS, key_of_statements(name), crates()[name].statements)
+            self.keep(name, STATEMENTS, key_of_statements(name, path_of), path_of(name))
 
     def shrink(self, of):
         """Removes the entries of one name and kind that are longest unused, and what builds that were killed left."""

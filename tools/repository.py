@@ -26,6 +26,8 @@ class Crate:
         # the statements of a library, which are all that a proof above it reads
         self.statements = os.path.join(self.folder, "out", "rlib", "statements", self.name + ".rlib")
         self.stamp = os.path.join(self.folder, "out", "rlib", "statements", "stamp")
+        # the same, as `rt ci` makes them
+        self.gate_statements = os.path.join(self.folder, "out", "rlib", self.name + ".rlib")
 
     def root_file(self):
         return "src/main.rt" if self.is_program else "src/lib.rt"
