@@ -344,6 +344,7 @@ pub fn tell_close_words(receiver: &str, unit: TimeUnit, hint: &HintText) {
     let remedy = match unit {
         TimeUnit::Microseconds => "; if the times are milliseconds, give --time ms",
         TimeUnit::Milliseconds => "; if the times are seconds, give --time s",
+        TimeUnit::Nanoseconds => "; if the times are microseconds, give --time us",
         TimeUnit::Seconds => "",
     };
     hint.line_two(

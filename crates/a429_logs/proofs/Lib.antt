@@ -9,3 +9,4 @@ pub mod NeverFall
 mod PlainRows
 mod FirstMarks
 mod ReadDigits
+mod Reversals

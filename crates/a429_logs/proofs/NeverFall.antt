@@ -43,11 +43,11 @@ by_heading reading mark (Ok places) = refl
 
 by_first : (reading : Reading) (line : List ℕ) (mark : Mark) (heads : Bool) → is_heading (fields_of mark line) ≡ heads → Keeps reading (read_first reading line mark)
 by_first reading line mark true e = rw e (by_heading reading mark (places_of (fields_of mark line)))
-by_first reading line mark false e = rw e (by_row reading (record { mark = mark; places = plain_places }) (row_of reading.unit mark plain_places (fields_of mark line)))
+by_first reading line mark false e = rw e (by_row reading (record { mark = mark; places = plain_places }) (row_of reading.unit reading.order mark plain_places (fields_of mark line)))
 
 by_shape : (reading : Reading) (line : List ℕ) (shape : Option Shape) → Keeps reading (read_stated reading line shape)
 by_shape reading line None = by_first reading line (mark_in line) _ refl
-by_shape reading line (Some shape) = by_row reading shape (row_of reading.unit shape.mark shape.places (fields_of shape.mark line))
+by_shape reading line (Some shape) = by_row reading shape (row_of reading.unit reading.order shape.mark shape.places (fields_of shape.mark line))
 
 by_passed : (reading : Reading) (line : List ℕ) (passed : Bool) → is_passed_over line ≡ passed → Keeps reading (read_line reading line)
 unfolding read_line

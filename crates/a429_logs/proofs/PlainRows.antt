@@ -10,10 +10,11 @@ use Rattle.std.proofs.lemmas.Option.{cond_some}
 use Rattle.a429_word.specs.Hexadecimal.{raw_word}
 use Rattle.a429_logs.specs.LogColumns.{plain_places}
 use Rattle.a429_logs.specs.LogFields.{field_in, fields_of, parts_of}
-use Rattle.a429_logs.specs.LogRows.{decimal_digits, row_of, whole_word}
+use Rattle.a429_logs.specs.LogRows.{decimal_digits, row_of, unreversed, whole_word}
 use Rattle.a429_logs.specs.LogTimes.{is_point, micros, time_by, time_of, whole_time}
 use Rattle.a429_logs.specs.declared.fields.Mark.TheVariants.{Blank}
 use Rattle.a429_logs.specs.declared.times.TimeUnit.TheVariants.{Microseconds}
+use Rattle.a429_logs.specs.declared.words.BitOrder.{BitOrder}
 
 -- ---- fields
 
@@ -73,10 +74,10 @@ unfolding whole_word raw_word
 some_word [] raw is = absurd (cc is)
 some_word (b ∷ bs) raw is = omega arith
 
-pub plain_row : (line t n w : List ℕ) (time raw : ℕ) → parts_of Blank line ≡ t ∷ n ∷ w ∷ [] → decimal_digits t ≡ Some time → 0 < length n → whole_word w ≡ Some raw
-    → row_of Microseconds Blank plain_places (fields_of Blank line) ≡ Ok (record { time = time; name = n; raw = raw })
+pub plain_row : (order : BitOrder) (line t n w : List ℕ) (time raw : ℕ) → parts_of Blank line ≡ t ∷ n ∷ w ∷ [] → decimal_digits t ≡ Some time → 0 < length n → whole_word w ≡ Some raw
+    → row_of Microseconds order Blank plain_places (fields_of Blank line) ≡ Ok (record { time = time; name = n; raw = unreversed order raw })
 unfolding row_of
-plain_row line t n w time raw parts digits name word =
+plain_row order line t n w time raw parts digits name word =
     let N = number t time digits in
     let fields = three_fields line t n w parts N.some name (some_word w raw word) in
     rw (fields, plain_time t time N, word) refl

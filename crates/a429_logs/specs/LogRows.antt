@@ -1,5 +1,5 @@
 -- The rows of a log: a time, a name and a word (profile: log).
-use Rattle.std.specs.Prelude.{◌==◌, ◌&&◌, ◌||◌, ◌+◌, ◌-◌, ◌*◌, ◌^◌, ◌∷◌, [], ℕ, Bool, List, Option, Some, None, Result, Ok, Err, if◌then◌else◌, get_or, length, nat_le, nat_lt}
+use Rattle.std.specs.Prelude.{◌==◌, ◌&&◌, ◌||◌, ◌+◌, ◌-◌, ◌*◌, ◌/◌, ◌^◌, ◌∷◌, [], ℕ, Bool, List, Option, Some, None, Result, Ok, Err, if◌then◌else◌, get_or, length, nat_le, nat_lt, option_map}
 use Rattle.std.specs.List.{list_all}
 use Rattle.std.specs.Char.{is_ascii_digit}
 use Rattle.std.specs.Str.Parse.{digits_value}
@@ -20,6 +20,8 @@ use Rattle.a429_logs.specs.declared.rows.RowFields.{RowFields}
 use Rattle.a429_logs.specs.declared.rows.StatedWord.{StatedWord}
 use Rattle.a429_logs.specs.declared.rows.RowFault.TheVariants as fault
 use Rattle.a429_logs.specs.declared.times.TimeUnit.{TimeUnit}
+use Rattle.a429_logs.specs.declared.words.BitOrder.{BitOrder}
+use Rattle.a429_logs.specs.declared.words.BitOrder.TheVariants.{AsWritten, LabelReversed, WordReversed}
 
 -- ---- words
 
@@ -31,6 +33,17 @@ without_prefix text = text
 -- eight hexadecimal digits
 unfoldable pub whole_word : List ℕ → Option ℕ
 whole_word text = raw_word (without_prefix text)
+
+-- The word that a recorder writes as these 32 bits. A recorder may write the label (bits 1 to 8; ARINC 429 Part 1, word format) with its
+-- bits reversed, or all 32 bits.
+abbrev pub unreversed : BitOrder → ℕ → ℕ
+unreversed AsWritten raw = raw
+unreversed LabelReversed raw = 256 * (raw / 256) + reversed_from 1 8 raw
+unreversed WordReversed raw = reversed_from 1 32 raw
+
+-- the word that eight hexadecimal digits write
+abbrev pub written_word : BitOrder → List ℕ → Option ℕ
+written_word order text = option_map (unreversed order) (whole_word text)
 
 -- one to five hexadecimal digits
 abbrev pub hex_number : List ℕ → Option ℕ
@@ -94,18 +107,18 @@ parts_word places fields =
     Ok (with_parity (word_bits label sdi value ssm))))))
 
 -- the word of a row
-abbrev pub word_in : WordPlaces → List (List ℕ) → Result ℕ RowFault
-word_in (Whole place) fields = or_fault fault.Word (whole_word (field_at place fields))
-word_in (Parts places) fields = parts_word places fields
+abbrev pub word_in : BitOrder → WordPlaces → List (List ℕ) → Result ℕ RowFault
+word_in order (Whole place) fields = or_fault fault.Word (written_word order (field_at place fields))
+word_in order (Parts places) fields = parts_word places fields
 
-abbrev pub row_in : TimeUnit → Mark → Places → List (List ℕ) → Result Stated RowFault
-row_in unit mark places fields =
-    and_then (or_fault fault.Time (time_of unit mark (field_at places.time fields))) (λ time. and_then (word_in places.word fields) (λ raw.
+abbrev pub row_in : TimeUnit → BitOrder → Mark → Places → List (List ℕ) → Result Stated RowFault
+row_in unit order mark places fields =
+    and_then (or_fault fault.Time (time_of unit mark (field_at places.time fields))) (λ time. and_then (word_in order places.word fields) (λ raw.
     Ok (record { time = time; name = field_at places.name fields; raw = raw })))
 
 -- what a row states by its fields, of which there are as many as columns; or the first fault of it
-unfoldable pub row_of : TimeUnit → Mark → Places → List (List ℕ) → Result Stated RowFault
-row_of unit mark places fields = if length fields == places.count then row_in unit mark places fields else Err fault.Fields
+unfoldable pub row_of : TimeUnit → BitOrder → Mark → Places → List (List ℕ) → Result Stated RowFault
+row_of unit order mark places fields = if length fields == places.count then row_in unit order mark places fields else Err fault.Fields
 
 -- ---- steps
 

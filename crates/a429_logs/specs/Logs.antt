@@ -63,7 +63,7 @@ shown_line next result = record { next = next; states = word_shown result }
 abbrev pub with_clock : Reading → Shape → Stated → Result Stated RowFault → LineRead
 with_clock reading shape word (Err why) = record { next = reading; states = Err (Row why) }
 with_clock reading shape word (Ok timed) =
-    record { next = record { unit = reading.unit; shape = Some shape; clock = clock_after reading.clock word }; states = Ok (Some timed) }
+    record { next = record reading { shape = Some shape; clock = clock_after reading.clock word }; states = Ok (Some timed) }
 
 abbrev pub with_row : Reading → Shape → Result Stated RowFault → LineRead
 with_row reading shape (Err why) = record { next = reading; states = Err (Row why) }
@@ -71,7 +71,7 @@ with_row reading shape (Ok word) = with_clock reading shape word (on_clock readi
 
 -- a row in a form
 abbrev pub read_row : Reading → List ℕ → Shape → LineRead
-read_row reading line shape = with_row reading shape (row_of reading.unit shape.mark shape.places (fields_of shape.mark line))
+read_row reading line shape = with_row reading shape (row_of reading.unit reading.order shape.mark shape.places (fields_of shape.mark line))
 
 abbrev pub with_heading : Reading → Mark → Result Places HeadingFault → LineRead
 with_heading reading mark (Err why) = record { next = reading; states = Err (Heading why) }
@@ -117,7 +117,7 @@ log_entries reading text = entries_from reading (enumerate_from 1 (parts_of Line
 
 -- how the first line of the next log is read: times go on, and the form is found again
 abbrev pub next_log : Reading → Reading
-next_log reading = record { unit = reading.unit; shape = None; clock = reading.clock }
+next_log reading = record reading { shape = None }
 
 -- how the line after some lines is read
 abbrev pub reading_past : Reading → List (ℕ × List ℕ) → Reading

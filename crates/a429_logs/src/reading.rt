@@ -3,6 +3,7 @@ ghost use Rattle.std.specs.Prelude.{◌≡◌, None, Some};
 ghost use Rattle.a429_logs.specs.LogColumns.{plain_places};
 ghost use Rattle.a429_logs.specs.LogFields.{mark_in};
 ghost use Rattle.a429_logs.specs.LogRows.{stated_by};
+ghost use Rattle.a429_logs.specs.declared.words.BitOrder.TheVariants.{AsWritten};
 ghost use Rattle.a429_logs.specs.Logs.{is_passed_over, on_clock, read_first, read_line, read_row, next_log, shown_line, with_clock};
 
 use crate::clocks::Clock;
@@ -10,6 +11,7 @@ use crate::columns::{Heading, HeadingFault, Places, WordPlaces};
 use crate::fields::{Mark, trimmed};
 use crate::rows::{RowFault, StatedWord, row_of};
 use crate::times::TimeUnit;
+use crate::words::BitOrder;
 
 /// What separates the fields of a log, and which columns it has.
 #[derive(Clone, Copy)]
@@ -40,6 +42,8 @@ impl Shape {
 pub struct Reading {
     /// The unit of times.
     pub unit: TimeUnit,
+    /// The order in which the bits of whole words are written.
+    pub order: BitOrder,
     /// The form of rows. `None` before the first line that is not passed over.
     pub shape: Option<Shape>,
     pub clock: Clock,
@@ -66,15 +70,23 @@ fn is_passed_over(line: &[u8]) -> bool
 impl Reading {
     ghost use Rattle.a429_logs.specs.declared.reading.Shape.{Shape};
 
-    /// How the first line of a log is read.
+    /// How the first line of a log is read, if words are as they are written.
     pub fn new(unit: TimeUnit, clock: Clock) -> Reading
-        ensures { result ≡ record { unit = unit; shape = None; clock = clock } }
+        ensures { result ≡ record { unit = unit; order = AsWritten; shape = None; clock = clock } }
     {
         Reading {
             unit,
+            order: BitOrder::AsWritten,
             shape: None,
             clock,
         }
+    }
+
+    /// The same, if the bits of whole words are written in this order.
+    pub fn with_order(self, order: BitOrder) -> Reading
+        ensures { result ≡ record self { order = order } }
+    {
+        Reading { order, ..self }
     }
 
     /// How the first line of the next log is read, after this one: times go on, and the form is found again.
@@ -82,9 +94,8 @@ impl Reading {
         ensures { result ≡ next_log self }
     {
         Reading {
-            unit: self.unit,
             shape: None,
-            clock: self.clock,
+            ..self
         }
     }
 
@@ -92,7 +103,7 @@ impl Reading {
     fn row<'a>(&mut self, line: &'a [u8], shape: Shape) -> Result<Option<StatedWord<'a>>, LineFault>
         ensures { shown_line self.new result ≡ read_row self.old line.now shape }
     {
-        let word = match row_of(self.unit, shape.mark, &shape.places, line) {
+        let word = match row_of(self.unit, self.order, shape.mark, &shape.places, line) {
             Ok(word) => word,
             Err(why) => return Err(LineFault::Row(why)),
         };
@@ -146,7 +157,7 @@ impl Reading {
         let Some(shape) = &self.shape else {
             return self.first(line);
         };
-        match row_of(self.unit, shape.mark, &shape.places, line) {
+        match row_of(self.unit, self.order, shape.mark, &shape.places, line) {
             Ok(word) => self.timed(word),
             Err(why) => Err(LineFault::Row(why)),
         }

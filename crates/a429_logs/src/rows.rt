@@ -9,7 +9,7 @@ ghost use Rattle.a429_logs.specs.declared.times.TimeUnit.TheVariants.{Microsecon
 use crate::columns::{PartsPlaces, Places, WordPlaces};
 use crate::fields::{Fields, Mark, Parts};
 use crate::times::{TimeUnit, decimal_digits, time_of};
-use crate::words::{two_bits, value_in, whole_word, word_of};
+use crate::words::{BitOrder, two_bits, value_in, whole_word, word_of};
 use a429_word::Label;
 
 /// What is wrong with a row.
@@ -114,12 +114,23 @@ fn parts_word(parts: &PartsPlaces, mark: Mark, line: &[u8]) -> Result<u32, RowFa
 }
 
 /// The word of a row that begins with this field.
-fn word_in(place: &WordPlaces, mark: Mark, line: &[u8], word: &[u8]) -> Result<u32, RowFault>
+fn word_in(
+    order: BitOrder,
+    place: &WordPlaces,
+    mark: Mark,
+    line: &[u8],
+    word: &[u8],
+) -> Result<u32, RowFault>
     requires { word.now ≡ field_at (word_place place.now) (fields_of mark line.now) }
-    ensures { result ≡ word_in place.now (fields_of mark line.now) }
+    ensures { result ≡ word_in order place.now (fields_of mark line.now) }
 {
     match place {
-        WordPlaces::Whole(_) => whole_word(word).ok_or(RowFault::Word),
+        WordPlaces::Whole(_) => {
+            match whole_word(word) {
+                Some(raw) => Ok(order.unreversed(raw)),
+                None => Err(RowFault::Word),
+            }
+        }
         WordPlaces::Parts(parts) => parts_word(parts, mark, line),
     }
 }
@@ -138,8 +149,8 @@ fn is_plain(unit: TimeUnit, mark: Mark, places: &Places) -> bool
 
 /// The word that a row states which is a time in microseconds, a name and a word between single blanks. `None` for any
 /// other row.
-fn plain_row(line: &[u8]) -> Option<StatedWord<'_>>
-    ensures { IfSome result (λ word. row_of Microseconds Blank plain_places (fields_of Blank line.now) ≡ Ok (stated_by word)) }
+fn plain_row(order: BitOrder, line: &[u8]) -> Option<StatedWord<'_>>
+    ensures { IfSome result (λ word. row_of Microseconds order Blank plain_places (fields_of Blank line.now) ≡ Ok (stated_by word)) }
 {
     let mut parts = Parts::of(Mark::Blank, line);
     let time = parts.next()?;
@@ -150,21 +161,26 @@ fn plain_row(line: &[u8]) -> Option<StatedWord<'_>>
     }
     let time = decimal_digits(time)?;
     let raw = whole_word(word)?;
-    Some(StatedWord { time, name, raw })
+    Some(StatedWord {
+        time,
+        name,
+        raw: order.unreversed(raw),
+    })
 }
 
 /// The word that a row states. Error: the first fault of the row, in the order number of fields, time, word.
 #[tactic(auto, unfolding(crate::specs::LogRows::row_of))]
 pub fn row_of<'a>(
     unit: TimeUnit,
+    order: BitOrder,
     mark: Mark,
     places: &Places,
     line: &'a [u8],
 ) -> Result<StatedWord<'a>, RowFault>
-    ensures { shown_row result ≡ row_of unit mark places.now (fields_of mark line.now) }
+    ensures { shown_row result ≡ row_of unit order mark places.now (fields_of mark line.now) }
 {
     if is_plain(unit, mark, places) {
-        if let Some(word) = plain_row(line) {
+        if let Some(word) = plain_row(order, line) {
             return Ok(word);
         }
     }
@@ -174,7 +190,7 @@ pub fn row_of<'a>(
     let Some(time) = time_of(unit, mark, row.time) else {
         return Err(RowFault::Time);
     };
-    let raw = word_in(&places.word, mark, line, row.word)?;
+    let raw = word_in(order, &places.word, mark, line, row.word)?;
     Ok(StatedWord {
         time,
         name: row.name,

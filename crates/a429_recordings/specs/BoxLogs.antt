@@ -65,7 +65,7 @@ box_word_by names channels l = named channels (box_word names l)
 
 -- how the first log of what was sent is read, after those of what came in: times are counted from the same one, and begin again
 abbrev pub restarted : Reading → Reading
-restarted reading = record { unit = reading.unit; shape = None; clock = record { base = reading.clock.base; last = 0 } }
+restarted reading = record reading { shape = None; clock = record { base = reading.clock.base; last = 0 } }
 
 -- the first word of a log comes no later than the last of another
 abbrev pub begins_by : List BoxWord → List BoxWord → Bool

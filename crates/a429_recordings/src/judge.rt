@@ -117,12 +117,12 @@ fn restarted(reading: Reading) -> Reading
     ensures { result ≡ restarted reading }
 {
     Reading {
-        unit: reading.unit,
         shape: None,
         clock: Clock {
             base: reading.clock.base,
             last: 0,
         },
+        ..reading
     }
 }
 
