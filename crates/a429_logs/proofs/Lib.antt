@@ -10,3 +10,4 @@ mod PlainRows
 mod FirstMarks
 mod ReadDigits
 mod Reversals
+mod CalendarDays

@@ -8,6 +8,11 @@ use Rattle.a429_logs.specs.declared.fields.Mark.TheVariants.{Semicolon}
 use Rattle.a429_logs.specs.declared.times.TimeUnit.{TimeUnit}
 use Rattle.a429_logs.specs.declared.times.TimeUnit.TheVariants.{Nanoseconds, Microseconds, Milliseconds, Seconds}
 
+-- decimal digits, of which there are at most eighteen
+abbrev pub decimal_digits : List ℕ → Option ℕ
+decimal_digits text =
+    if (nat_lt 0 (length text) && nat_le (length text) 18) && list_all is_ascii_digit text then Some (digits_value 10 text) else None
+
 -- how many decimals of a unit are microseconds
 abbrev pub decimals : TimeUnit → ℕ
 decimals Nanoseconds = 0

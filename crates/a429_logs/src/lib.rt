@@ -14,16 +14,20 @@
 //! ```
 #![tactic(auto)]
 
+mod calendars;
 mod clocks;
 mod columns;
 mod fields;
+mod gregorian;
 pub mod laws;
 mod reader;
 mod reading;
 mod rows;
 mod times;
 mod words;
+mod written;
 
+pub use calendars::{Calendar, DateSpan, Span};
 pub use clocks::Clock;
 pub use columns::{Base, Column, HeadingFault, PartsPlaces, Places, ValuePlace, WordPlaces};
 pub use fields::{Fields, Mark};

@@ -2,14 +2,15 @@
 ghost use Rattle.std.specs.Prelude.{◌≡◌, IfSome, Ok, option_map, true};
 ghost use Rattle.a429_logs.specs.LogColumns.{plain_places};
 ghost use Rattle.a429_logs.specs.LogFields.{fields_of};
-ghost use Rattle.a429_logs.specs.LogRows.{caught, caught_in, field_at, parts_word, row_of, shown, shown_row, stated_by, word_in, word_place};
+ghost use Rattle.a429_logs.specs.LogRows.{caught, caught_in, field_at, in_micros, parts_word, row_of, shown, shown_written, stated_by, word_in, word_place};
 ghost use Rattle.a429_logs.specs.declared.fields.Mark.TheVariants.{Blank};
 ghost use Rattle.a429_logs.specs.declared.times.TimeUnit.TheVariants.{Microseconds};
 
 use crate::columns::{PartsPlaces, Places, WordPlaces};
 use crate::fields::{Fields, Mark, Parts};
-use crate::times::{TimeUnit, decimal_digits, time_of};
+use crate::times::{TimeUnit, decimal_digits};
 use crate::words::{BitOrder, two_bits, value_in, whole_word, word_of};
+use crate::written::{WrittenTime, written_time};
 use a429_word::Label;
 
 /// What is wrong with a row.
@@ -17,7 +18,7 @@ use a429_word::Label;
 pub enum RowFault {
     /// It has more or fewer fields than there are columns.
     Fields,
-    /// Its time is none in the unit of the log.
+    /// Its time is none: neither one in the unit of the log nor one by a calendar, or not of the form of the first time.
     Time,
     /// Its word is not eight hexadecimal digits.
     Word,
@@ -39,6 +40,14 @@ pub enum RowFault {
 #[derive(Clone, Copy)]
 pub struct StatedWord<'a> {
     pub time: u64,
+    pub name: &'a [u8],
+    pub raw: u32,
+}
+
+/// A word as a row writes it: when it comes in, by which name, and its 32 bits.
+#[derive(Clone, Copy)]
+pub struct RowWord<'a> {
+    pub time: WrittenTime,
     pub name: &'a [u8],
     pub raw: u32,
 }
@@ -150,7 +159,7 @@ fn is_plain(unit: TimeUnit, mark: Mark, places: &Places) -> bool
 /// The word that a row states which is a time in microseconds, a name and a word between single blanks. `None` for any
 /// other row.
 fn plain_row(order: BitOrder, line: &[u8]) -> Option<StatedWord<'_>>
-    ensures { IfSome result (λ word. row_of Microseconds order Blank plain_places (fields_of Blank line.now) ≡ Ok (stated_by word)) }
+    ensures { IfSome result (λ w. row_of Microseconds order Blank plain_places (fields_of Blank line.now) ≡ Ok (in_micros (stated_by w))) }
 {
     let mut parts = Parts::of(Mark::Blank, line);
     let time = parts.next()?;
@@ -168,7 +177,24 @@ fn plain_row(order: BitOrder, line: &[u8]) -> Option<StatedWord<'_>>
     })
 }
 
-/// The word that a row states. Error: the first fault of the row, in the order number of fields, time, word.
+/// The word of a row, if the row is one of those that most logs have. `None` for any other row.
+pub fn quick_word<'a>(
+    unit: TimeUnit,
+    order: BitOrder,
+    mark: Mark,
+    places: &Places,
+    line: &'a [u8],
+) -> Option<StatedWord<'a>>
+    ensures { IfSome result (λ w. row_of unit order mark places.now (fields_of mark line.now) ≡ Ok (in_micros (stated_by w))) }
+{
+    if is_plain(unit, mark, places) {
+        plain_row(order, line)
+    } else {
+        None
+    }
+}
+
+/// The word that a row writes. Error: the first fault of the row, in the order number of fields, time, word.
 #[tactic(auto, unfolding(crate::specs::LogRows::row_of))]
 pub fn row_of<'a>(
     unit: TimeUnit,
@@ -176,22 +202,17 @@ pub fn row_of<'a>(
     mark: Mark,
     places: &Places,
     line: &'a [u8],
-) -> Result<StatedWord<'a>, RowFault>
-    ensures { shown_row result ≡ row_of unit order mark places.now (fields_of mark line.now) }
+) -> Result<RowWord<'a>, RowFault>
+    ensures { shown_written result ≡ row_of unit order mark places.now (fields_of mark line.now) }
 {
-    if is_plain(unit, mark, places) {
-        if let Some(word) = plain_row(order, line) {
-            return Ok(word);
-        }
-    }
     let Some(row) = row_fields(places, mark, line) else {
         return Err(RowFault::Fields);
     };
-    let Some(time) = time_of(unit, mark, row.time) else {
+    let Some(time) = written_time(unit, mark, row.time) else {
         return Err(RowFault::Time);
     };
     let raw = word_in(order, &places.word, mark, line, row.word)?;
-    Ok(StatedWord {
+    Ok(RowWord {
         time,
         name: row.name,
         raw,

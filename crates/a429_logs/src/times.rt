@@ -3,8 +3,7 @@ ghost use Rattle.std.specs.Prelude.{◌≡◌, ◌≤◌, ◌<◌, ◌+◌, ◌*
 ghost use Rattle.std.specs.List.{list_all};
 ghost use Rattle.std.specs.Char.{is_ascii_digit};
 ghost use Rattle.std.specs.Str.Parse.{digits_value};
-ghost use Rattle.a429_logs.specs.LogRows.{decimal_digits};
-ghost use Rattle.a429_logs.specs.LogTimes.{decimals, has_fractions, in_micros, is_fraction, is_point, is_whole, micros, parted_time, time_of, whole_time};
+ghost use Rattle.a429_logs.specs.LogTimes.{decimal_digits, decimals, has_fractions, in_micros, is_fraction, is_point, is_whole, micros, parted_time, time_of, whole_time};
 
 use crate::fields::Mark;
 
@@ -62,7 +61,7 @@ fn is_point(mark: Mark, byte: u8) -> bool
 }
 
 /// The place of the first such byte.
-fn first_point(mark: Mark, text: &[u8]) -> Option<usize>
+pub fn first_point(mark: Mark, text: &[u8]) -> Option<usize>
     ensures { result ≡ position (is_point mark) text.now }
 {
     text.iter().position(|byte| is_point(mark, *byte))

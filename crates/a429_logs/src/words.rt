@@ -1,6 +1,7 @@
 //! Words of a log, whole or by their fields.
 ghost use Rattle.std.specs.Prelude.{◌≡◌, ◌<◌, ◌^◌, IfSome};
-ghost use Rattle.a429_logs.specs.LogRows.{as_value, decimal_digits, hex_number, two_bits, unreversed, value_in, whole_word, with_parity, without_prefix, word_bits};
+ghost use Rattle.a429_logs.specs.LogRows.{as_value, hex_number, two_bits, unreversed, value_in, whole_word, with_parity, without_prefix, word_bits};
+ghost use Rattle.a429_logs.specs.LogTimes.{decimal_digits};
 
 use crate::columns::Base;
 use crate::times::decimal_digits;

@@ -118,6 +118,7 @@ fn restarted(reading: Reading) -> Reading
 {
     Reading {
         shape: None,
+        calendar: reading.calendar.begun_again(),
         clock: Clock {
             base: reading.clock.base,
             last: 0,
