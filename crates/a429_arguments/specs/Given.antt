@@ -15,6 +15,8 @@ use Rattle.a429_arguments.specs.declared.times.LogOrigin.{LogOrigin}
 use Rattle.a429_arguments.specs.declared.times.LogOrigin.TheVariants as origin
 use Rattle.a429_logs.specs.declared.times.TimeUnit.{TimeUnit}
 use Rattle.a429_logs.specs.declared.times.TimeUnit.TheVariants as unit
+use Rattle.a429_logs.specs.declared.words.BitOrder.{BitOrder}
+use Rattle.a429_logs.specs.declared.words.BitOrder.TheVariants as order
 use Rattle.a429_text.specs.Renames.{is_rename}
 use Rattle.a429_text.specs.declared.sheets.SheetForm.{SheetForm}
 use Rattle.a429_text.specs.declared.sheets.SheetForm.TheVariants as sheet
@@ -49,7 +51,14 @@ long_number_given given name = option_and_then (number_up_to 1844674407370955161
 abbrev pub unit_in : Text → Option TimeUnit
 unit_in text =
     if bytes_eq text (codes "us") then Some unit.Microseconds
-    else (if bytes_eq text (codes "ms") then Some unit.Milliseconds else (if bytes_eq text (codes "s") then Some unit.Seconds else None))
+    else (if bytes_eq text (codes "ms") then Some unit.Milliseconds else (if bytes_eq text (codes "s") then Some unit.Seconds
+    else (if bytes_eq text (codes "ns") then Some unit.Nanoseconds else None)))
+
+-- the order of bits that a text states
+abbrev pub order_in : Text → Option BitOrder
+order_in text =
+    if bytes_eq text (codes "label") then Some order.LabelReversed
+    else (if bytes_eq text (codes "word") then Some order.WordReversed else None)
 
 -- the last microsecond from which times can be counted: eighteen digits
 abbrev pub last_origin : ℕ
@@ -78,6 +87,10 @@ form_of given = if has_given given option.Csv then sheet.Csv else (if has_given 
 -- the unit of the times in a log
 abbrev pub unit_of : Given → TimeUnit
 unit_of given = unwrap_or (option_and_then unit_in (text_given given option.Time)) unit.Microseconds
+
+-- the order in which the bits of words in a log are written
+abbrev pub order_of : Given → BitOrder
+order_of given = unwrap_or (option_and_then order_in (text_given given option.Reversed)) order.AsWritten
 
 -- from when on they are counted
 abbrev pub origin_of : Given → LogOrigin

@@ -1,9 +1,9 @@
-//! The options for the times in a log: their unit, and from when on they are counted.
+//! The options for how a log is read: the unit of times, from when on they are counted, and the order of bits.
 ghost use Rattle.std.specs.Prelude.{◌≡◌};
-ghost use Rattle.a429_arguments.specs.Given.{last_origin, origin_in, unit_in};
+ghost use Rattle.a429_arguments.specs.Given.{last_origin, order_in, origin_in, unit_in};
 ghost use Rattle.a429_arguments.specs.Numbers.{number_up_to};
 
-use a429_logs::TimeUnit;
+use a429_logs::{BitOrder, TimeUnit};
 
 /// The last microsecond from which times may be counted: eighteen digits (profile).
 const LAST_ORIGIN: u64 = 999_999_999_999_999_999;
@@ -17,7 +17,7 @@ pub enum LogOrigin {
     First,
 }
 
-/// The unit that a text states. `None` if it is none of the three that there are.
+/// The unit that a text states. `None` if it is none of the four that there are.
 pub fn unit_in(text: &str) -> Option<TimeUnit>
     ensures { result ≡ unit_in text.now }
 {
@@ -27,6 +27,21 @@ pub fn unit_in(text: &str) -> Option<TimeUnit>
         Some(TimeUnit::Milliseconds)
     } else if text == "s" {
         Some(TimeUnit::Seconds)
+    } else if text == "ns" {
+        Some(TimeUnit::Nanoseconds)
+    } else {
+        None
+    }
+}
+
+/// The order of bits that a text states. `None` if it is neither `label` nor `word`.
+pub fn order_in(text: &str) -> Option<BitOrder>
+    ensures { result ≡ order_in text.now }
+{
+    if text == "label" {
+        Some(BitOrder::LabelReversed)
+    } else if text == "word" {
+        Some(BitOrder::WordReversed)
     } else {
         None
     }

@@ -284,6 +284,9 @@ fn is_number(text: &str) -> bool {
 /// Says what is wrong with the form of a time.
 fn tell_time(read: &ReadLine<'_>, hint: &HintText) {
     let time = field(read, read.places.time);
+    if is_number(time) && time.len() <= 12 {
+        return hint.line_one("{?} has another form than the first time", time);
+    }
     if is_number(time) {
         return hint.line_two(
             "{?} has {} digits; a time has at most 18 for microseconds",
@@ -293,6 +296,8 @@ fn tell_time(read: &ReadLine<'_>, hint: &HintText) {
     }
     let fault = if time.starts_with('+') || time.starts_with('-') {
         "has a sign; write the time without it"
+    } else if time.contains(':') {
+        "is not HH:MM:SS, DDD:HH:MM:SS or YYYY-MM-DDTHH:MM:SS, or has another form than the first time"
     } else if read.unit != TimeUnit::Microseconds {
         "is not a time; a time is a decimal number, such as 12.5"
     } else if time.contains('.') || time.contains(',') {
@@ -344,6 +349,7 @@ pub fn tell_close_words(receiver: &str, unit: TimeUnit, hint: &HintText) {
     let remedy = match unit {
         TimeUnit::Microseconds => "; if the times are milliseconds, give --time ms",
         TimeUnit::Milliseconds => "; if the times are seconds, give --time s",
+        TimeUnit::Nanoseconds => "; if the times are microseconds, give --time us",
         TimeUnit::Seconds => "",
     };
     hint.line_two(

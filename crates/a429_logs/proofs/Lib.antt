@@ -9,3 +9,5 @@ pub mod NeverFall
 mod PlainRows
 mod FirstMarks
 mod ReadDigits
+mod Reversals
+mod CalendarDays

@@ -2,10 +2,11 @@
 use Rattle.std.proofs.Common.{◌≡◌, ◌-◌, ◌≤◌, ◌∷◌, [], ℕ, Bool, true, false, List, refl, sym, subst, arith}
 use Rattle.std.specs.Prelude.{⊤, Option, Some, None, Result, Ok, Err, nat_lt}
 use Rattle.std.proofs.lemmas.Bool.Decides.{nat_tests}
+use Rattle.a429_logs.specs.Calendars.{Timed}
 use Rattle.a429_logs.specs.LogColumns.{is_heading, places_of, plain_places}
 use Rattle.a429_logs.specs.LogFields.{fields_of, mark_in}
-use Rattle.a429_logs.specs.LogRows.{Stated, row_of}
-use Rattle.a429_logs.specs.Logs.{LineRead, NoneBefore, WordAt, and_then, base_of, entries_from, entry_then, is_passed_over, log_entries, on_clock, reading_after, reading_past, series_entries, read_first, read_line, read_stated, with_clock, with_heading, with_row}
+use Rattle.a429_logs.specs.LogRows.{Stated}
+use Rattle.a429_logs.specs.Logs.{LineRead, NoneBefore, WordAt, and_then, base_of, entries_from, entry_then, is_passed_over, log_entries, on_clock, reading_after, reading_past, series_entries, read_first, read_line, read_stated, with_calendar, with_clock, with_heading, word_of_row}
 use Rattle.a429_logs.specs.declared.columns.HeadingFault.{HeadingFault}
 use Rattle.a429_logs.specs.declared.columns.Places.{Places}
 use Rattle.a429_logs.specs.declared.fields.Mark.{Mark}
@@ -25,17 +26,18 @@ abbrev Keeps : Reading → LineRead → Type 0
 Keeps reading read = KeepsTime reading.clock.last read.next.clock.last read.states
 
 -- by the two tests of a time
-by_tests : (reading : Reading) (shape : Shape) (word : Stated) (early falls : Bool) → nat_lt word.time (base_of reading.clock word) ≡ early
-    → nat_lt (word.time - base_of reading.clock word) reading.clock.last ≡ falls → Keeps reading (with_clock reading shape word (on_clock reading.clock word))
-by_tests reading shape word true falls e f = rw e tt
-by_tests reading shape word false true e f = rw (e, f) tt
-by_tests reading shape word false false e f =
-    let later : reading.clock.last ≤ word.time - base_of reading.clock word = grind (arith, nat_tests) in
+by_tests : (reading : Reading) (shape : Shape) (timed : Timed) (early falls : Bool) → nat_lt timed.word.time (base_of reading.clock timed.word) ≡ early
+    → nat_lt (timed.word.time - base_of reading.clock timed.word) reading.clock.last ≡ falls
+    → Keeps reading (with_clock reading shape timed (on_clock reading.clock timed.word))
+by_tests reading shape timed true falls e f = rw e tt
+by_tests reading shape timed false true e f = rw (e, f) tt
+by_tests reading shape timed false false e f =
+    let later : reading.clock.last ≤ timed.word.time - base_of reading.clock timed.word = grind (arith, nat_tests) in
     rw (e, f) (later, refl)
 
-by_row : (reading : Reading) (shape : Shape) (row : Result Stated RowFault) → Keeps reading (with_row reading shape row)
+by_row : (reading : Reading) (shape : Shape) (row : Result Timed RowFault) → Keeps reading (with_calendar reading shape row)
 by_row reading shape (Err why) = tt
-by_row reading shape (Ok word) = by_tests reading shape word _ _ refl refl
+by_row reading shape (Ok timed) = by_tests reading shape timed _ _ refl refl
 
 by_heading : (reading : Reading) (mark : Mark) (places : Result Places HeadingFault) → Keeps reading (with_heading reading mark places)
 by_heading reading mark (Err why) = tt
@@ -43,11 +45,11 @@ by_heading reading mark (Ok places) = refl
 
 by_first : (reading : Reading) (line : List ℕ) (mark : Mark) (heads : Bool) → is_heading (fields_of mark line) ≡ heads → Keeps reading (read_first reading line mark)
 by_first reading line mark true e = rw e (by_heading reading mark (places_of (fields_of mark line)))
-by_first reading line mark false e = rw e (by_row reading (record { mark = mark; places = plain_places }) (row_of reading.unit mark plain_places (fields_of mark line)))
+by_first reading line mark false e = rw e (by_row reading (record { mark = mark; places = plain_places }) (word_of_row reading line (record { mark = mark; places = plain_places })))
 
 by_shape : (reading : Reading) (line : List ℕ) (shape : Option Shape) → Keeps reading (read_stated reading line shape)
 by_shape reading line None = by_first reading line (mark_in line) _ refl
-by_shape reading line (Some shape) = by_row reading shape (row_of reading.unit shape.mark shape.places (fields_of shape.mark line))
+by_shape reading line (Some shape) = by_row reading shape (word_of_row reading line shape)
 
 by_passed : (reading : Reading) (line : List ℕ) (passed : Bool) → is_passed_over line ≡ passed → Keeps reading (read_line reading line)
 unfolding read_line

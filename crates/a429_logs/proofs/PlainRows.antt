@@ -1,6 +1,6 @@
 -- Rows that are a time in microseconds, a name and a word between single blanks.
 use Rattle.std.proofs.Common.{◌≡◌, ◌∙◌, ◌+◌, ◌<◌, ◌∷◌, [], ℕ, true, false, List, length, refl, ap, arith, append-nil}
-use Rattle.std.specs.Prelude.{◌&&◌, Some, None, Ok, nat_le, nat_lt, position}
+use Rattle.std.specs.Prelude.{◌&&◌, Option, Some, None, Ok, nat_le, nat_lt, option_map, position}
 use Rattle.std.specs.List.{list_all, position_or_len}
 use Rattle.std.specs.Char.{is_ascii_digit}
 use Rattle.std.specs.Str.Parse.{digits_value}
@@ -9,11 +9,14 @@ use Rattle.std.proofs.lemmas.Bool.Decides.{nat_tests}
 use Rattle.std.proofs.lemmas.Option.{cond_some}
 use Rattle.a429_word.specs.Hexadecimal.{raw_word}
 use Rattle.a429_logs.specs.LogColumns.{plain_places}
+use Rattle.a429_logs.specs.LogDates.{calendar_time, or_second, written_time}
 use Rattle.a429_logs.specs.LogFields.{field_in, fields_of, parts_of}
-use Rattle.a429_logs.specs.LogRows.{decimal_digits, row_of, whole_word}
-use Rattle.a429_logs.specs.LogTimes.{is_point, micros, time_by, time_of, whole_time}
+use Rattle.a429_logs.specs.LogRows.{in_micros, row_of, unreversed, whole_word}
+use Rattle.a429_logs.specs.LogTimes.{decimal_digits, is_point, micros, time_by, time_of, whole_time}
 use Rattle.a429_logs.specs.declared.fields.Mark.TheVariants.{Blank}
 use Rattle.a429_logs.specs.declared.times.TimeUnit.TheVariants.{Microseconds}
+use Rattle.a429_logs.specs.declared.words.BitOrder.{BitOrder}
+use Rattle.a429_logs.specs.declared.written.WrittenTime.TheVariants.{Micros}
 
 -- ---- fields
 
@@ -62,9 +65,13 @@ whole_plain t time N =
     let few : nat_le (length t + 0) 18 ≡ true = grind (arith, nat_tests, N.few) in
     rw (some, few, N.all) (ap (λ (ds : List ℕ). Some (digits_value 10 ds)) (append-nil t) ∙ ap (λ (k : ℕ). Some k) N.value)
 
-plain_time : (t : List ℕ) (time : ℕ) → IsNumber t time → time_of Microseconds Blank t ≡ Some time
+unit_time : (t : List ℕ) (time : ℕ) → IsNumber t time → time_of Microseconds Blank t ≡ Some time
 unfolding time_of
-plain_time t time N = ap (time_by Microseconds t) (digits_only t N.all) ∙ whole_plain t time N
+unit_time t time N = ap (time_by Microseconds t) (digits_only t N.all) ∙ whole_plain t time N
+
+plain_time : (t : List ℕ) (time : ℕ) → IsNumber t time → written_time Microseconds Blank t ≡ Some (Micros time)
+unfolding written_time
+plain_time t time N = ap (λ (o : Option ℕ). or_second (option_map Micros o) (calendar_time Blank t)) (unit_time t time N)
 
 -- ---- rows
 
@@ -73,10 +80,10 @@ unfolding whole_word raw_word
 some_word [] raw is = absurd (cc is)
 some_word (b ∷ bs) raw is = omega arith
 
-pub plain_row : (line t n w : List ℕ) (time raw : ℕ) → parts_of Blank line ≡ t ∷ n ∷ w ∷ [] → decimal_digits t ≡ Some time → 0 < length n → whole_word w ≡ Some raw
-    → row_of Microseconds Blank plain_places (fields_of Blank line) ≡ Ok (record { time = time; name = n; raw = raw })
+pub plain_row : (order : BitOrder) (line t n w : List ℕ) (time raw : ℕ) → parts_of Blank line ≡ t ∷ n ∷ w ∷ [] → decimal_digits t ≡ Some time → 0 < length n → whole_word w ≡ Some raw
+    → row_of Microseconds order Blank plain_places (fields_of Blank line) ≡ Ok (in_micros (record { time = time; name = n; raw = unreversed order raw }))
 unfolding row_of
-plain_row line t n w time raw parts digits name word =
+plain_row order line t n w time raw parts digits name word =
     let N = number t time digits in
     let fields = three_fields line t n w parts N.some name (some_word w raw word) in
     rw (fields, plain_time t time N, word) refl

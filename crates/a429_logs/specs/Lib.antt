@@ -1,5 +1,8 @@
 pub mod LogFields
 pub mod LogTimes
+pub mod GregorianCalendar
+pub mod LogDates
+pub mod Calendars
 pub mod LogColumns
 pub mod LogRows
 pub mod Logs

@@ -5,15 +5,17 @@ use Rattle.std.specs.Option.{option_map_or}
 use Rattle.std.specs.Char.{is_ascii_whitespace}
 use Rattle.a429_logs.specs.declared.fields.Fields.{Fields}
 use Rattle.a429_logs.specs.declared.fields.Mark.{Mark}
-use Rattle.a429_logs.specs.declared.fields.Mark.TheVariants.{LineFeed, Blank, Comma, Semicolon}
+use Rattle.a429_logs.specs.declared.fields.Mark.TheVariants.{LineFeed, Blank, Comma, Semicolon, Colon, Dash}
 use Rattle.a429_logs.specs.declared.fields.Parts.{Parts}
 
--- a byte ends a line, or a field; a blank is a space, a tab, a carriage return or a form feed
+-- a byte ends a line, a field, or a part of a time or a date; a blank is a space, a tab, a carriage return or a form feed
 abbrev pub is_mark : Mark → ℕ → Bool
 is_mark LineFeed b = b == 10
 is_mark Blank b = is_ascii_whitespace b
 is_mark Comma b = b == 44
 is_mark Semicolon b = b == 59
+is_mark Colon b = b == 58
+is_mark Dash b = b == 45
 
 -- without the blanks at both ends
 unfoldable pub trimmed : List ℕ → List ℕ

@@ -1,13 +1,11 @@
 -- The rows of a log: a time, a name and a word (profile: log).
-use Rattle.std.specs.Prelude.{◌==◌, ◌&&◌, ◌||◌, ◌+◌, ◌-◌, ◌*◌, ◌^◌, ◌∷◌, [], ℕ, Bool, List, Option, Some, None, Result, Ok, Err, if◌then◌else◌, get_or, length, nat_le, nat_lt}
-use Rattle.std.specs.List.{list_all}
-use Rattle.std.specs.Char.{is_ascii_digit}
-use Rattle.std.specs.Str.Parse.{digits_value}
+use Rattle.std.specs.Prelude.{◌==◌, ◌&&◌, ◌||◌, ◌+◌, ◌-◌, ◌*◌, ◌/◌, ◌^◌, ◌∷◌, [], ℕ, Bool, List, Option, Some, None, Result, Ok, Err, if◌then◌else◌, get_or, length, nat_le, nat_lt, option_map}
 use Rattle.a429_word.specs.Bits.{has_odd_parity, reversed_from}
 use Rattle.a429_word.specs.Hexadecimal.{hex_onto, raw_word}
 use Rattle.a429_word.specs.Texts.{label_value}
 use Rattle.a429_logs.specs.LogColumns.{and_then}
-use Rattle.a429_logs.specs.LogTimes.{time_of}
+use Rattle.a429_logs.specs.LogDates.{written_time}
+use Rattle.a429_logs.specs.LogTimes.{decimal_digits}
 use Rattle.a429_logs.specs.declared.columns.Base.{Base}
 use Rattle.a429_logs.specs.declared.columns.Base.TheVariants.{Ten, Sixteen}
 use Rattle.a429_logs.specs.declared.columns.PartsPlaces.{PartsPlaces}
@@ -17,9 +15,14 @@ use Rattle.a429_logs.specs.declared.columns.WordPlaces.TheVariants.{Whole, Parts
 use Rattle.a429_logs.specs.declared.fields.Mark.{Mark}
 use Rattle.a429_logs.specs.declared.rows.RowFault.{RowFault}
 use Rattle.a429_logs.specs.declared.rows.RowFields.{RowFields}
+use Rattle.a429_logs.specs.declared.rows.RowWord.{RowWord}
 use Rattle.a429_logs.specs.declared.rows.StatedWord.{StatedWord}
 use Rattle.a429_logs.specs.declared.rows.RowFault.TheVariants as fault
 use Rattle.a429_logs.specs.declared.times.TimeUnit.{TimeUnit}
+use Rattle.a429_logs.specs.declared.written.WrittenTime.{WrittenTime}
+use Rattle.a429_logs.specs.declared.written.WrittenTime.TheVariants.{Micros}
+use Rattle.a429_logs.specs.declared.words.BitOrder.{BitOrder}
+use Rattle.a429_logs.specs.declared.words.BitOrder.TheVariants.{AsWritten, LabelReversed, WordReversed}
 
 -- ---- words
 
@@ -32,14 +35,20 @@ without_prefix text = text
 unfoldable pub whole_word : List ℕ → Option ℕ
 whole_word text = raw_word (without_prefix text)
 
+-- The word that a recorder writes as these 32 bits. A recorder may write the label (bits 1 to 8; ARINC 429 Part 1, word format) with its
+-- bits reversed, or all 32 bits.
+abbrev pub unreversed : BitOrder → ℕ → ℕ
+unreversed AsWritten raw = raw
+unreversed LabelReversed raw = 256 * (raw / 256) + reversed_from 1 8 raw
+unreversed WordReversed raw = reversed_from 1 32 raw
+
+-- the word that eight hexadecimal digits write
+abbrev pub written_word : BitOrder → List ℕ → Option ℕ
+written_word order text = option_map (unreversed order) (whole_word text)
+
 -- one to five hexadecimal digits
 abbrev pub hex_number : List ℕ → Option ℕ
 hex_number text = if nat_le 1 (length text) && nat_le (length text) 5 then hex_onto 0 text else None
-
--- decimal digits, of which there are at most eighteen
-abbrev pub decimal_digits : List ℕ → Option ℕ
-decimal_digits text =
-    if (nat_lt 0 (length text) && nat_le (length text) 18) && list_all is_ascii_digit text then Some (digits_value 10 text) else None
 
 -- a number of 19 bits
 abbrev pub as_value : Option ℕ → Option ℕ
@@ -70,7 +79,13 @@ with_parity bits = if has_odd_parity bits then bits else bits + 2 ^ 31
 
 -- ---- rows
 
--- what a row states: when a word comes in, in microseconds; by which name; and its 32 bits
+-- what a row writes: when a word comes in, by which name, and its 32 bits
+pub record Written : Type 0 where
+  pub time : WrittenTime
+  pub name : List ℕ
+  pub raw : ℕ
+
+-- what a row states: the same, with the time in microseconds
 pub record Stated : Type 0 where
   pub time : ℕ
   pub name : List ℕ
@@ -94,18 +109,22 @@ parts_word places fields =
     Ok (with_parity (word_bits label sdi value ssm))))))
 
 -- the word of a row
-abbrev pub word_in : WordPlaces → List (List ℕ) → Result ℕ RowFault
-word_in (Whole place) fields = or_fault fault.Word (whole_word (field_at place fields))
-word_in (Parts places) fields = parts_word places fields
+abbrev pub word_in : BitOrder → WordPlaces → List (List ℕ) → Result ℕ RowFault
+word_in order (Whole place) fields = or_fault fault.Word (written_word order (field_at place fields))
+word_in order (Parts places) fields = parts_word places fields
 
-abbrev pub row_in : TimeUnit → Mark → Places → List (List ℕ) → Result Stated RowFault
-row_in unit mark places fields =
-    and_then (or_fault fault.Time (time_of unit mark (field_at places.time fields))) (λ time. and_then (word_in places.word fields) (λ raw.
+abbrev pub row_in : TimeUnit → BitOrder → Mark → Places → List (List ℕ) → Result Written RowFault
+row_in unit order mark places fields =
+    and_then (or_fault fault.Time (written_time unit mark (field_at places.time fields))) (λ time. and_then (word_in order places.word fields) (λ raw.
     Ok (record { time = time; name = field_at places.name fields; raw = raw })))
 
--- what a row states by its fields, of which there are as many as columns; or the first fault of it
-unfoldable pub row_of : TimeUnit → Mark → Places → List (List ℕ) → Result Stated RowFault
-row_of unit mark places fields = if length fields == places.count then row_in unit mark places fields else Err fault.Fields
+-- what a row writes by its fields, of which there are as many as columns; or the first fault of it
+unfoldable pub row_of : TimeUnit → BitOrder → Mark → Places → List (List ℕ) → Result Written RowFault
+row_of unit order mark places fields = if length fields == places.count then row_in unit order mark places fields else Err fault.Fields
+
+-- a word with a time in microseconds, as a row writes it
+abbrev pub in_micros : Stated → Written
+in_micros word = record { time = Micros word.time; name = word.name; raw = word.raw }
 
 -- ---- steps
 
@@ -138,6 +157,13 @@ shown row = record { time = row.time.now; name = row.name.now; word = row.word.n
 -- what a row gives, in the same words
 abbrev pub stated_by : StatedWord → Stated
 stated_by w = record { time = w.time; name = w.name.now; raw = w.raw }
+
+abbrev pub written_by : RowWord → Written
+written_by w = record { time = w.time; name = w.name.now; raw = w.raw }
+
+abbrev pub shown_written : Result RowWord RowFault → Result Written RowFault
+shown_written (Ok w) = Ok (written_by w)
+shown_written (Err why) = Err why
 
 abbrev pub shown_row : Result StatedWord RowFault → Result Stated RowFault
 shown_row (Ok w) = Ok (stated_by w)

@@ -1,15 +1,21 @@
 -- The time of a word in a log, in microseconds (profile: log).
-use Rattle.std.specs.Prelude.{◌==◌, ◌&&◌, ◌||◌, ◌+◌, ◌++◌, ◌∷◌, [], ℕ, Bool, List, Option, Some, None, if◌then◌else◌, drop, length, nat_le, nat_lt, position, suc, take, zero}
+use Rattle.std.specs.Prelude.{◌==◌, ◌&&◌, ◌||◌, ◌+◌, ◌/◌, ◌++◌, ◌∷◌, [], ℕ, Bool, true, false, List, Option, Some, None, if◌then◌else◌, drop, length, nat_le, nat_lt, position, suc, take, zero}
 use Rattle.std.specs.List.{list_all}
 use Rattle.std.specs.Char.{is_ascii_digit}
 use Rattle.std.specs.Str.Parse.{digits_value}
 use Rattle.a429_logs.specs.declared.fields.Mark.{Mark}
 use Rattle.a429_logs.specs.declared.fields.Mark.TheVariants.{Semicolon}
 use Rattle.a429_logs.specs.declared.times.TimeUnit.{TimeUnit}
-use Rattle.a429_logs.specs.declared.times.TimeUnit.TheVariants.{Microseconds, Milliseconds, Seconds}
+use Rattle.a429_logs.specs.declared.times.TimeUnit.TheVariants.{Nanoseconds, Microseconds, Milliseconds, Seconds}
+
+-- decimal digits, of which there are at most eighteen
+abbrev pub decimal_digits : List ℕ → Option ℕ
+decimal_digits text =
+    if (nat_lt 0 (length text) && nat_le (length text) 18) && list_all is_ascii_digit text then Some (digits_value 10 text) else None
 
 -- how many decimals of a unit are microseconds
 abbrev pub decimals : TimeUnit → ℕ
+decimals Nanoseconds = 0
 decimals Microseconds = 0
 decimals Milliseconds = 3
 decimals Seconds = 6
@@ -23,9 +29,14 @@ is_point _ b = b == 46
 abbrev pub is_whole : TimeUnit → List ℕ → Bool
 is_whole unit whole = (nat_lt 0 (length whole) && nat_le (length whole + decimals unit) 18) && list_all is_ascii_digit whole
 
+-- microseconds are whole
+abbrev pub has_fractions : TimeUnit → Bool
+has_fractions Microseconds = false
+has_fractions _ = true
+
 -- decimal digits, of which there is at least one, below a unit that is not the microsecond
 abbrev pub is_fraction : TimeUnit → List ℕ → Bool
-is_fraction unit fraction = (nat_lt 0 (decimals unit) && nat_lt 0 (length fraction)) && list_all is_ascii_digit fraction
+is_fraction unit fraction = (has_fractions unit && nat_lt 0 (length fraction)) && list_all is_ascii_digit fraction
 
 -- the first digits of a fraction, as many as these; a digit that is not there is 0
 abbrev pub first_digits : ℕ → List ℕ → List ℕ
@@ -37,8 +48,13 @@ first_digits (suc count) (digit ∷ digits) = digit ∷ first_digits count digit
 abbrev pub micros_digits : TimeUnit → List ℕ → List ℕ → List ℕ
 micros_digits unit whole fraction = whole ++ first_digits (decimals unit) fraction
 
+-- the microseconds of a number of such digits: 1000 nanoseconds are one
+abbrev pub in_micros : TimeUnit → ℕ → ℕ
+in_micros Nanoseconds n = n / 1000
+in_micros _ n = n
+
 unfoldable pub micros : TimeUnit → List ℕ → List ℕ → ℕ
-micros unit whole fraction = digits_value 10 (micros_digits unit whole fraction)
+micros unit whole fraction = in_micros unit (digits_value 10 (micros_digits unit whole fraction))
 
 abbrev pub whole_time : TimeUnit → List ℕ → Option ℕ
 whole_time unit whole = if is_whole unit whole then Some (micros unit whole []) else None

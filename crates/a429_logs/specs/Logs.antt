@@ -1,6 +1,7 @@
 -- Logs of words, as recorders write them (profile: log): what their lines state, in order, up to the first fault.
 use Rattle.std.specs.Prelude.{◌==◌, ◌-◌, ◌≤◌, ◌∷◌, [], ⊤, ℕ, Bool, true, List, Option, Some, None, Result, Ok, Err, if◌then◌else◌, nat_lt, unwrap_or}
 use Rattle.std.specs.List.{enumerate_from}
+use Rattle.a429_logs.specs.Calendars.{Timed, timed_row}
 use Rattle.a429_logs.specs.LogColumns.{is_heading, places_of, plain_places}
 use Rattle.a429_logs.specs.LogFields.{fields_of, mark_in, parts_of, trimmed, without_byte_order_mark}
 use Rattle.a429_logs.specs.LogRows.{Stated, row_of, stated_by}
@@ -60,18 +61,27 @@ word_shown (Err why) = Err why
 abbrev pub shown_line : Reading → Result (Option StatedWord) LineFault → LineRead
 shown_line next result = record { next = next; states = word_shown result }
 
-abbrev pub with_clock : Reading → Shape → Stated → Result Stated RowFault → LineRead
-with_clock reading shape word (Err why) = record { next = reading; states = Err (Row why) }
-with_clock reading shape word (Ok timed) =
-    record { next = record { unit = reading.unit; shape = Some shape; clock = clock_after reading.clock word }; states = Ok (Some timed) }
+-- the word on the clock
+abbrev pub with_clock : Reading → Shape → Timed → Result Stated RowFault → LineRead
+with_clock reading shape timed (Err why) = record { next = reading; states = Err (Row why) }
+with_clock reading shape timed (Ok word) =
+    record {
+      next = record reading { shape = Some shape; calendar = timed.calendar; clock = clock_after reading.clock timed.word };
+      states = Ok (Some word);
+    }
 
-abbrev pub with_row : Reading → Shape → Result Stated RowFault → LineRead
-with_row reading shape (Err why) = record { next = reading; states = Err (Row why) }
-with_row reading shape (Ok word) = with_clock reading shape word (on_clock reading.clock word)
+-- the word by the calendar
+abbrev pub with_calendar : Reading → Shape → Result Timed RowFault → LineRead
+with_calendar reading shape (Err why) = record { next = reading; states = Err (Row why) }
+with_calendar reading shape (Ok timed) = with_clock reading shape timed (on_clock reading.clock timed.word)
 
--- a row in a form
+-- the word of a row in a form
+abbrev pub word_of_row : Reading → List ℕ → Shape → Result Timed RowFault
+word_of_row reading line shape =
+    timed_row reading.calendar (row_of reading.unit reading.order shape.mark shape.places (fields_of shape.mark line))
+
 abbrev pub read_row : Reading → List ℕ → Shape → LineRead
-read_row reading line shape = with_row reading shape (row_of reading.unit shape.mark shape.places (fields_of shape.mark line))
+read_row reading line shape = with_calendar reading shape (word_of_row reading line shape)
 
 abbrev pub with_heading : Reading → Mark → Result Places HeadingFault → LineRead
 with_heading reading mark (Err why) = record { next = reading; states = Err (Heading why) }
@@ -117,7 +127,7 @@ log_entries reading text = entries_from reading (enumerate_from 1 (parts_of Line
 
 -- how the first line of the next log is read: times go on, and the form is found again
 abbrev pub next_log : Reading → Reading
-next_log reading = record { unit = reading.unit; shape = None; clock = reading.clock }
+next_log reading = record reading { shape = None }
 
 -- how the line after some lines is read
 abbrev pub reading_past : Reading → List (ℕ × List ℕ) → Reading

@@ -5,7 +5,7 @@ ghost use Rattle.a429_logs.specs.LogFields.{Takes, field_in, fields_left, fields
 
 use memchr::memchr;
 
-/// What ends a line of a log, or a field of a line.
+/// What ends a line of a log, a field of a line, or a part of a time or a date.
 #[derive(Clone, Copy, PartialEq, Eq)]
 pub enum Mark {
     LineFeed,
@@ -13,6 +13,10 @@ pub enum Mark {
     Blank,
     Comma,
     Semicolon,
+    /// In times of day and of the year.
+    Colon,
+    /// In dates.
+    Dash,
 }
 
 impl Mark {
@@ -25,6 +29,8 @@ impl Mark {
             Mark::Blank => byte.is_ascii_whitespace(),
             Mark::Comma => byte == b',',
             Mark::Semicolon => byte == b';',
+            Mark::Colon => byte == b':',
+            Mark::Dash => byte == b'-',
         }
     }
 

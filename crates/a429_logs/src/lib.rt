@@ -2,7 +2,8 @@
 //!
 //! A `LogReader` gives the words of a log one by one: the time of each in microseconds, the name of its receiver or
 //! channel, and its 32 bits; or the first line that is faulty, and why. Fields are separated by blanks, commas or
-//! semicolons. A heading may name the columns. `Reading` says the unit of times and from when on they are counted. No
+//! semicolons. A heading may name the columns. `Reading` says the unit of times, from when on they are counted, and the order of
+//! bits. No
 //! call allocates memory.
 //!
 //! ```text
@@ -13,16 +14,20 @@
 //! ```
 #![tactic(auto)]
 
+mod calendars;
 mod clocks;
 mod columns;
 mod fields;
+mod gregorian;
 pub mod laws;
 mod reader;
 mod reading;
 mod rows;
 mod times;
 mod words;
+mod written;
 
+pub use calendars::{Calendar, DateSpan, Span};
 pub use clocks::Clock;
 pub use columns::{Base, Column, HeadingFault, PartsPlaces, Places, ValuePlace, WordPlaces};
 pub use fields::{Fields, Mark};
@@ -30,3 +35,4 @@ pub use reader::{LogFault, LogReader, LogWord};
 pub use reading::{LineFault, Reading, Shape};
 pub use rows::{RowFault, StatedWord};
 pub use times::TimeUnit;
+pub use words::BitOrder;

@@ -1,15 +1,19 @@
 //! The lines of a log.
-ghost use Rattle.std.specs.Prelude.{◌≡◌, None, Some};
+ghost use Rattle.std.specs.Prelude.{◌≡◌, IfSome, None, Ok, Some};
 ghost use Rattle.a429_logs.specs.LogColumns.{plain_places};
 ghost use Rattle.a429_logs.specs.LogFields.{mark_in};
-ghost use Rattle.a429_logs.specs.LogRows.{stated_by};
-ghost use Rattle.a429_logs.specs.Logs.{is_passed_over, on_clock, read_first, read_line, read_row, next_log, shown_line, with_clock};
+ghost use Rattle.a429_logs.specs.Calendars.{shown_timed, timed_by};
+ghost use Rattle.a429_logs.specs.declared.calendars.Calendar.TheVariants.{Open};
+ghost use Rattle.a429_logs.specs.declared.words.BitOrder.TheVariants.{AsWritten};
+ghost use Rattle.a429_logs.specs.Logs.{is_passed_over, next_log, read_first, read_line, read_row, shown_line, with_calendar, word_of_row};
 
+use crate::calendars::{Calendar, TimedWord};
 use crate::clocks::Clock;
 use crate::columns::{Heading, HeadingFault, Places, WordPlaces};
 use crate::fields::{Mark, trimmed};
-use crate::rows::{RowFault, StatedWord, row_of};
+use crate::rows::{RowFault, StatedWord, quick_word, row_of};
 use crate::times::TimeUnit;
+use crate::words::BitOrder;
 
 /// What separates the fields of a log, and which columns it has.
 #[derive(Clone, Copy)]
@@ -40,8 +44,12 @@ impl Shape {
 pub struct Reading {
     /// The unit of times.
     pub unit: TimeUnit,
+    /// The order in which the bits of whole words are written.
+    pub order: BitOrder,
     /// The form of rows. `None` before the first line that is not passed over.
     pub shape: Option<Shape>,
+    /// The form of times, and how they go on over midnight and the end of a year.
+    pub calendar: Calendar,
     pub clock: Clock,
 }
 
@@ -66,15 +74,24 @@ fn is_passed_over(line: &[u8]) -> bool
 impl Reading {
     ghost use Rattle.a429_logs.specs.declared.reading.Shape.{Shape};
 
-    /// How the first line of a log is read.
+    /// How the first line of a log is read, if words are as they are written.
     pub fn new(unit: TimeUnit, clock: Clock) -> Reading
-        ensures { result ≡ record { unit = unit; shape = None; clock = clock } }
+        ensures { result ≡ record { unit = unit; order = AsWritten; shape = None; calendar = Open; clock = clock } }
     {
         Reading {
             unit,
+            order: BitOrder::AsWritten,
             shape: None,
+            calendar: Calendar::Open,
             clock,
         }
+    }
+
+    /// The same, if the bits of whole words are written in this order.
+    pub fn with_order(self, order: BitOrder) -> Reading
+        ensures { result ≡ record self { order = order } }
+    {
+        Reading { order, ..self }
     }
 
     /// How the first line of the next log is read, after this one: times go on, and the form is found again.
@@ -82,38 +99,65 @@ impl Reading {
         ensures { result ≡ next_log self }
     {
         Reading {
-            unit: self.unit,
             shape: None,
-            clock: self.clock,
+            ..self
         }
     }
 
-    /// The word of a row in a form.
+    /// The word of a row in a form, with its time in microseconds, and the calendar after it.
+    fn word_of_row<'a>(&self, line: &'a [u8], shape: &Shape) -> Result<TimedWord<'a>, RowFault>
+        ensures { shown_timed result ≡ word_of_row self.now line.now shape.now }
+    {
+        match row_of(self.unit, self.order, shape.mark, &shape.places, line) {
+            Ok(row) => self.calendar.timed(row),
+            Err(why) => Err(why),
+        }
+    }
+
+    /// What the first row states, which has this form.
     fn row<'a>(&mut self, line: &'a [u8], shape: Shape) -> Result<Option<StatedWord<'a>>, LineFault>
         ensures { shown_line self.new result ≡ read_row self.old line.now shape }
     {
-        let word = match row_of(self.unit, shape.mark, &shape.places, line) {
-            Ok(word) => word,
+        let timed = match self.word_of_row(line, &shape) {
+            Ok(timed) => timed,
             Err(why) => return Err(LineFault::Row(why)),
         };
-        match self.clock.read(word) {
+        match self.clock.read(timed.word) {
             Ok(word) => {
                 self.shape = Some(shape);
+                self.calendar = timed.calendar;
                 Ok(Some(word))
             }
             Err(why) => Err(LineFault::Row(why)),
         }
     }
 
-    /// The word of a row, by its time on the clock.
-    fn timed<'a>(&mut self, word: StatedWord<'a>) -> Result<Option<StatedWord<'a>>, LineFault>
-        ensures { (shape : Shape) → self.old.shape ≡ Some shape → shown_line self.new result
-            ≡ with_clock self.old shape (stated_by word.entry) (on_clock self.old.clock (stated_by word.entry)) }
+    /// What the row of a word states, by its time on the clock.
+    fn timed<'a>(&mut self, timed: TimedWord<'a>) -> Result<Option<StatedWord<'a>>, LineFault>
+        ensures { (shape : Shape) → self.old.shape ≡ Some shape
+            → shown_line self.new result ≡ with_calendar self.old shape (Ok (timed_by timed.entry)) }
     {
-        match self.clock.read(word) {
-            Ok(word) => Ok(Some(word)),
+        match self.clock.read(timed.word) {
+            Ok(word) => {
+                self.calendar = timed.calendar;
+                Ok(Some(word))
+            }
             Err(why) => Err(LineFault::Row(why)),
         }
+    }
+
+    /// What a row states that is read quickly. `None` if it is not.
+    fn quick<'a>(&self, line: &'a [u8], shape: &Shape) -> Option<TimedWord<'a>>
+        ensures { IfSome result (λ timed. word_of_row self.now line.now shape.now ≡ Ok (timed_by timed)) }
+    {
+        if !self.calendar.is_of_units() {
+            return None;
+        }
+        let word = quick_word(self.unit, self.order, shape.mark, &shape.places, line)?;
+        Some(TimedWord {
+            word,
+            calendar: Calendar::Units,
+        })
     }
 
     /// The word of the first line that is not passed over; none if it is a heading.
@@ -146,8 +190,11 @@ impl Reading {
         let Some(shape) = &self.shape else {
             return self.first(line);
         };
-        match row_of(self.unit, shape.mark, &shape.places, line) {
-            Ok(word) => self.timed(word),
+        if let Some(timed) = self.quick(line, shape) {
+            return self.timed(timed);
+        }
+        match self.word_of_row(line, shape) {
+            Ok(timed) => self.timed(timed),
             Err(why) => Err(LineFault::Row(why)),
         }
     }

@@ -2,14 +2,15 @@
 ghost use Rattle.std.specs.Prelude.{◌≡◌, IfSome, Ok, option_map, true};
 ghost use Rattle.a429_logs.specs.LogColumns.{plain_places};
 ghost use Rattle.a429_logs.specs.LogFields.{fields_of};
-ghost use Rattle.a429_logs.specs.LogRows.{caught, caught_in, field_at, parts_word, row_of, shown, shown_row, stated_by, word_in, word_place};
+ghost use Rattle.a429_logs.specs.LogRows.{caught, caught_in, field_at, in_micros, parts_word, row_of, shown, shown_written, stated_by, word_in, word_place};
 ghost use Rattle.a429_logs.specs.declared.fields.Mark.TheVariants.{Blank};
 ghost use Rattle.a429_logs.specs.declared.times.TimeUnit.TheVariants.{Microseconds};
 
 use crate::columns::{PartsPlaces, Places, WordPlaces};
 use crate::fields::{Fields, Mark, Parts};
-use crate::times::{TimeUnit, decimal_digits, time_of};
-use crate::words::{two_bits, value_in, whole_word, word_of};
+use crate::times::{TimeUnit, decimal_digits};
+use crate::words::{BitOrder, two_bits, value_in, whole_word, word_of};
+use crate::written::{WrittenTime, written_time};
 use a429_word::Label;
 
 /// What is wrong with a row.
@@ -17,7 +18,7 @@ use a429_word::Label;
 pub enum RowFault {
     /// It has more or fewer fields than there are columns.
     Fields,
-    /// Its time is none in the unit of the log.
+    /// Its time is none: neither one in the unit of the log nor one by a calendar, or not of the form of the first time.
     Time,
     /// Its word is not eight hexadecimal digits.
     Word,
@@ -39,6 +40,14 @@ pub enum RowFault {
 #[derive(Clone, Copy)]
 pub struct StatedWord<'a> {
     pub time: u64,
+    pub name: &'a [u8],
+    pub raw: u32,
+}
+
+/// A word as a row writes it: when it comes in, by which name, and its 32 bits.
+#[derive(Clone, Copy)]
+pub struct RowWord<'a> {
+    pub time: WrittenTime,
     pub name: &'a [u8],
     pub raw: u32,
 }
@@ -114,12 +123,23 @@ fn parts_word(parts: &PartsPlaces, mark: Mark, line: &[u8]) -> Result<u32, RowFa
 }
 
 /// The word of a row that begins with this field.
-fn word_in(place: &WordPlaces, mark: Mark, line: &[u8], word: &[u8]) -> Result<u32, RowFault>
+fn word_in(
+    order: BitOrder,
+    place: &WordPlaces,
+    mark: Mark,
+    line: &[u8],
+    word: &[u8],
+) -> Result<u32, RowFault>
     requires { word.now ≡ field_at (word_place place.now) (fields_of mark line.now) }
-    ensures { result ≡ word_in place.now (fields_of mark line.now) }
+    ensures { result ≡ word_in order place.now (fields_of mark line.now) }
 {
     match place {
-        WordPlaces::Whole(_) => whole_word(word).ok_or(RowFault::Word),
+        WordPlaces::Whole(_) => {
+            match whole_word(word) {
+                Some(raw) => Ok(order.unreversed(raw)),
+                None => Err(RowFault::Word),
+            }
+        }
         WordPlaces::Parts(parts) => parts_word(parts, mark, line),
     }
 }
@@ -138,8 +158,8 @@ fn is_plain(unit: TimeUnit, mark: Mark, places: &Places) -> bool
 
 /// The word that a row states which is a time in microseconds, a name and a word between single blanks. `None` for any
 /// other row.
-fn plain_row(line: &[u8]) -> Option<StatedWord<'_>>
-    ensures { IfSome result (λ word. row_of Microseconds Blank plain_places (fields_of Blank line.now) ≡ Ok (stated_by word)) }
+fn plain_row(order: BitOrder, line: &[u8]) -> Option<StatedWord<'_>>
+    ensures { IfSome result (λ w. row_of Microseconds order Blank plain_places (fields_of Blank line.now) ≡ Ok (in_micros (stated_by w))) }
 {
     let mut parts = Parts::of(Mark::Blank, line);
     let time = parts.next()?;
@@ -150,32 +170,49 @@ fn plain_row(line: &[u8]) -> Option<StatedWord<'_>>
     }
     let time = decimal_digits(time)?;
     let raw = whole_word(word)?;
-    Some(StatedWord { time, name, raw })
+    Some(StatedWord {
+        time,
+        name,
+        raw: order.unreversed(raw),
+    })
 }
 
-/// The word that a row states. Error: the first fault of the row, in the order number of fields, time, word.
-#[tactic(auto, unfolding(crate::specs::LogRows::row_of))]
-pub fn row_of<'a>(
+/// The word of a row, if the row is one of those that most logs have. `None` for any other row.
+pub fn quick_word<'a>(
     unit: TimeUnit,
+    order: BitOrder,
     mark: Mark,
     places: &Places,
     line: &'a [u8],
-) -> Result<StatedWord<'a>, RowFault>
-    ensures { shown_row result ≡ row_of unit mark places.now (fields_of mark line.now) }
+) -> Option<StatedWord<'a>>
+    ensures { IfSome result (λ w. row_of unit order mark places.now (fields_of mark line.now) ≡ Ok (in_micros (stated_by w))) }
 {
     if is_plain(unit, mark, places) {
-        if let Some(word) = plain_row(line) {
-            return Ok(word);
-        }
+        plain_row(order, line)
+    } else {
+        None
     }
+}
+
+/// The word that a row writes. Error: the first fault of the row, in the order number of fields, time, word.
+#[tactic(auto, unfolding(crate::specs::LogRows::row_of))]
+pub fn row_of<'a>(
+    unit: TimeUnit,
+    order: BitOrder,
+    mark: Mark,
+    places: &Places,
+    line: &'a [u8],
+) -> Result<RowWord<'a>, RowFault>
+    ensures { shown_written result ≡ row_of unit order mark places.now (fields_of mark line.now) }
+{
     let Some(row) = row_fields(places, mark, line) else {
         return Err(RowFault::Fields);
     };
-    let Some(time) = time_of(unit, mark, row.time) else {
+    let Some(time) = written_time(unit, mark, row.time) else {
         return Err(RowFault::Time);
     };
-    let raw = word_in(&places.word, mark, line, row.word)?;
-    Ok(StatedWord {
+    let raw = word_in(order, &places.word, mark, line, row.word)?;
+    Ok(RowWord {
         time,
         name: row.name,
         raw,

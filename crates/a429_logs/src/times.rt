@@ -3,14 +3,15 @@ ghost use Rattle.std.specs.Prelude.{◌≡◌, ◌≤◌, ◌<◌, ◌+◌, ◌*
 ghost use Rattle.std.specs.List.{list_all};
 ghost use Rattle.std.specs.Char.{is_ascii_digit};
 ghost use Rattle.std.specs.Str.Parse.{digits_value};
-ghost use Rattle.a429_logs.specs.LogRows.{decimal_digits};
-ghost use Rattle.a429_logs.specs.LogTimes.{decimals, is_fraction, is_point, is_whole, micros, parted_time, time_of, whole_time};
+ghost use Rattle.a429_logs.specs.LogTimes.{decimal_digits, decimals, has_fractions, in_micros, is_fraction, is_point, is_whole, micros, parted_time, time_of, whole_time};
 
 use crate::fields::Mark;
 
 /// The unit of the times in a log.
 #[derive(Clone, Copy, PartialEq, Eq)]
 pub enum TimeUnit {
+    /// 1000 are a microsecond; what is left is dropped.
+    Nanoseconds,
     Microseconds,
     Milliseconds,
     Seconds,
@@ -22,9 +23,29 @@ impl TimeUnit {
         ensures { result ≡ decimals self }
     {
         match self {
-            TimeUnit::Microseconds => 0,
+            TimeUnit::Nanoseconds | TimeUnit::Microseconds => 0,
             TimeUnit::Milliseconds => 3,
             TimeUnit::Seconds => 6,
+        }
+    }
+
+    /// Whether a time may have decimals of this unit.
+    fn has_fractions(self) -> bool
+        ensures { result ≡ has_fractions self }
+    {
+        match self {
+            TimeUnit::Microseconds => false,
+            _ => true,
+        }
+    }
+
+    /// The microseconds of a number of the last digits of this unit that count.
+    fn in_micros(self, number: u64) -> u64
+        ensures { result ≡ in_micros self number }
+    {
+        match self {
+            TimeUnit::Nanoseconds => number / 1000,
+            _ => number,
         }
     }
 }
@@ -40,7 +61,7 @@ fn is_point(mark: Mark, byte: u8) -> bool
 }
 
 /// The place of the first such byte.
-fn first_point(mark: Mark, text: &[u8]) -> Option<usize>
+pub fn first_point(mark: Mark, text: &[u8]) -> Option<usize>
     ensures { result ≡ position (is_point mark) text.now }
 {
     text.iter().position(|byte| is_point(mark, *byte))
@@ -67,7 +88,7 @@ fn is_whole(unit: TimeUnit, whole: &[u8]) -> bool
 fn is_fraction(unit: TimeUnit, fraction: &[u8]) -> bool
     ensures { result ≡ is_fraction unit fraction.now }
 {
-    0 < unit.decimals() && !fraction.is_empty() && are_digits(fraction)
+    unit.has_fractions() && !fraction.is_empty() && are_digits(fraction)
 }
 
 /// A digit of a fraction; one that is not there is 0.
@@ -120,7 +141,7 @@ fn micros(unit: TimeUnit, whole: &[u8], fraction: &[u8]) -> u64
     for place in 0..unit.decimals() {
         micros = micros * 10 + u64::from(digit_at(fraction, place) - b'0');
     }
-    micros
+    unit.in_micros(micros)
 }
 
 /// The time that whole units state.

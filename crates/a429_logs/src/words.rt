@@ -1,6 +1,7 @@
 //! Words of a log, whole or by their fields.
 ghost use Rattle.std.specs.Prelude.{◌≡◌, ◌<◌, ◌^◌, IfSome};
-ghost use Rattle.a429_logs.specs.LogRows.{as_value, decimal_digits, hex_number, two_bits, value_in, whole_word, with_parity, without_prefix, word_bits};
+ghost use Rattle.a429_logs.specs.LogRows.{as_value, hex_number, two_bits, unreversed, value_in, whole_word, with_parity, without_prefix, word_bits};
+ghost use Rattle.a429_logs.specs.LogTimes.{decimal_digits};
 
 use crate::columns::Base;
 use crate::times::decimal_digits;
@@ -22,6 +23,33 @@ pub fn whole_word(text: &[u8]) -> Option<u32>
     ensures { result ≡ whole_word text.now }
 {
     raw_word(without_prefix(text))
+}
+
+/// In which order a recorder writes the bits of whole words.
+#[derive(Clone, Copy, PartialEq, Eq)]
+pub enum BitOrder {
+    /// As ARINC 429 Part 1 numbers them: bit 1, the highest of the label, is the lowest.
+    AsWritten,
+    /// The same, with the label (bits 1 to 8) reversed: bit 8 is the lowest.
+    LabelReversed,
+    /// All 32 bits reversed: bit 32 is the lowest.
+    WordReversed,
+}
+
+impl BitOrder {
+    /// The word that a recorder writes as these 32 bits.
+    #[tactic(auto, using(crate::proofs::Reversals::reversed_label, crate::proofs::Reversals::reversed_word, crate::proofs::PartsWords::reversed_small))]
+    pub fn unreversed(self, raw: u32) -> u32
+        ensures { result ≡ unreversed self raw }
+    {
+        match self {
+            BitOrder::AsWritten => raw,
+            BitOrder::LabelReversed => {
+                256 * (raw / 256) + u32::from(((raw % 256) as u8).reverse_bits())
+            }
+            BitOrder::WordReversed => raw.reverse_bits(),
+        }
+    }
 }
 
 /// The number of one to five hexadecimal digits, in either case.

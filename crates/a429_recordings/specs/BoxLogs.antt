@@ -2,6 +2,7 @@
 use Rattle.std.specs.Prelude.{◌≡◌, ◌≤◌, ◌∷◌, [], ⊤, true, MatchResult, ◌==◌, ◌&&◌, ◌+◌, ℕ, List, Bool, length, false, Option, Some, None, Result, Ok, Err, drop, fold, if◌then◌else◌, nat_le, nat_lt, option_and_then, option_map, position, slice_get, take}
 use Rattle.std.specs.Option.{option_map_or}
 use Rattle.a429_word.specs.Decimal.{decimal_number}
+use Rattle.a429_logs.specs.Calendars.{begun_again}
 use Rattle.a429_logs.specs.LogRows.{Stated}
 use Rattle.a429_logs.specs.declared.reading.Reading.{Reading}
 use Rattle.a429_equipment.specs.Agreement.{last_of}
@@ -65,7 +66,8 @@ box_word_by names channels l = named channels (box_word names l)
 
 -- how the first log of what was sent is read, after those of what came in: times are counted from the same one, and begin again
 abbrev pub restarted : Reading → Reading
-restarted reading = record { unit = reading.unit; shape = None; clock = record { base = reading.clock.base; last = 0 } }
+restarted reading =
+    record reading { shape = None; calendar = begun_again reading.calendar; clock = record { base = reading.clock.base; last = 0 } }
 
 -- the first word of a log comes no later than the last of another
 abbrev pub begins_by : List BoxWord → List BoxWord → Bool

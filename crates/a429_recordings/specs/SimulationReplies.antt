@@ -4,6 +4,7 @@ use Rattle.a429_text.specs.declared.sheets.SheetForm.{SheetForm}
 use Rattle.a429_text.specs.declared.sheets.SheetForm.TheVariants as form
 use Rattle.a429_arguments.specs.declared.times.LogOrigin.{LogOrigin}
 use Rattle.a429_arguments.specs.declared.times.LogOrigin.TheVariants as origin
+use Rattle.a429_logs.specs.declared.calendars.Calendar.TheVariants.{Open}
 use Rattle.a429_logs.specs.declared.clocks.Clock.{Clock}
 use Rattle.a429_logs.specs.declared.reading.Reading.{Reading}
 use Rattle.a429_slots.specs.Proposed.{Proposed}
@@ -13,7 +14,7 @@ use Rattle.a429_arguments.specs.Texts.{texts_of}
 use Rattle.a429_console.specs.Names.{naming_of}
 use Rattle.a429_console.specs.Outputs.{AppendsPending, IsPut, OrNoMemory, memory_refused}
 use Rattle.a429_console.specs.RefusalText.{OrMemory, refusal_line}
-use Rattle.a429_arguments.specs.Given.{Given, form_of, has_given, long_number_given, origin_of, unit_of}
+use Rattle.a429_arguments.specs.Given.{Given, form_of, has_given, long_number_given, order_of, origin_of, unit_of}
 use Rattle.a429_arguments.specs.declared.options.OptionName.TheVariants as option
 use Rattle.a429_console.specs.Tables.{IsProposedBy, IsTableRefusal}
 use Rattle.a429_console.specs.declared.refusals.CommandRefusal.{CommandRefusal}
@@ -44,7 +45,7 @@ clock_from origin.First = record { base = None; last = 0 }
 
 -- how the first line of a log is read
 abbrev pub reading_for : Given → Reading
-reading_for given = record { unit = unit_of given; shape = None; clock = clock_from (origin_of given) }
+reading_for given = record { unit = unit_of given; order = order_of given; shape = None; calendar = Open; clock = clock_from (origin_of given) }
 
 -- how lines are written, by whether only the words that are sent have one, and by the form of what is printed
 abbrev pub line_style : Bool → SheetForm → LineStyle

@@ -117,12 +117,13 @@ fn restarted(reading: Reading) -> Reading
     ensures { result ≡ restarted reading }
 {
     Reading {
-        unit: reading.unit,
         shape: None,
+        calendar: reading.calendar.begun_again(),
         clock: Clock {
             base: reading.clock.base,
             last: 0,
         },
+        ..reading
     }
 }
 

@@ -1,5 +1,7 @@
 use Rattle.std.proofs.Common.{◌≡◌, ◌∙◌, ◌<◌, ◌∷◌, [], List, ℕ, ap, arith, length, rules, sym}
+use Rattle.std.specs.Prelude.{Ok}
 use Rattle.a429_logs.specs.LogFields.{parts_left, parts_of}
+use Rattle.a429_logs.specs.LogRows.{in_micros}
 use Rattle.a429_logs.specs.declared.fields.Mark.TheVariants.{Blank}
 use Rattle.a429_logs.proofs.PlainRows.{plain_row}
 use Rattle.a429_logs.proofs.rows.plain_row.Goals as goal
@@ -15,4 +17,7 @@ returns c =
     let first = c.in_ok-time.ensures.taken ∙ ap (λ (l : List (List ℕ)). t ∷ l) second in
     let parts : parts_of Blank c.args.line.now ≡ t ∷ n ∷ w ∷ [] = sym c.of-parts.ensures.parts ∙ first in
     let some : 0 < length n = grind (arith, c.is_empty.ensures, c.if-is_empty.false) in
-    plain_row c.args.line.now t n w c.in_ok-time-2.time c.in_ok-raw.raw parts (sym c.in_ok-time-2.ensures) some (sym c.in_ok-raw.ensures)
+    let raw : ℕ = c.in_ok-raw.raw in
+    let time : ℕ = c.in_ok-time-2.time in
+    plain_row c.args.order c.args.line.now t n w time raw parts (sym c.in_ok-time-2.ensures) some (sym c.in_ok-raw.ensures)
+    ∙ ap (λ (r : ℕ). Ok (in_micros (record { time = time; name = n; raw = r }))) (sym c.unreversed.ensures)

@@ -1,6 +1,6 @@
 use Rattle.std.proofs.Common.{◌≡◌, ◌∙◌, ◌+◌, ◌<◌, ℕ, ap, rules, arith, length, take}
 use Rattle.std.specs.Str.Parse.{digits_value}
-use Rattle.a429_logs.specs.LogTimes.{decimals, micros, micros_digits}
+use Rattle.a429_logs.specs.LogTimes.{decimals, in_micros, micros, micros_digits}
 use Rattle.a429_logs.proofs.MicrosDigits.{micros-all, next_decimal}
 use Rattle.a429_logs.proofs.times.micros.Goals as goal
 
@@ -29,5 +29,6 @@ returns c =
     let whole = c.args.whole.now in
     let fraction = c.args.fraction.now in
     let last : c.loop-place.place ≡ decimals unit = search rules in
-    c.loop-place.invariant ∙ ap (λ (n : ℕ). digits_value 10 (take (length whole + n) (micros_digits unit whole fraction))) last
-    ∙ ap (digits_value 10) (micros-all unit whole fraction)
+    let number = c.loop-place.invariant ∙ ap (λ (n : ℕ). digits_value 10 (take (length whole + n) (micros_digits unit whole fraction))) last
+    ∙ ap (digits_value 10) (micros-all unit whole fraction) in
+    c.in_micros.ensures ∙ ap (in_micros unit) number

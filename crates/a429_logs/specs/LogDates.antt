@@ -1,0 +1,115 @@
+-- Times of day, times of the year and dates in a log (profile: log).
+use Rattle.std.specs.Prelude.{◌==◌, ◌&&◌, ◌+◌, ◌-◌, ◌*◌, ◌∷◌, [], ℕ, Bool, List, Option, Some, None, drop, get_or, if◌then◌else◌, length, nat_le, option_map, position, take, unwrap_or}
+use Rattle.a429_logs.specs.GregorianCalendar.{days_before, is_leap, month_length}
+use Rattle.a429_logs.specs.LogFields.{parts_of}
+use Rattle.a429_logs.specs.LogTimes.{decimal_digits, is_point, time_of}
+use Rattle.a429_logs.specs.declared.fields.Mark.{Mark}
+use Rattle.a429_logs.specs.declared.fields.Mark.TheVariants.{Colon, Dash}
+use Rattle.a429_logs.specs.declared.times.TimeUnit.{TimeUnit}
+use Rattle.a429_logs.specs.declared.times.TimeUnit.TheVariants.{Seconds}
+use Rattle.a429_logs.specs.declared.written.Date.{Date}
+use Rattle.a429_logs.specs.declared.written.ThreeParts.{ThreeParts}
+use Rattle.a429_logs.specs.declared.written.WrittenTime.{WrittenTime}
+use Rattle.a429_logs.specs.declared.written.WrittenTime.TheVariants.{Micros, OfDay, OfYear, OfDate}
+
+-- what follows if there is a value
+abbrev pub if_some : {A B : Type 0} → Option A → (A → Option B) → Option B
+if_some None next = None
+if_some (Some a) next = next a
+
+-- the first of two, if there is one
+abbrev pub or_second : {A : Type 0} → Option A → Option A → Option A
+or_second None second = second
+or_second (Some a) second = Some a
+
+-- ---- numbers
+
+abbrev pub within : ℕ → ℕ → Option ℕ → Option ℕ
+within least most None = None
+within least most (Some n) = if nat_le least n && nat_le n most then Some n else None
+
+-- a number of this many decimal digits, from the least to the most
+abbrev pub digits_within : ℕ → ℕ → ℕ → List ℕ → Option ℕ
+digits_within count least most text = if length text == count then within least most (decimal_digits text) else None
+
+-- three parts of a text, and no more
+pub record Three : Type 0 where
+  pub first : List ℕ
+  pub second : List ℕ
+  pub third : List ℕ
+
+abbrev pub three_of : List (List ℕ) → Option Three
+three_of (a ∷ b ∷ c ∷ []) = Some (record { first = a; second = b; third = c })
+three_of _ = None
+
+abbrev pub shown_three : ThreeParts → Three
+shown_three t = record { first = t.first.now; second = t.second.now; third = t.third.now }
+
+-- ---- times of day
+
+-- microseconds
+abbrev pub of_minute : ℕ
+of_minute = 60000000
+
+abbrev pub of_day : ℕ
+of_day = 86400000000
+
+-- an hour has one digit or two
+abbrev pub hour_of : List ℕ → Option ℕ
+hour_of text = if nat_le (length text) 2 then within 0 23 (decimal_digits text) else None
+
+-- seconds have two digits, and decimals after them; no minute has more than 60 of them
+abbrev pub seconds_of : Mark → List ℕ → Option ℕ
+seconds_of mark text =
+    if unwrap_or (position (is_point mark) text) (length text) == 2 then within 0 59999999 (time_of Seconds mark text) else None
+
+abbrev pub time_of_day : Mark → Three → Option ℕ
+time_of_day mark t =
+    if_some (hour_of t.first) (λ hour. if_some (digits_within 2 0 59 t.second) (λ minute. if_some (seconds_of mark t.third) (λ seconds.
+    Some (of_minute * (60 * hour + minute) + seconds))))
+
+-- HH:MM:SS, in microseconds from midnight
+unfoldable pub day_time : Mark → List (List ℕ) → Option ℕ
+day_time mark parts = if_some (three_of parts) (λ three. time_of_day mark three)
+
+-- ---- times of the year
+
+-- DDD:HH:MM:SS, in microseconds from the beginning of the year, of which the first day is 001
+abbrev pub year_time : Mark → List (List ℕ) → Option ℕ
+year_time mark [] = None
+year_time mark (day ∷ parts) =
+    if_some (digits_within 3 1 366 day) (λ number. if_some (day_time mark parts) (λ time. Some (of_day * (number - 1) + time)))
+
+abbrev pub clock_time : Mark → List ℕ → Option WrittenTime
+clock_time mark text = or_second (option_map OfDay (day_time mark (parts_of Colon text))) (option_map OfYear (year_time mark (parts_of Colon text)))
+
+-- ---- dates
+
+-- YYYY-MM-DD (ISO 8601), and the microseconds of the year before that day
+abbrev pub day_of : Three → Option Date
+day_of t =
+    if_some (digits_within 4 0 9999 t.first) (λ year. if_some (digits_within 2 1 12 t.second) (λ month.
+    if_some (digits_within 2 1 (month_length (is_leap year) (month - 1)) t.third) (λ day.
+    Some (record { year = year; time = of_day * days_before year month day }))))
+
+unfoldable pub date_of : List ℕ → Option Date
+date_of text = if_some (three_of (parts_of Dash text)) day_of
+
+-- a time of day may end in `Z`
+abbrev pub without_zone : List ℕ → List ℕ
+without_zone text = if get_or text (length text - 1) 0 == 90 then take (length text - 1) text else text
+
+abbrev pub at_time : Option Date → Option ℕ → Option WrittenTime
+at_time date time = if_some date (λ d. option_map (λ t. OfDate (record d { time = d.time + t })) time)
+
+-- a date and a time of day have a `T` between them
+abbrev pub calendar_by : Mark → List ℕ → Option ℕ → Option WrittenTime
+calendar_by mark text None = clock_time mark text
+calendar_by mark text (Some k) = at_time (date_of (take k text)) (day_time mark (parts_of Colon (without_zone (drop (k + 1) text))))
+
+unfoldable pub calendar_time : Mark → List ℕ → Option WrittenTime
+calendar_time mark text = calendar_by mark text (position (λ b. b == 84) text)
+
+-- the time that a text writes: digits in the unit of the log, or a time by a calendar
+unfoldable pub written_time : TimeUnit → Mark → List ℕ → Option WrittenTime
+written_time unit mark text = or_second (option_map Micros (time_of unit mark text)) (calendar_time mark text)
