@@ -111,7 +111,7 @@ fn may_all_be(file: FileRows, column: ImportColumn, place: usize) -> bool {
     true
 }
 
-/// Whether the first field below a heading has fewer than four digits before its point: an interval of so many microseconds is
+/// Whether the first field below a heading has fewer than four digits before its point: such an interval in microseconds is
 /// rare.
 fn is_short(file: FileRows, place: usize) -> bool {
     let Some(row) = file.rows.first() else {

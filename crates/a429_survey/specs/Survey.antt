@@ -60,7 +60,7 @@ label_rows row words label = flat_map (λ sdi. rows_if_any (row label sdi) (word
 abbrev pub pair_rows : (ℕ → ℕ → List Noted → List Field) → List Noted → List (List Field)
 pair_rows row words = flat_map (label_rows row words) (range_with_len 0 256)
 
--- an SDI, 0 to 3, is a text, as in all sheets
+-- an SDI, 0 to 3, is a text in all sheets
 abbrev pub sdi_text : ℕ → List ℕ
 sdi_text sdi = (48 + sdi) ∷ []
 
