@@ -80,7 +80,8 @@ year_time mark [] = None
 year_time mark (day ∷ parts) =
     if_some (digits_within 3 1 366 day) (λ number. if_some (day_time mark parts) (λ time. Some (of_day * (number - 1) + time)))
 
-abbrev pub clock_time : Mark → List ℕ → Option WrittenTime
+-- a time of day, or a time of the year
+unfoldable pub clock_time : Mark → List ℕ → Option WrittenTime
 clock_time mark text = or_second (option_map OfDay (day_time mark (parts_of Colon text))) (option_map OfYear (year_time mark (parts_of Colon text)))
 
 -- ---- dates
@@ -102,13 +103,19 @@ without_zone text = if get_or text (length text - 1) 0 == 90 then take (length t
 abbrev pub at_time : Option Date → Option ℕ → Option WrittenTime
 at_time date time = if_some date (λ d. option_map (λ t. OfDate (record d { time = d.time + t })) time)
 
+unfoldable pub dated_time : Mark → List ℕ → List ℕ → Option WrittenTime
+dated_time mark date time = at_time (date_of date) (day_time mark (parts_of Colon (without_zone time)))
+
 -- a date and a time of day have a `T` between them
+abbrev pub is_date_end : ℕ → Bool
+is_date_end b = b == 84
+
 abbrev pub calendar_by : Mark → List ℕ → Option ℕ → Option WrittenTime
 calendar_by mark text None = clock_time mark text
-calendar_by mark text (Some k) = at_time (date_of (take k text)) (day_time mark (parts_of Colon (without_zone (drop (k + 1) text))))
+calendar_by mark text (Some k) = dated_time mark (take k text) (drop (k + 1) text)
 
 unfoldable pub calendar_time : Mark → List ℕ → Option WrittenTime
-calendar_time mark text = calendar_by mark text (position (λ b. b == 84) text)
+calendar_time mark text = calendar_by mark text (position is_date_end text)
 
 -- the time that a text writes: digits in the unit of the log, or a time by a calendar
 unfoldable pub written_time : TimeUnit → Mark → List ℕ → Option WrittenTime

@@ -1,8 +1,7 @@
 //! Times of day, times of the year and dates, as a log writes them.
-ghost use Rattle.std.specs.Prelude.{◌≡◌, ◌≤◌, ◌<◌, ◌*◌, IfSome, option_map};
-ghost use Rattle.a429_logs.specs.LogDates.{at_time, calendar_time, clock_time, date_of, day_of, day_time, digits_within, hour_of, seconds_of, shown_three, three_of, time_of_day, within, without_zone, written_time, year_time};
-ghost use Rattle.a429_logs.specs.LogFields.{parts_left, parts_of};
-ghost use Rattle.a429_logs.specs.declared.fields.Mark.TheVariants.{Colon};
+ghost use Rattle.std.specs.Prelude.{◌≡◌, ◌≤◌, ◌<◌, ◌*◌, IfSome, option_map, position};
+ghost use Rattle.a429_logs.specs.LogDates.{calendar_time, clock_time, date_of, dated_time, day_of, day_time, digits_within, hour_of, is_date_end, seconds_of, shown_three, three_of, time_of_day, within, without_zone, written_time, year_time};
+ghost use Rattle.a429_logs.specs.LogFields.{parts_left};
 
 use crate::fields::{Mark, Parts};
 use crate::gregorian::{days_before, is_leap, month_length};
@@ -139,6 +138,7 @@ fn year_time(mark: Mark, mut parts: Parts<'_>) -> Option<u64>
 }
 
 /// A time of day, or a time of the year.
+#[tactic(auto, unfolding(crate::specs::LogDates::clock_time))]
 fn clock_time(mark: Mark, text: &[u8]) -> Option<WrittenTime>
     ensures { result ≡ clock_time mark text.now }
 {
@@ -189,8 +189,9 @@ fn without_zone(text: &[u8]) -> &[u8]
 }
 
 /// The time of a day: a date, and a time of day.
-fn at_time(mark: Mark, date: &[u8], time: &[u8]) -> Option<WrittenTime>
-    ensures { result ≡ at_time (date_of date.now) (day_time mark (parts_of Colon (without_zone time.now))) }
+#[tactic(auto, unfolding(crate::specs::LogDates::dated_time))]
+fn dated_time(mark: Mark, date: &[u8], time: &[u8]) -> Option<WrittenTime>
+    ensures { result ≡ dated_time mark date.now time.now }
 {
     let date = date_of(date)?;
     let time = day_time(mark, Parts::of(Mark::Colon, without_zone(time)))?;
@@ -200,14 +201,28 @@ fn at_time(mark: Mark, date: &[u8], time: &[u8]) -> Option<WrittenTime>
     }))
 }
 
+/// Whether a byte comes between a date and its time of day.
+fn is_date_end(byte: u8) -> bool
+    ensures { result ≡ is_date_end byte }
+{
+    byte == b'T'
+}
+
+/// The place of the first such byte.
+fn date_end(text: &[u8]) -> Option<usize>
+    ensures { result ≡ position is_date_end text.now }
+{
+    text.iter().position(|byte| is_date_end(*byte))
+}
+
 /// A time of day, a time of the year, or a date with a time of day. `None` if the text has none of these forms.
 #[tactic(auto, unfolding(crate::specs::LogDates::calendar_time))]
 fn calendar_time(mark: Mark, text: &[u8]) -> Option<WrittenTime>
     ensures { result ≡ calendar_time mark text.now }
 {
-    match text.iter().position(|byte| *byte == b'T') {
+    match date_end(text) {
         None => clock_time(mark, text),
-        Some(place) => at_time(mark, &text[..place], &text[place + 1..]),
+        Some(place) => dated_time(mark, &text[..place], &text[place + 1..]),
     }
 }
 
