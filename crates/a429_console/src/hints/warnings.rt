@@ -73,6 +73,8 @@ pub enum Warning {
     CloseWords(Name),
     /// All intervals of the group of this name are below 1000 µs, and none allows a period: they may be milliseconds.
     ShortIntervals(Name),
+    /// This number of rows below the imported ones have no label, and were passed over as notes.
+    Notes(usize),
 }
 
 /// Notes a warning, unless an allocation fails.
@@ -106,5 +108,10 @@ impl Warning {
     /// Notes a group whose intervals may be milliseconds, unless an allocation fails.
     pub fn note_short_intervals(warnings: &mut Vec<Warning>, group: Name) {
         note(warnings, Warning::ShortIntervals(group));
+    }
+
+    /// Notes a number of rows that were passed over, unless an allocation fails.
+    pub fn note_notes(warnings: &mut Vec<Warning>, count: usize) {
+        note(warnings, Warning::Notes(count));
     }
 }
