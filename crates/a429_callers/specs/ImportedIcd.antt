@@ -1,6 +1,5 @@
 -- What is imported from the interface control document of a plan: a table of the same outputs, with the same plan (profile: import).
-use Rattle.std.specs.Prelude.{◌≡◌, ◌<◌, ℕ, true, false, List, [], None, Some, Result, Ok, Err, Vec, length, slice_get}
-use Rattle.std.specs.declared.alloc.Global.{Global}
+use Rattle.std.specs.Prelude.{◌≡◌, ◌<◌, ℕ, true, false, List, [], None, Some, Result, Ok, Err, length, slice_get}
 use Rattle.std.specs.List.{AllByRecursion, AllZip}
 use Rattle.a429_equipment.specs.declared.rows.OutputRow.{OutputRow}
 use Rattle.a429_equipment.specs.declared.rows.SourceRow.{SourceRow}
@@ -12,6 +11,8 @@ use Rattle.a429_table.specs.Reading.{reading}
 use Rattle.a429_cert.specs.PlanText.{plan_text_of}
 use Rattle.a429_import.specs.declared.fault.ImportFault.{ImportFault}
 use Rattle.a429_import.specs.declared.fault.ImportFault.TheVariants.{NoMemory}
+use Rattle.a429_import.specs.declared.import.Imported.{Imported}
+use Rattle.a429_import.specs.declared.import.ImportOptions.{ImportOptions}
 use Rattle.a429_text.specs.Sheets.{sheet_text}
 use Rattle.a429_text.specs.declared.sheets.SheetForm.TheVariants.{Csv}
 use Rattle.a429_documents.specs.Document.{icd_columns, icd_rows}
@@ -73,8 +74,8 @@ pub record IsReadAsPlanned (text : List ℕ) (a : Proposed) : Type 0 where
   pub plan : HasPlanTextOf table a
 
 -- such a text is imported, unless memory runs out
-abbrev pub ImportsPlan : Proposed → Result (Vec ℕ Global) ImportFault → Type 0
-ImportsPlan a (Ok text) = IsReadAsPlanned text.items a
+abbrev pub ImportsPlan : Proposed → Result Imported ImportFault → Type 0
+ImportsPlan a (Ok imported) = IsReadAsPlanned imported.text.items a
 ImportsPlan a (Err NoMemory) = Unit {0}
 ImportsPlan a (Err _) = ⊥
 
@@ -82,8 +83,12 @@ ImportsPlan a (Err _) = ⊥
 abbrev pub icd_csv : Proposed → List ℕ
 icd_csv a = sheet_text Csv icd_columns (icd_rows false a.station a.plan)
 
+-- no field is filled, and no names are made
+abbrev pub plainly : ImportOptions
+plainly = record { fills = false; makes_names = false }
+
 -- importing it gives the same plan
 abbrev pub ImportedIcdIsSamePlan : Type 0
 ImportedIcdIsSamePlan =
-    (bytes : List ℕ) (a : Proposed) (result : Result (Vec ℕ Global) ImportFault) → IsWholeInIcd bytes a
-    → IsImport [] false (icd_csv a) result → ImportsPlan a result
+    (bytes : List ℕ) (a : Proposed) (result : Result Imported ImportFault) → IsWholeInIcd bytes a
+    → IsImport [] plainly (icd_csv a) result → ImportsPlan a result

@@ -1,7 +1,6 @@
 -- The command `import`: what it writes, and its status (profile: import).
-use Rattle.std.specs.Prelude.{◌≡◌, ◌⊎◌, ◌<◌, ℕ, Bool, List, Option, Result, Ok, Err, Some, Vec, slice_get}
+use Rattle.std.specs.Prelude.{◌≡◌, ◌⊎◌, ◌<◌, ℕ, List, Option, Result, Ok, Err, Some, slice_get}
 use Rattle.std.specs.List.{AllByRecursion}
-use Rattle.std.specs.declared.alloc.Global.{Global}
 use Rattle.a429_grid.specs.Grid.{HasNoGridPeriod}
 use Rattle.a429_equipment.specs.TableRecord.{TableRecord}
 use Rattle.a429_equipment.specs.declared.rows.GroupRow.{GroupRow}
@@ -9,6 +8,8 @@ use Rattle.a429_equipment.specs.declared.rows.OutputRow.{OutputRow}
 use Rattle.a429_table.specs.Reading.{reading}
 use Rattle.a429_table.specs.declared.fault.TableFault.TheVariants as fault
 use Rattle.a429_import.specs.Imports.{IsImport}
+use Rattle.a429_import.specs.declared.import.Imported.{Imported}
+use Rattle.a429_import.specs.declared.import.ImportOptions.{ImportOptions}
 use Rattle.a429_import.specs.declared.fault.CsvFaultKind.{CsvFaultKind}
 use Rattle.a429_import.specs.declared.fault.CsvFaultKind.TheVariants as rows
 use Rattle.a429_import.specs.declared.fault.ImportFault.{ImportFault}
@@ -35,30 +36,30 @@ import_refusal (wrong.Wide line) = refused.Csv line csv.Wide
 import_refusal (wrong.Table fault.NoMemory) = refused.Memory
 import_refusal (wrong.Table (fault.At kind place)) = refused.Table kind place
 
--- the rows of a file's bytes are imported as this text. The heading is read by texts HEADING=COLUMN, and names are made if the flag is set
-abbrev pub IsImportText : List (List ℕ) → Bool → List ℕ → List ℕ → Type 0
-IsImportText maps names bytes text = (table : Vec ℕ Global) × IsImport maps names bytes (Ok table) × (text ≡ table.items)
+-- the rows of a file's bytes are imported as this text. The heading is read by texts HEADING=COLUMN, and the rows as the options say
+abbrev pub IsImportText : List (List ℕ) → ImportOptions → List ℕ → List ℕ → Type 0
+IsImportText maps options bytes text = (imported : Imported) × IsImport maps options bytes (Ok imported) × (text ≡ imported.text.items)
 
 -- the bytes state no table for this fault
-abbrev pub IsImportFault : List (List ℕ) → Bool → List ℕ → ImportFault → Type 0
-IsImportFault maps names bytes fault = IsImport maps names bytes (Err fault)
+abbrev pub IsImportFault : List (List ℕ) → ImportOptions → List ℕ → ImportFault → Type 0
+IsImportFault maps options bytes fault = IsImport maps options bytes (Err fault)
 
 -- why the bytes are refused: the first fault of their rows, otherwise that of the table which these state
-abbrev pub IsImportRefusal : List (List ℕ) → Bool → List ℕ → CommandRefusal → Type 0
-IsImportRefusal maps names bytes refusal = (fault : ImportFault) × IsImportFault maps names bytes fault × (refusal ≡ import_refusal fault)
+abbrev pub IsImportRefusal : List (List ℕ) → ImportOptions → List ℕ → CommandRefusal → Type 0
+IsImportRefusal maps options bytes refusal = (fault : ImportFault) × IsImportFault maps options bytes fault × (refusal ≡ import_refusal fault)
 
 -- the rows in a file are imported as this text, and the status is 0
-abbrev pub IsImported : (List ℕ → Option (List ℕ)) → List (List ℕ) → Bool → List ℕ → ℕ → List ℕ → Type 0
-IsImported file maps names name status text = (bytes : List ℕ) × (readable (file name) ≡ Some bytes) × IsImportText maps names bytes text × (status ≡ 0)
+abbrev pub IsImported : (List ℕ → Option (List ℕ)) → List (List ℕ) → ImportOptions → List ℕ → ℕ → List ℕ → Type 0
+IsImported file maps options name status text = (bytes : List ℕ) × (readable (file name) ≡ Some bytes) × IsImportText maps options bytes text × (status ≡ 0)
 
 -- why there is none: the file, or what is in it
-abbrev pub IsNoImport : (List ℕ → Option (List ℕ)) → List (List ℕ) → Bool → List ℕ → CommandRefusal → Type 0
-IsNoImport file maps names name refusal =
-    IsFileRefusal file name refusal ⊎ ((bytes : List ℕ) × (readable (file name) ≡ Some bytes) × IsImportRefusal maps names bytes refusal)
+abbrev pub IsNoImport : (List ℕ → Option (List ℕ)) → List (List ℕ) → ImportOptions → List ℕ → CommandRefusal → Type 0
+IsNoImport file maps options name refusal =
+    IsFileRefusal file name refusal ⊎ ((bytes : List ℕ) × (readable (file name) ≡ Some bytes) × IsImportRefusal maps options bytes refusal)
 
 -- the reply for a file, or its refusal
-abbrev pub IsImportReply : (List ℕ → Option (List ℕ)) → List (List ℕ) → Bool → List ℕ → Result Reply CommandRefusal → Type 0
-IsImportReply file maps names name result = Replies (IsImported file maps names name) (IsNoImport file maps names name) result
+abbrev pub IsImportReply : (List ℕ → Option (List ℕ)) → List (List ℕ) → ImportOptions → List ℕ → Result Reply CommandRefusal → Type 0
+IsImportReply file maps options name result = Replies (IsImported file maps options name) (IsNoImport file maps options name) result
 
 -- ---- intervals that may be milliseconds
 
@@ -76,6 +77,8 @@ HasNoShortGroup t =
 abbrev pub StatesNoShortGroup : List ℕ → Type 0
 StatesNoShortGroup text = (t : TableRecord) → reading text ≡ Ok t → HasNoShortGroup t
 
--- the table that the rows in a file state has no such group
-abbrev pub ImportsNoShortGroup : (List ℕ → Option (List ℕ)) → List (List ℕ) → Bool → List ℕ → Type 0
-ImportsNoShortGroup file maps names name = (status : ℕ) (text : List ℕ) → IsImported file maps names name status text → StatesNoShortGroup text
+-- the table that the rows in a file state has no such group, and no row is a note
+abbrev pub ImportsSilently : (List ℕ → Option (List ℕ)) → List (List ℕ) → ImportOptions → List ℕ → Type 0
+ImportsSilently file maps options name =
+    (bytes : List ℕ) (imported : Imported) → readable (file name) ≡ Some bytes → IsImport maps options bytes (Ok imported)
+    → (imported.notes ≡ 0) × StatesNoShortGroup imported.text.items

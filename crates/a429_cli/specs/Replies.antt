@@ -2,7 +2,7 @@
 use Rattle.std.specs.Prelude.{◌∷◌, ⊤, ℕ, List, Bool, true, false, Option, Result}
 use Rattle.a429_console.specs.Outputs.{FailedCalls, OrNoMemory}
 use Rattle.a429_console.specs.Replying.{RepliesByReader, RepliesToWords}
-use Rattle.a429_arguments.specs.Given.{form_of, has_given}
+use Rattle.a429_arguments.specs.Given.{Given, form_of, has_given}
 use Rattle.a429_arguments.specs.Requests.{AskedBytes}
 use Rattle.a429_arguments.specs.declared.options.OptionName.TheVariants as option
 use Rattle.a429_arguments.specs.declared.forms.Verb.{Verb}
@@ -15,7 +15,8 @@ use Rattle.a429_cli.specs.Checks.{IsCheckOf, IsNoCheck}
 use Rattle.a429_cli.specs.Encoding.{IsEncoded, IsNotEncoded, fields_given}
 use Rattle.a429_cli.specs.Plans.{IsNoPlanReply, IsPlanReply}
 use Rattle.a429_cli.specs.Findings.{IsDiffOf, IsLinted, IsNoDiff, IsNoLint}
-use Rattle.a429_cli.specs.Importing.{ImportsNoShortGroup, IsImported, IsNoImport}
+use Rattle.a429_import.specs.declared.import.ImportOptions.{ImportOptions}
+use Rattle.a429_cli.specs.Importing.{ImportsSilently, IsImported, IsNoImport}
 use Rattle.a429_live.specs.LiveReplies.{IsLiveReply, TakesLive}
 use Rattle.a429_replay.specs.Replaying.{IsReplay, TakesFurther}
 use Rattle.a429_recordings.specs.SimulationReplies.{IsSimulation, SimulatesSpacedWords, simulation_form}
@@ -39,11 +40,15 @@ trouble_of verb.Diff = 2
 trouble_of verb.Judge = 2
 trouble_of _ = 1
 
+-- how the rows of `import` are read
+abbrev pub import_options : Given → ImportOptions
+import_options given = record { fills = has_given given option.Fill; makes_names = has_given given option.Names }
+
 -- the status and the bytes of such an answer, by these files and by what the command is given
 abbrev pub IsAnswerOf : Verb → (List ℕ → Option (List ℕ)) → AskedBytes → ℕ → List ℕ → Type 0
 IsAnswerOf verb.Word file r = IsWordOf r.first
 IsAnswerOf verb.Encode file r = IsEncoded r.first (fields_given r.given)
-IsAnswerOf verb.Import file r = IsImported file (r.given option.Map) (has_given r.given option.Names) r.first
+IsAnswerOf verb.Import file r = IsImported file (r.given option.Map) (import_options r.given) r.first
 IsAnswerOf verb.Check file r = IsCheckOf file r.first r.second
 IsAnswerOf verb.Lint file r = IsLinted file (form_of r.given) r.first
 IsAnswerOf verb.Diff file r = IsDiffOf file (has_given r.given option.All) (form_of r.given) r.first r.second
@@ -55,7 +60,7 @@ IsAnswerOf v file r = IsPlanReply v file r
 abbrev pub IsNoAnswer : Verb → (List ℕ → Option (List ℕ)) → AskedBytes → CommandRefusal → Type 0
 IsNoAnswer verb.Word file r = IsNoWord r.first
 IsNoAnswer verb.Encode file r = IsNotEncoded r.first (fields_given r.given)
-IsNoAnswer verb.Import file r = IsNoImport file (r.given option.Map) (has_given r.given option.Names) r.first
+IsNoAnswer verb.Import file r = IsNoImport file (r.given option.Map) (import_options r.given) r.first
 IsNoAnswer verb.Check file r = IsNoCheck file r.first r.second
 IsNoAnswer verb.Lint file r = IsNoLint file r.first
 IsNoAnswer verb.Diff file r = IsNoDiff file r.first r.second
@@ -71,10 +76,10 @@ IsReplyOf verb.Simulate file r = IsSimulation file r.first (r.second ∷ r.more)
 IsReplyOf verb.Live file r = IsLiveReply file r
 IsReplyOf v file r = IsReplyBy (trouble_of v) (IsAnswerOf v file r) (IsNoAnswer v file r)
 
--- A command has nothing to warn of: the station takes the plans of all further tables, the words of the log are apart, and no group of the
--- imported table has intervals that may be milliseconds.
+-- A command has nothing to warn of: the station takes the plans of all further tables, and the words of the log are apart. The imported rows
+-- have no notes, and no group has intervals that may be milliseconds.
 abbrev pub HasNoWarning : Verb → (List ℕ → Option (List ℕ)) → AskedBytes → Type 0
-HasNoWarning verb.Import file r = ImportsNoShortGroup file (r.given option.Map) (has_given r.given option.Names) r.first
+HasNoWarning verb.Import file r = ImportsSilently file (r.given option.Map) (import_options r.given) r.first
 HasNoWarning verb.Replay file r = TakesFurther file r.first r.second r.more
 HasNoWarning verb.Simulate file r = SimulatesSpacedWords file r.first (r.second ∷ r.more) (r.given option.Channel) (simulation_form r.given)
 HasNoWarning verb.Live file r = TakesLive file r

@@ -7,7 +7,7 @@ ghost use Rattle.a429_console.specs.Readings.{HasRead, HasReadFrom};
 ghost use Rattle.a429_arguments.specs.RequestRows.{AsksFor};
 ghost use Rattle.a429_arguments.specs.Requests.{AskedBytes, asked_of};
 ghost use Rattle.a429_recordings.specs.LogItems.{channels_named, logs_named};
-ghost use Rattle.a429_cli.specs.Replies.{IsAnswerOf, IsNoAnswer, IsReplyOrMemory, RepliesToCommand, RepliesToCommandByReader, IsSilent, is_whole, trouble_of};
+ghost use Rattle.a429_cli.specs.Replies.{IsAnswerOf, IsNoAnswer, IsReplyOrMemory, RepliesToCommand, RepliesToCommandByReader, IsSilent, import_options, is_whole, trouble_of};
 ghost use Rattle.a429_cli.specs.WholeReplies.{Replies};
 ghost use Rattle.a429_arguments.specs.Usage.{is_run, kinds_of_words};
 
@@ -33,6 +33,7 @@ use a429_console::hints::Hints;
 use a429_console::hints::warnings::Warning;
 use a429_console::output::{Output, OutputFault};
 use a429_console::refusals::Refused;
+use a429_import::ImportOptions;
 use a429_recordings::simulate::{LogNames, SimulationForm, simulate};
 use a429_replay::replay::replay;
 use std::alloc::Global;
@@ -102,7 +103,7 @@ fn reply_to<F: FileReader>(
             files,
             first,
             asked.texts(OptionName::Map),
-            asked.has(OptionName::Names),
+            import_options(asked),
             warnings,
         ),
         Verb::Check => check_reply(alloc, files, first, second),
@@ -191,6 +192,16 @@ fn answer_by_lines<F: FileReader, O: Output>(
             )
         }
         _ => unreachable!(),
+    }
+}
+
+/// How the rows of `import` are read, by the options that are given.
+fn import_options(asked: &Asked) -> ImportOptions
+    ensures { result ≡ import_options (asked_of asked.now).given }
+{
+    ImportOptions {
+        fills: asked.has(OptionName::Fill),
+        makes_names: asked.has(OptionName::Names),
     }
 }
 

@@ -5,13 +5,16 @@ use crate::files::{REFUSED_OUTPUT, other_file};
 use crate::headings::tell_heading;
 use crate::hint::HintText;
 use crate::imported::tell_imported;
+use a429_arguments::options::OptionName;
+use a429_arguments::requests::Asked;
 use a429_console::refusals::evidence::RowsEvidence;
 use a429_console::refusals::{CommandRefusal, CsvKind};
 use a429_filter::Filter;
 use a429_import::{
-    CsvLine, Heading, IMPORT_COLUMNS, ImportColumn, column_in, csv_lines, form_fault,
-    is_column_named, misquoted_line, named_by,
+    CsvLine, Heading, IMPORT_COLUMNS, ImportColumn, ImportOptions, column_in, csv_lines,
+    filled_line, form_fault, is_column_named, misquoted_line, named_by,
 };
+use std::alloc::{AllocError, Global};
 
 /// How many bytes of a file are read for a hint.
 const LARGEST_READ: usize = 1_048_576;
@@ -19,12 +22,20 @@ const LARGEST_READ: usize = 1_048_576;
 /// How many faulty rows are shown.
 const FAULTY_ROWS: usize = 3;
 
-/// Says what is wrong with the rows of a file. Their heading is read by these texts HEADING=COLUMN. With the flag, texts
-/// become names.
+/// How the rows of `import` are read, by the options that are given.
+pub fn import_options(asked: &Asked) -> ImportOptions {
+    ImportOptions {
+        fills: asked.has(OptionName::Fill),
+        makes_names: asked.has(OptionName::Names),
+    }
+}
+
+/// Says what is wrong with the rows of a file. Their heading is read by these texts HEADING=COLUMN, and the options say how
+/// rows are read.
 pub fn tell_rows(
     refusal: &CommandRefusal,
     maps: &[&str],
-    makes_names: bool,
+    options: ImportOptions,
     evidence: &RowsEvidence,
     hint: &HintText,
 ) {
@@ -45,7 +56,7 @@ pub fn tell_rows(
             "the heading is missing; it must name the columns group, rate, source, receiver, label, sdi, min_us and max_us",
         ),
         [titles, rows @ ..] => {
-            tell_lines(titles, rows, refusal, maps, makes_names, evidence, hint);
+            tell_lines(titles, rows, refusal, maps, options, evidence, hint);
         }
     }
 }
@@ -56,7 +67,7 @@ fn tell_lines(
     rows: &[CsvLine],
     refusal: &CommandRefusal,
     maps: &[&str],
-    makes_names: bool,
+    options: ImportOptions,
     evidence: &RowsEvidence,
     hint: &HintText,
 ) {
@@ -64,11 +75,15 @@ fn tell_lines(
         return hint.give_up();
     };
     let heading = Heading::of(named);
+    let stated = without_notes(&heading, rows);
+    let Ok(filled) = filled_rows(hint.alloc, options.fills, &heading, stated) else {
+        return hint.give_up();
+    };
     let file = FileRows {
         heading: &heading,
         titles,
-        rows,
-        makes_names,
+        rows: if options.fills { &filled } else { stated },
+        makes_names: options.makes_names,
     };
     match refusal {
         CommandRefusal::Table(kind, place) => tell_imported(file, *kind, *place, hint),
@@ -82,6 +97,41 @@ fn tell_lines(
         CommandRefusal::Csv { line, kind } => tell_faulty_rows(file, *line, *kind, evidence, hint),
         _ => {}
     }
+}
+
+/// The rows above the notes: those up to the last one that has a label; all if none has.
+fn without_notes<'a>(heading: &Heading, rows: &'a [CsvLine]) -> &'a [CsvLine] {
+    for place in (0..rows.len()).rev() {
+        if !heading
+            .field_of(&rows[place], ImportColumn::Label)
+            .is_empty()
+        {
+            return &rows[..place + 1];
+        }
+    }
+    rows
+}
+
+/// Rows, each filled from the one above it; none if they are not filled. Error: an allocation failed.
+fn filled_rows(
+    alloc: Global,
+    fills: bool,
+    heading: &Heading,
+    rows: &[CsvLine],
+) -> Result<Vec<CsvLine>, AllocError> {
+    let mut filled: Vec<CsvLine> = Vec::new(alloc);
+    if !fills {
+        return Ok(filled);
+    }
+    for row in rows {
+        // nothing is above the first row: its empty fields are filled from itself
+        let line = match filled.last() {
+            Some(above) => filled_line(alloc, &heading.line.fields, &above.fields, row)?,
+            None => filled_line(alloc, &heading.line.fields, &row.fields, row)?,
+        };
+        filled.push(line)?;
+    }
+    Ok(filled)
 }
 
 /// Says that a line above the heading is a row of data.
@@ -286,5 +336,14 @@ pub fn tell_short_intervals(group: &str, maps: &[&str], hint: &HintText) {
         " --map \"{..}=min_ms\" --map \"{..}=max_ms\"",
         heading_for(maps, ImportColumn::MinUs),
         heading_for(maps, ImportColumn::MaxUs),
+    );
+}
+
+/// Says how many rows were passed over as notes.
+pub fn tell_notes(count: usize, hint: &HintText) {
+    hint.begin(": ");
+    hint.end_one(
+        "rows at the end without a label, which are passed over as notes: {}",
+        count,
     );
 }

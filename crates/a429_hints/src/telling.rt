@@ -7,7 +7,7 @@ use crate::faults::tell_table_fault;
 use crate::files::{REFUSED_OUTPUT, UTF_16, tell_trouble};
 use crate::findings::{tell_changes, tell_findings};
 use crate::hint::HintText;
-use crate::imports::{tell_rows, tell_short_intervals};
+use crate::imports::{import_options, tell_notes, tell_rows, tell_short_intervals};
 use crate::logs::{tell_close_words, tell_log_line, tell_too_long};
 use crate::mistakes::{tell_habits, tell_nearest_word};
 use crate::plans::{tell_all_unfit, tell_fewer_buses, tell_groups, tell_half_period};
@@ -121,6 +121,7 @@ fn tell_warning(asked: &Asked, warning: &Warning, hint: &HintText) {
         Warning::ShortIntervals(group) => {
             tell_short_intervals(group.as_str(), asked.texts(OptionName::Map), hint);
         }
+        Warning::Notes(count) => tell_notes(*count, hint),
     }
 }
 
@@ -225,7 +226,7 @@ fn tell_of_rows(asked: &Asked, refusal: &CommandRefusal, rows: &RowsEvidence, hi
     tell_rows(
         refusal,
         asked.texts(OptionName::Map),
-        asked.has(OptionName::Names),
+        import_options(asked),
         rows,
         hint,
     );

@@ -1,7 +1,7 @@
 -- The numbers of rows that are imported are in their ranges.
 use Rattle.std.proofs.Common.{◌≡◌, ℕ, ◌^◌, ◌<◌, ◌≤◌, ◌-◌, ◌++◌, ◌∷◌, [], Bool, true, false, List, length, Option, None, Some, Result, Ok, Err, ap, refl, subst, arith, eqb-true, inl, inr, ◌+◌, ◌*◌, drop, take}
 use Rattle.std.specs.Prelude.{IfSome, codes, if◌then◌else◌, nat_le, nat_lt, position, ◌==◌, ◌||◌, ◌&&◌}
-use Rattle.std.specs.Option.{ok_or, option_and_then, option_map}
+use Rattle.std.specs.Option.{ok_or, option_and_then, option_map, option_or}
 use Rattle.std.specs.Str.{bytes_eq}
 use Rattle.std.proofs.lemmas.Bool.{and_parts, leb-true, ltb-true}
 use Rattle.std.proofs.lemmas.Option.{cond_some}
@@ -15,10 +15,10 @@ use Rattle.a429_import.specs.declared.lines.CsvLine.{CsvLine}
 use Rattle.a429_import.specs.declared.rows.ImportRow.{ImportRow}
 use Rattle.a429_import.specs.declared.rows.RowNumbers.{RowNumbers}
 use Rattle.a429_import.specs.declared.rows.RowTexts.{RowTexts}
-use Rattle.a429_import.specs.ImportFields.{if_group, in_32_bits, interval_in, micros_in, is_any, is_bit, is_high, is_low, is_mark, may_be_thousands, label_in, millis_in, number_in, padded, parted_millis, rate_in, sdi_digits, sdi_in, hold_in, together}
+use Rattle.a429_import.specs.ImportFields.{if_group, in_32_bits, interval_in, micros_in, is_any, is_bit, is_high, is_low, is_mark, kilobits_in, may_be_thousands, label_in, millis_in, number_in, padded, parted_millis, rate_in, sdi_digits, sdi_in, hold_in, together, worded_rate}
 use Rattle.a429_import.specs.ImportWords.{unwrapped}
 use Rattle.a429_import.specs.NumberRanges.{AreInRange, HaveRanges}
-use Rattle.a429_import.specs.ImportRows.{◌>>=◌, CsvFault, column_field, is_column_in_millis, names_group, numbers_of, texts_of, joined, row_of, first_clash, agreed, next_row, rows_after, unless_wrong, rows_stated, says_nothing, with_row, wrong_column}
+use Rattle.a429_import.specs.ImportRows.{◌>>=◌, CsvFault, column_field, is_column_in_millis, names_group, numbers_of, texts_of, joined, row_of, first_clash, agreed, next_row, rows_after, unless_wrong, rows_stated, says_nothing, with_row, without_notes, wrong_column}
 
 -- ---- fields
 
@@ -71,15 +71,6 @@ sdi_in_range : (field : List ℕ) (sdi : Option ℕ) → sdi_in field ≡ Some s
 unfolding sdi_in
 sdi_in_range field sdi h = any_or (is_any (unwrapped field)) (unwrapped field) sdi h
 
-words_or : (high low : Bool) (field : List ℕ) (n : ℕ) → (if high then Some 100000 else if low then Some 12500 else number_in field) ≡ Some n → n < 2 ^ 32
-words_or true low field n h = let same : 100000 ≡ n = cc in omega (arith, same)
-words_or false true field n h = let same : 12500 ≡ n = cc in omega (arith, same)
-words_or false false field n h = number_in_range field n h
-
-rate_in_range : (field : List ℕ) (n : ℕ) → rate_in field ≡ Some n → n < 2 ^ 32
-unfolding rate_in
-rate_in_range field n h = words_or (is_high field) (is_low field) field n h
-
 together_in_range : (millis micros : Option ℕ) (n : ℕ) → together millis micros ≡ Some n → n < 2 ^ 32
 together_in_range None micros n h = cc
 together_in_range (Some a) None n h = cc
@@ -99,6 +90,25 @@ millis_or false field place n h = parted_in_range field place n h
 millis_in_range : (separator : ℕ) (field : List ℕ) (n : ℕ) → millis_in separator field ≡ Some n → n < 2 ^ 32
 unfolding millis_in
 millis_in_range separator field n h = millis_or (may_be_thousands separator field) field (position (is_mark separator) field) n h
+
+word_in_range : (high low : Bool) (n : ℕ) → (if high then Some 100000 else if low then Some 12500 else None) ≡ Some n → n < 2 ^ 32
+word_in_range true low n h = let same : 100000 ≡ n = cc in omega (arith, same)
+word_in_range false true n h = let same : 12500 ≡ n = cc in omega (arith, same)
+word_in_range false false n h = cc
+
+either_in_range : (a b : Option ℕ) (n : ℕ) → ((m : ℕ) → a ≡ Some m → m < 2 ^ 32) → ((m : ℕ) → b ≡ Some m → m < 2 ^ 32) → option_or a b ≡ Some n → n < 2 ^ 32
+either_in_range None b n first second h = second n h
+either_in_range (Some m) b n first second h = first n h
+
+kilobits_in_range : (number : Option (List ℕ)) (n : ℕ) → option_and_then (millis_in 44) number ≡ Some n → n < 2 ^ 32
+kilobits_in_range None n h = cc
+kilobits_in_range (Some field) n h = millis_in_range 44 field n h
+
+rate_in_range : (field : List ℕ) (n : ℕ) → rate_in field ≡ Some n → n < 2 ^ 32
+unfolding rate_in
+rate_in_range field n h =
+    either_in_range (number_in field) (option_or (worded_rate field) (kilobits_in field)) n (number_in_range field)
+    (λ m. either_in_range (worded_rate field) (kilobits_in field) m (word_in_range (is_high field) (is_low field)) (kilobits_in_range _)) h
 
 interval_in_range : (in_millis : Bool) (separator : ℕ) (field : List ℕ) (n : ℕ) → interval_in in_millis separator field ≡ Some n → n < 2 ^ 32
 interval_in_range true separator field n h = millis_in_range separator field n h
@@ -224,7 +234,7 @@ after_in_range heading (line ∷ lines) earlier rows all h =
     after_in_range heading lines (with_row earlier next.value) rows (with_one earlier next.value all (next_in_range heading earlier line next.value next.was)) next.gives
 
 below_in_range : (heading : CsvLine) (lines : List CsvLine) (o : Option ImportColumn) (rows : List ImportRow) → unless_wrong heading lines o ≡ Ok rows → HaveRanges rows
-below_in_range heading lines None rows h = after_in_range (fields_of heading.fields) lines [] rows tt h
+below_in_range heading lines None rows h = after_in_range (fields_of heading.fields) (without_notes (fields_of heading.fields) lines) [] rows tt h
 below_in_range heading lines (Some c) rows h = cc
 
 -- the rows that lines state have numbers in range

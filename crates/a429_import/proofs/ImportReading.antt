@@ -1,6 +1,6 @@
 -- What is known of lines, after one more line.
-use Rattle.std.proofs.Common.{◌≡◌, ◌∙◌, ℕ, List, [], ◌∷◌, ◌++◌, Option, None, Some, option_map, Result, Ok, Err, Bool, true, false, ap, append-nil, refl, subst, sym}
-use Rattle.std.specs.Prelude.{filter, is_some}
+use Rattle.std.proofs.Common.{◌≡◌, ◌∙◌, ◌+◌, ◌-◌, ℕ, List, [], ◌∷◌, ◌++◌, Option, None, Some, option_map, Result, Ok, Err, Bool, true, false, ap, append-nil, arith, length, refl, subst, sym}
+use Rattle.std.specs.Prelude.{filter, is_some, vec_len}
 use Rattle.std.specs.Result.{result_err, result_ok}
 use Rattle.csv.specs.Records.{fields_of}
 use Rattle.a429_import.specs.declared.columns.Heading.{Heading}
@@ -10,44 +10,26 @@ use Rattle.a429_import.specs.declared.fault.ImportColumn.TheVariants.{Group}
 use Rattle.a429_import.specs.declared.fault.ImportFault.{ImportFault}
 use Rattle.a429_import.specs.declared.fault.ImportFault.TheVariants.{NoMemory, Csv, Wide, Table}
 use Rattle.a429_import.specs.declared.lines.CsvLine.{CsvLine}
+use Rattle.a429_import.specs.declared.notes.Notes.{Notes}
 use Rattle.a429_import.specs.declared.reading.LinesRead.{LinesRead}
+use Rattle.a429_import.specs.declared.reading.RowsRead.{RowsRead}
 use Rattle.a429_import.specs.declared.rows.ImportRow.{ImportRow}
-use Rattle.a429_import.specs.ImportClashes.{Agree}
-use Rattle.a429_import.specs.ImportReading.{AreRead, HasRows, HaveFault, HaveRows, IsHeadingOf, IsTaken, SayRows, with_line}
-use Rattle.a429_import.specs.ImportRows.{◌>>=◌, CsvFault, next_row, rows_after, rows_stated, unless_wrong, with_row, wrong_column}
+use Rattle.a429_import.specs.ImportReading.{AreBelow, AreRead, AreTaken, HasNoRow, HasRows, HaveFault, HaveRows, IsHeadingOf, IsHeld}
+use Rattle.a429_import.specs.ImportRows.{CsvFault, note_count, rows_after, rows_stated, unless_wrong, without_notes, wrong_column}
 use Rattle.a429_import.specs.Imports.{IsImportOf, States, has_text}
+use Rattle.a429_import.proofs.ImportNotes.{still_refused}
 
 -- a result that succeeds
 pub ok_is : {A E : Type 0} (r : Result A E) (a : A) → Some a ≡ result_ok r → r ≡ Ok a
 ok_is (Ok x) a h = let same : x ≡ a = cc in ap (λ y. Ok y) same
 ok_is (Err e) a h = cc
 
--- ---- the rows of lines, after one more line
-
-pub line_refused : {X : Type 0} (view : X → List ImportRow) (heading : List (List ℕ)) (earlier : List ImportRow) (line : CsvLine) (e : ImportFault)
-    → States {X = ImportRow} (λ row. row) (Err e) (next_row heading earlier line) → States view (Err e) (with_line heading earlier line)
-line_refused view heading earlier line NoMemory h = tt
-line_refused view heading earlier line (Csv number kind column) h = ap (λ (r : Result ImportRow CsvFault). r >>= λ row. Ok (with_row earlier row)) h
-line_refused view heading earlier line (Wide number) h = absurd h
-line_refused view heading earlier line (Table f) h = absurd h
-
-after_both : {A B C E : Type 0} (r : Result A E) (f : A → Result C E) (g : A → Result B E) (h : B → Result C E) → ((a : A) → f a ≡ (g a >>= h)) → (r >>= f) ≡ ((r >>= g) >>= h)
-after_both (Ok a) f g h each = each a
-after_both (Err e) f g h each = refl
-
-pub rows_after-push : (heading : List (List ℕ)) (earlier : List ImportRow) (lines : List CsvLine) (line : CsvLine)
-    → rows_after heading earlier (lines ++ line ∷ []) ≡ (rows_after heading earlier lines >>= λ rows. with_line heading rows line)
-rows_after-push heading earlier [] line = refl
-rows_after-push heading earlier (l ∷ lines) line =
-    after_both (next_row heading earlier l) (λ row. rows_after heading (with_row earlier row) (lines ++ line ∷ [])) (λ row. rows_after heading (with_row earlier row) lines) (λ rows. with_line heading rows line)
-    (λ row. rows_after-push heading (with_row earlier row) lines line)
-
 -- ---- a fault stays
 
 refused_stays : (heading : CsvLine) (below : List CsvLine) (line : CsvLine) (wrong : Option ImportColumn) (f : CsvFault)
     → unless_wrong heading below wrong ≡ Err f → unless_wrong heading (below ++ line ∷ []) wrong ≡ Err f
 refused_stays heading below line None f h =
-    rows_after-push (fields_of heading.fields) [] below line ∙ ap (λ (r : Result (List ImportRow) CsvFault). r >>= λ rows. with_line (fields_of heading.fields) rows line) h
+    still_refused (fields_of heading.fields) below line f h
 refused_stays heading below line (Some column) f h = h
 
 pub fault_stays : (e : ImportFault) (lines : List CsvLine) (line : CsvLine) → HaveFault e lines → HaveFault e (lines ++ line ∷ [])
@@ -63,60 +45,62 @@ fault_stays (Table f) (heading ∷ below) line h = absurd h
 abbrev fault_of : ℕ → Option ImportColumn → Option ImportFault
 fault_of number o = option_map (λ column. Csv number Column (Some column)) o
 
+none_below : (heading : List (List ℕ)) (read : RowsRead) (notes : Notes) → HasRows read [] → HasNoRow notes → AreBelow heading [] read notes
+none_below heading read notes empty none =
+    let nothing : List ImportRow = [] in
+    let stated : rows_after heading [] [] ≡ Ok nothing = refl in
+    let count = none.count in
+    let sum : 0 + vec_len notes.rows ≡ 0 = omega (arith, count) in
+    record {
+      rows = [];
+      stated = stated;
+      held = subst (λ o. IsHeld o nothing (rows_after heading [] [])) (sym none.held) stated;
+      labelled = none.labelled;
+      count = sum;
+      agree = tt;
+      has = empty;
+    }
+
 heading_by : (new : LinesRead) (heading : Heading) (wrong : Option ImportColumn) → wrong_column (fields_of heading.line.fields) ≡ wrong → new.heading ≡ Some heading → HasRows new.rows []
-    → AreRead (fault_of heading.line.number wrong) new (heading.line ∷ [])
+    → HasNoRow new.notes → AreRead (fault_of heading.line.number wrong) new (heading.line ∷ [])
 unfolding rows_stated
-heading_by new heading None is headed empty =
+heading_by new heading None is headed empty none =
     let P : Option Heading → Type 0 = λ o. HaveRows o new (heading.line ∷ []) in
-    subst P (sym headed) ([], refl, record { named = is; rows = []; stated = refl; agree = tt; has = empty })
-heading_by new heading (Some column) is headed empty = ap (unless_wrong heading.line []) is
+    subst P (sym headed) ([], refl, record { named = is; are = none_below (fields_of heading.line.fields) new.rows new.notes empty none })
+heading_by new heading (Some column) is headed empty none = ap (unless_wrong heading.line []) is
 
 heading_only : (old new : LinesRead) (heading : Heading) (lines : List CsvLine) (fault : Option ImportFault) → HaveRows None old lines → new.heading ≡ Some heading → new.rows ≡ old.rows
-    → fault ≡ fault_of heading.line.number (wrong_column (fields_of heading.line.fields)) → AreRead fault new (lines ++ heading.line ∷ [])
-heading_only old new heading lines fault known headed rows is =
+    → new.notes ≡ old.notes → fault ≡ fault_of heading.line.number (wrong_column (fields_of heading.line.fields)) → AreRead fault new (lines ++ heading.line ∷ [])
+heading_only old new heading lines fault known headed rows notes is =
     let empty : HasRows new.rows [] = subst (λ r. HasRows r []) (sym rows) known.1 in
+    let none : HasNoRow new.notes = subst HasNoRow (sym notes) known.2 in
     let P : Option ImportFault → Type 0 = λ f. AreRead f new (heading.line ∷ []) in
-    subst (λ ls. AreRead fault new (ls ++ heading.line ∷ [])) (sym known.0) (subst P (sym is) (heading_by new heading (wrong_column (fields_of heading.line.fields)) refl headed empty))
+    subst (λ ls. AreRead fault new (ls ++ heading.line ∷ [])) (sym known.0) (subst P (sym is) (heading_by new heading (wrong_column (fields_of heading.line.fields)) refl headed empty none))
 
 pub heading_read : (old new : LinesRead) (heading : Heading) (line : CsvLine) (lines : List CsvLine) (fault : Option ImportFault) → HaveRows None old lines → new.heading ≡ Some heading → heading.line ≡ line
-    → new.rows ≡ old.rows → fault ≡ fault_of line.number (wrong_column (fields_of line.fields)) → AreRead fault new (lines ++ line ∷ [])
-heading_read old new heading line lines fault known headed of rows is =
+    → new.rows ≡ old.rows → new.notes ≡ old.notes → fault ≡ fault_of line.number (wrong_column (fields_of line.fields)) → AreRead fault new (lines ++ line ∷ [])
+heading_read old new heading line lines fault known headed of rows notes is =
     subst (λ (l : CsvLine). AreRead fault new (lines ++ l ∷ [])) of
-    (heading_only old new heading lines fault known headed rows (is ∙ ap (λ (l : CsvLine). fault_of l.number (wrong_column (fields_of l.fields))) (sym of)))
+    (heading_only old new heading lines fault known headed rows notes (is ∙ ap (λ (l : CsvLine). fault_of l.number (wrong_column (fields_of l.fields))) (sym of)))
 
 -- ---- a row
 
-module _ (heading : CsvLine) (below : List CsvLine) (old : LinesRead) (line : CsvLine) (known : SayRows heading below old) where
-  stated : rows_stated (heading ∷ below ++ line ∷ []) ≡ with_line (fields_of heading.fields) known.rows line
-  unfolding rows_stated
-  stated =
-      ap (unless_wrong heading (below ++ line ∷ [])) known.named ∙ rows_after-push (fields_of heading.fields) [] below line
-      ∙ ap (λ (r : Result (List ImportRow) CsvFault). r >>= λ rows. with_line (fields_of heading.fields) rows line) known.stated
-
-  -- a row without a fault
-  row_said : (new : LinesRead) (rows : List ImportRow) → with_line (fields_of heading.fields) known.rows line ≡ Ok rows → Agree rows → HasRows new.rows rows → SayRows heading (below ++ line ∷ []) new
-  row_said new rows is agree has = record {
-    named = known.named;
-    rows = rows;
-    stated = rows_after-push (fields_of heading.fields) [] below line ∙ ap (λ (r : Result (List ImportRow) CsvFault). r >>= λ rows. with_line (fields_of heading.fields) rows line) known.stated ∙ is;
-    agree = agree;
-    has = has;
-  }
-
-  row_refused : (e : ImportFault) → States {X = List ImportRow} (λ rows. rows) (Err e) (with_line (fields_of heading.fields) known.rows line) → HaveFault e (heading ∷ below ++ line ∷ [])
-  row_refused NoMemory h = tt
-  row_refused (Csv number kind column) h = stated ∙ h
-  row_refused (Wide number) h = absurd h
-  row_refused (Table f) h = absurd h
+below_refused : (heading : CsvLine) (below : List CsvLine) (e : ImportFault) → wrong_column (fields_of heading.fields) ≡ None
+    → States {X = List ImportRow} (λ rows. rows) (Err e) (rows_after (fields_of heading.fields) [] (without_notes (fields_of heading.fields) below)) → HaveFault e (heading ∷ below)
+unfolding rows_stated
+below_refused heading below NoMemory named h = tt
+below_refused heading below (Csv number kind column) named h = ap (unless_wrong heading below) named ∙ h
+below_refused heading below (Wide number) named h = absurd h
+below_refused heading below (Table f) named h = absurd h
 
 -- one more line, which may have a fault
 pub line_read : (heading : Heading) (old new : LinesRead) (line : CsvLine) (lines : List CsvLine) (result : Result (Unit {0}) ImportFault) (known : HaveRows (Some heading) old lines) → new.heading ≡ Some heading
-    → IsTaken result new.rows (with_line (fields_of heading.line.fields) known.2.rows line) → AreRead (result_err result) new (lines ++ line ∷ [])
-line_read heading old new line lines (Ok u) known headed (rows, is, agree, has) =
+    → AreTaken result (fields_of heading.line.fields) (known.0 ++ line ∷ []) new.rows new.notes → AreRead (result_err result) new (lines ++ line ∷ [])
+line_read heading old new line lines (Ok u) known headed are =
     let P : Option Heading → Type 0 = λ o. HaveRows o new (heading.line ∷ known.0 ++ line ∷ []) in
-    subst (λ ls. AreRead None new (ls ++ line ∷ [])) (sym known.1) (subst P (sym headed) (known.0 ++ line ∷ [], refl, row_said heading.line known.0 old line known.2 new rows is agree has))
+    subst (λ ls. AreRead None new (ls ++ line ∷ [])) (sym known.1) (subst P (sym headed) (known.0 ++ line ∷ [], refl, record { named = known.2.named; are = are }))
 line_read heading old new line lines (Err e) known headed is =
-    subst (λ ls. HaveFault e (ls ++ line ∷ [])) (sym known.1) (row_refused heading.line known.0 old line known.2 e is)
+    subst (λ ls. HaveFault e (ls ++ line ∷ [])) (sym known.1) (below_refused heading.line (known.0 ++ line ∷ []) e known.2.named is)
 
 -- lines after one with a fault
 pub line_skipped : (fault : Option ImportFault) (old new : LinesRead) (lines : List CsvLine) (line : CsvLine) → is_some fault ≡ true → AreRead fault old lines → AreRead fault new (lines ++ line ∷ [])
@@ -151,15 +135,20 @@ no_lines read lines e known is =
     let empty : IsImportOf none (Err (Csv 1 Column (Some Group))) = refl in
     subst (λ ls. IsImportOf ls (Err e)) (sym known.0) (subst (λ (x : ImportFault). IsImportOf none (Err x)) (sym is) empty)
 
-pub rows_read : (heading : Heading) (read : LinesRead) (lines : List CsvLine) (known : HaveRows (Some heading) read lines) → rows_stated lines ≡ Ok known.2.rows
+pub rows_read : (heading : Heading) (read : LinesRead) (lines : List CsvLine) (known : HaveRows (Some heading) read lines) → rows_stated lines ≡ Ok known.2.are.rows
 unfolding rows_stated
-rows_read heading read lines known = ap rows_stated known.1 ∙ ap (unless_wrong heading.line known.0) known.2.named ∙ known.2.stated
+rows_read heading read lines known = ap rows_stated known.1 ∙ ap (unless_wrong heading.line known.0) known.2.named ∙ known.2.are.stated
+
+pub notes_read : (heading : Heading) (read : LinesRead) (lines : List CsvLine) (known : HaveRows (Some heading) read lines) → vec_len read.notes.rows ≡ note_count lines
+notes_read heading read lines known =
+    let count = known.2.are.count in
+    let gap : vec_len read.notes.rows ≡ length known.0 - length (without_notes (fields_of heading.line.fields) known.0) = omega (arith, count) in
+    gap ∙ sym (ap note_count known.1)
 
 -- the fault makes no difference
 pub other_fault : (heading : Option Heading) (read : LinesRead) (fault : Option ImportFault) (lines : List CsvLine) → HaveRows heading read lines → HaveRows heading (record read { fault = fault }) lines
 other_fault None read fault lines known = known
-other_fault (Some heading) read fault lines known =
-    (known.0, known.1, record { named = known.2.named; rows = known.2.rows; stated = known.2.stated; agree = known.2.agree; has = known.2.has })
+other_fault (Some heading) read fault lines known = (known.0, known.1, record { named = known.2.named; are = known.2.are })
 
 -- ---- rows of empty fields
 

@@ -1,7 +1,8 @@
 -- What is imported from lines.
-use Rattle.std.proofs.Common.{◌≡◌, ◌∙◌, ℕ, Bool, true, false, List, [], ◌∷◌, Option, None, Some, Vec, Global, Result, Ok, Err, ap, ap₂, refl, subst, sym}
+use Rattle.std.proofs.Common.{◌≡◌, ◌∙◌, ℕ, Bool, true, false, List, [], ◌∷◌, Option, None, Some, Result, Ok, Err, ap, ap₂, refl, subst, sym}
 use Rattle.std.specs.Prelude.{◌||◌}
 use Rattle.std.specs.Str.{IsUtf8}
+use Rattle.csv.specs.Records.{fields_of}
 use Rattle.toml.specs.Data.{Data, table}
 use Rattle.toml.specs.Parse.{parse_document}
 use Rattle.a429_equipment.specs.TableRecord.{TableRecord}
@@ -18,21 +19,26 @@ use Rattle.a429_import.specs.declared.fault.CsvFaultKind.TheVariants.{Form}
 use Rattle.a429_import.specs.declared.fault.ImportColumn.{ImportColumn}
 use Rattle.a429_import.specs.declared.fault.ImportFault.{ImportFault}
 use Rattle.a429_import.specs.declared.fault.ImportFault.TheVariants.{NoMemory, Csv, Wide, Table}
+use Rattle.a429_import.specs.declared.filled_reading.SheetRead.{SheetRead}
+use Rattle.a429_import.specs.declared.import.Imported.{Imported}
+use Rattle.a429_import.specs.declared.import.ImportOptions.{ImportOptions}
 use Rattle.a429_import.specs.declared.lines.CsvLine.{CsvLine}
 use Rattle.a429_import.specs.declared.reading.LinesRead.{LinesRead}
 use Rattle.a429_import.specs.declared.rows.ImportRow.{ImportRow}
 use Rattle.a429_import.specs.ImportAbove.{has_data_above}
+use Rattle.a429_import.specs.FilledReading.{IsReadFilled, IsReadIf}
 use Rattle.a429_import.specs.ImportFaults.{of_table}
 use Rattle.a429_import.specs.ImportForms.{from_heading, separator_in}
 use Rattle.a429_import.specs.ImportQuotes.{has_wrong_quotes}
-use Rattle.a429_import.specs.ImportRows.{rows_stated}
+use Rattle.a429_import.specs.ImportRows.{note_count, rows_stated}
 use Rattle.a429_import.specs.ImportTables.{record_stated, root_members}
-use Rattle.a429_import.specs.Imports.{AreNamedLines, IsImport, IsImportBy, IsImportFrom, IsImportIf, IsImportOf, IsTableBy, IsTableOf, IsTextFault, has_row_above, has_wide_rows, is_misquoted_text, is_wide_text, separated}
+use Rattle.a429_import.specs.Imports.{AreNamedLines, IsFilledImport, IsImport, IsImportBy, IsImportFrom, IsImportIf, IsImportOf, IsTableBy, IsTableOf, IsTextFault, has_row_above, has_wide_rows, is_misquoted_text, is_wide_text, separated}
 use Rattle.a429_import.specs.ImportReading.{HaveFault, StandsFor}
 use Rattle.a429_import.specs.NumberRanges.{HaveRanges}
 use Rattle.a429_import.specs.RenamedReading.{IsReadBy}
 use Rattle.a429_import.proofs.ImportRecords.{tree_states}
-use Rattle.a429_import.proofs.RenamedReading.{keyed_of}
+use Rattle.a429_import.proofs.FilledLines.{filled_of}
+use Rattle.a429_import.proofs.RenamedReading.{keyed_of, lines_of}
 
 -- bytes whose document is a root table are read as that is judged
 reading_is : (bytes : List ℕ) (root : Data) → document bytes ≡ Some root → reading bytes ≡ judged root (faults root)
@@ -74,18 +80,22 @@ module _ (rows : List ImportRow) (ranges : HaveRanges rows) (bytes : List ℕ) (
 -- ---- of lines
 
 -- the table of the rows that lines state
-pub table_import : (makes_names : Bool) (lines : List CsvLine) (rows : List ImportRow) (result : Result (Vec ℕ Global) ImportFault) → rows_stated lines ≡ Ok rows → IsTableBy makes_names rows result → IsImportFrom makes_names lines result
-table_import false lines rows (Ok text) are h = (rows, are, h)
-table_import false lines rows (Err NoMemory) are h = tt
-table_import false lines rows (Err (Csv line kind column)) are h = absurd h
-table_import false lines rows (Err (Wide line)) are h = absurd h
-table_import false lines rows (Err (Table fault.NoMemory)) are h = absurd h
-table_import false lines rows (Err (Table (fault.At kind place))) are h = (rows, are, h)
-table_import true lines rows (Ok text) are h = (rows, are, h)
-table_import true lines rows (Err NoMemory) are h = tt
-table_import true lines rows (Err (Csv line kind column)) are h = absurd h
-table_import true lines rows (Err (Wide line)) are h = absurd h
-table_import true lines rows (Err (Table f)) are h = (rows, are, h)
+pub table_import : (makes_names : Bool) (lines : List CsvLine) (rows : List ImportRow) (imported : Imported) → rows_stated lines ≡ Ok rows → imported.notes ≡ note_count lines
+    → IsTableBy makes_names rows (Ok imported.text) → IsImportFrom makes_names lines (Ok imported)
+table_import false lines rows imported are count h = (rows, are, h, count)
+table_import true lines rows imported are count h = (rows, are, h, count)
+
+-- the fault of that table
+pub table_fault : (makes_names : Bool) (lines : List CsvLine) (rows : List ImportRow) (e : ImportFault) → rows_stated lines ≡ Ok rows → IsTableBy makes_names rows (Err e) → IsImportFrom makes_names lines (Err e)
+table_fault false lines rows NoMemory are h = tt
+table_fault false lines rows (Csv line kind column) are h = absurd h
+table_fault false lines rows (Wide line) are h = absurd h
+table_fault false lines rows (Table fault.NoMemory) are h = absurd h
+table_fault false lines rows (Table (fault.At kind place)) are h = (rows, are, h)
+table_fault true lines rows NoMemory are h = tt
+table_fault true lines rows (Csv line kind column) are h = absurd h
+table_fault true lines rows (Wide line) are h = absurd h
+table_fault true lines rows (Table f) are h = (rows, are, h)
 
 -- the fault of lines
 pub fault_import : (makes_names : Bool) (lines : List CsvLine) (e : ImportFault) → HaveFault e lines → IsImportFrom makes_names lines (Err e)
@@ -105,10 +115,31 @@ no_import false lines line kind column h = h
 no_import true lines line kind column h = h
 
 -- lines with keys of sources
-pub import_by : (makes_names : Bool) (read : LinesRead) (lines : List CsvLine) (result : Result (Vec ℕ Global) ImportFault) → IsReadBy makes_names read lines
+pub import_by : (makes_names : Bool) (read : LinesRead) (lines : List CsvLine) (result : Result Imported ImportFault) → IsReadBy makes_names read lines
     → ((all : List CsvLine) → StandsFor read all → IsImportFrom makes_names all result) → IsImportBy makes_names lines result
 import_by false read lines result known is = is lines known
 import_by true read lines result known is = let keyed = keyed_of read.heading read lines known in (keyed.0, keyed.1, is keyed.0 keyed.2)
+
+-- lines whose empty fields are filled
+pub import_filled : (options : ImportOptions) (read : SheetRead) (lines : List CsvLine) (result : Result Imported ImportFault) → IsReadFilled options read lines
+    → ((all : List CsvLine) → StandsFor read.lines all → IsImportFrom options.makes_names all result) → IsFilledImport options.fills options.makes_names lines result
+import_filled options read lines result known is = by options.fills known
+  where
+    by : (fills : Bool) → IsReadIf fills read.filler options.makes_names read.lines lines → IsFilledImport fills options.makes_names lines result
+    by false known = import_by options.makes_names read.lines lines result known is
+    by true known =
+        let filled = filled_of read.filler.heading (fields_of read.filler.above) options.makes_names read.lines lines known in
+        (filled.0, filled.1, import_by options.makes_names read.lines filled.0 result filled.2 is)
+
+-- what lines are read as
+pub filled_lines_of : (options : ImportOptions) (read : SheetRead) (lines : List CsvLine) → IsReadFilled options read lines → (all : List CsvLine) × StandsFor read.lines all
+filled_lines_of options read lines known = by options.fills known
+  where
+    by : (fills : Bool) → IsReadIf fills read.filler options.makes_names read.lines lines → (all : List CsvLine) × StandsFor read.lines all
+    by false known = lines_of options.makes_names read.lines lines known
+    by true known =
+        let filled = filled_of read.filler.heading (fields_of read.filler.above) options.makes_names read.lines lines known in
+        lines_of options.makes_names read.lines filled.0 filled.2
 
 -- ---- of a text
 
@@ -123,32 +154,34 @@ module _ (maps : List (List ℕ)) (text : List ℕ) (separator : ℕ) (rest : Li
   pub unfit_by : (unfit : Bool) → unfit ≡ (has_wrong_quotes (separated separator) rest text || has_data_above (separated separator) maps rest text) → (is_misquoted_text maps text || has_row_above maps text) ≡ unfit
   unfit_by unfit same = by_form (λ s xs. has_wrong_quotes (separated s) xs text || has_data_above (separated s) maps xs text) unfit same
 
-by_wide : (makes_names : Bool) (lines : List CsvLine) (line : ℕ) → IsImportBy makes_names lines (Err (Wide line)) → ⊥
-by_wide false lines line h = h
-by_wide true lines line h = h.2
+by_wide : (fills makes_names : Bool) (lines : List CsvLine) (line : ℕ) → IsFilledImport fills makes_names lines (Err (Wide line)) → ⊥
+by_wide false false lines line h = h
+by_wide false true lines line h = h.2
+by_wide true false lines line h = h.2
+by_wide true true lines line h = h.2.2
 
 -- the rest of what is imported, if no fault comes before those of the rows
-module _ (maps : List (List ℕ)) (makes_names : Bool) (text : List ℕ) where
+module _ (maps : List (List ℕ)) (options : ImportOptions) (text : List ℕ) where
   abbrev is_unfit : Bool
   is_unfit = is_misquoted_text maps text || has_row_above maps text
 
-  of_rows : (lines : List CsvLine) (result : Result (Vec ℕ Global) ImportFault) → is_unfit ≡ false → AreNamedLines maps text lines → IsImportBy makes_names lines result → IsImportIf is_unfit maps makes_names text result
-  of_rows lines result fit are h = subst (λ (b : Bool). IsImportIf b maps makes_names text result) (sym fit) (lines, are, h)
+  of_rows : (lines : List CsvLine) (result : Result Imported ImportFault) → is_unfit ≡ false → AreNamedLines maps text lines → IsFilledImport options.fills options.makes_names lines result → IsImportIf is_unfit maps options text result
+  of_rows lines result fit are h = subst (λ (b : Bool). IsImportIf b maps options text result) (sym fit) (lines, are, h)
 
-  pub import_of : (lines : List CsvLine) (result : Result (Vec ℕ Global) ImportFault) → IsTextFault maps text None → AreNamedLines maps text lines → IsImportBy makes_names lines result → IsImport maps makes_names text result
+  pub import_of : (lines : List CsvLine) (result : Result Imported ImportFault) → IsTextFault maps text None → AreNamedLines maps text lines → IsFilledImport options.fills options.makes_names lines result → IsImport maps options text result
   import_of lines (Ok bytes) (narrow, fit) are h = (narrow, of_rows lines (Ok bytes) fit are h)
   import_of lines (Err NoMemory) (narrow, fit) are h = tt
   import_of lines (Err (Csv line kind column)) (narrow, fit) are h = (narrow, of_rows lines (Err (Csv line kind column)) fit are h)
-  import_of lines (Err (Wide line)) (narrow, fit) are h = absurd (by_wide makes_names lines line h)
+  import_of lines (Err (Wide line)) (narrow, fit) are h = absurd (by_wide options.fills options.makes_names lines line h)
   import_of lines (Err (Table f)) (narrow, fit) are h = (narrow, of_rows lines (Err (Table f)) fit are h)
 
   -- a text whose quotes are wrong, or with a row of data above its heading
-  unfit_import : (line : ℕ) → is_wide_text maps text ≡ false → is_unfit ≡ true → IsImport maps makes_names text (Err (Csv line Form None))
+  unfit_import : (line : ℕ) → is_wide_text maps text ≡ false → is_unfit ≡ true → IsImport maps options text (Err (Csv line Form None))
   unfit_import line narrow unfit =
-      let fault : Result (Vec ℕ Global) ImportFault = Err (Csv line Form None) in
-      (narrow, subst (λ (b : Bool). IsImportIf b maps makes_names text fault) (sym unfit) (line, refl))
+      let fault : Result Imported ImportFault = Err (Csv line Form None) in
+      (narrow, subst (λ (b : Bool). IsImportIf b maps options text fault) (sym unfit) (line, refl))
 
 -- the fault of such a text
 pub unfit_fault : (maps : List (List ℕ)) (text : List ℕ) (line : ℕ) (fault : ImportFault) → is_wide_text maps text ≡ false → (is_misquoted_text maps text || has_row_above maps text) ≡ true → fault ≡ Csv line Form None
     → IsTextFault maps text (Some fault)
-unfit_fault maps text line fault narrow unfit is = λ makes_names. subst (λ (f : ImportFault). IsImport maps makes_names text (Err f)) (sym is) (unfit_import maps makes_names text line narrow unfit)
+unfit_fault maps text line fault narrow unfit is = λ options. subst (λ (f : ImportFault). IsImport maps options text (Err f)) (sym is) (unfit_import maps options text line narrow unfit)

@@ -7,6 +7,9 @@ pub mod RowsInRecord
 pub mod FirstRows
 pub mod ImportClashes
 pub mod ImportLimits
+pub mod ImportRows
+mod UntilLast
+pub mod ImportNotes
 pub mod ImportReading
 pub mod FirstPlaces
 pub mod NameChains
@@ -26,6 +29,7 @@ pub mod WrittenQuotes
 mod PartsOfText
 mod ImportMaps
 pub mod KeyedLines
+pub mod FilledLines
 pub mod ChosenNames
 mod NamesApart
 pub mod RenamedReading

@@ -19,7 +19,7 @@ use Rattle.a429_import.specs.declared.firsts.Part.{Part}
 use Rattle.a429_import.specs.declared.firsts.Part.TheVariants.{Receivers, Sources, Groups}
 use Rattle.a429_import.specs.declared.lines.CsvLine.{CsvLine}
 use Rattle.a429_import.specs.declared.rows.ImportRow.{ImportRow}
-use Rattle.a429_import.specs.ImportRows.{agreed, clash, first_clash, next_row, other_clash, row_of, rows_after, rows_stated, says_nothing, source_clash, unless_wrong, with_row, wrong_column}
+use Rattle.a429_import.specs.ImportRows.{agreed, clash, first_clash, next_row, other_clash, row_of, rows_after, rows_stated, says_nothing, source_clash, unless_wrong, with_row, without_notes, wrong_column}
 use Rattle.a429_import.specs.ImportTables.{filters_stated, firsts, firsts_after, group_stated, groups_of, has_group, is_known, name_in, number_of, output_stated, outputs_stated, receiver_stated, record_stated, rows_of_group, same_name, source_stated, words}
 use Rattle.a429_import.specs.ImportedRows.{HasOutputOfRow, HasSourceOfRow, IsInRecord, IsOutputOfRow, RowsAreInRecord}
 use Rattle.a429_import.proofs.ImportRanges.{bound, same_ok}
@@ -191,7 +191,7 @@ none_agree : AllAgree []
 none_agree i j a b at_i at_j = cc
 
 below_agree : (heading : CsvLine) (lines : List CsvLine) (o : Option ImportColumn) (rows : List ImportRow) → unless_wrong heading lines o ≡ Ok rows → AllAgree rows
-below_agree heading lines None rows h = after_agree (fields_of heading.fields) lines [] rows none_agree h
+below_agree heading lines None rows h = after_agree (fields_of heading.fields) (without_notes (fields_of heading.fields) lines) [] rows none_agree h
 below_agree heading lines (Some c) rows h = cc
 
 stated_agree : (lines : List CsvLine) (rows : List ImportRow) → rows_stated lines ≡ Ok rows → AllAgree rows

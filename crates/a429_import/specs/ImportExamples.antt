@@ -1,14 +1,15 @@
 -- What some fields and headings state, as programs write them (profile: import).
-use Rattle.std.specs.Prelude.{◌≡◌, ℕ, codes, true, false, List, [], ◌∷◌, ◌++◌, None, Some, Ok, Err}
+use Rattle.std.specs.Prelude.{◌≡◌, ℕ, Bool, codes, length, nat_lt, true, false, List, [], ◌∷◌, ◌++◌, None, Some, Ok, Err}
 use Rattle.a429_import.specs.declared.fault.ImportColumn.TheVariants.{MaxUs, MinUs, Rate}
 use Rattle.a429_import.specs.declared.firsts.Part.TheVariants.{Receivers, Sources, Groups}
 use Rattle.a429_import.specs.declared.rows.ImportRow.{ImportRow}
 use Rattle.a429_import.specs.declared.rows.RowNumbers.{RowNumbers}
+use Rattle.a429_import.specs.FilledLines.{filled_from}
 use Rattle.a429_import.specs.ImportFields.{label_in, millis_in, rate_in, sdi_in}
 use Rattle.a429_import.specs.ImportForms.{heading_of}
 use Rattle.a429_import.specs.ImportMaps.{mapped, names_by}
 use Rattle.a429_import.specs.Imports.{has_row_above, is_misquoted_text}
-use Rattle.a429_import.specs.ImportRows.{is_in_millis, is_named, numbers_of}
+use Rattle.a429_import.specs.ImportRows.{is_in_millis, is_named, numbers_of, until_last_or_all}
 use Rattle.a429_import.specs.KeyedLines.{end_in, key_end, keyed_fields}
 use Rattle.a429_import.specs.MadeNames.{in_room_or, label_end, made_name, numbered_name}
 use Rattle.a429_import.specs.Renamed.{names_in}
@@ -18,6 +19,11 @@ pub record ReadsFields : Type 0 where
   pub high : rate_in (codes "HS") ≡ Some 100000
   pub low : rate_in (codes "Low") ≡ Some 12500
   pub number : rate_in (codes "12500") ≡ Some 12500
+  pub speed : rate_in (codes "High Speed") ≡ Some 100000
+  pub kilobits : rate_in (codes "12.5 kbit/s") ≡ Some 12500
+  pub no_space : rate_in (codes "100KBPS") ≡ Some 100000
+  pub no_unit : rate_in (codes "12.5") ≡ None
+  pub no_number : rate_in (codes "12,500") ≡ None
   pub lost_zeros : label_in (codes "3") ≡ Some 3
   pub kept_zeros : label_in (codes "=\"003\"") ≡ Some 3
   pub octal : label_in (codes "203") ≡ Some 131
@@ -143,3 +149,19 @@ pub record ReadsAbove : Type 0 where
   pub more : has_row_above [] (codes "alt,203,\nsource,label\n") ≡ false
   pub below : has_row_above [] (codes "source,label\nalt,203\n") ≡ false
   pub no_heading : has_row_above [] (codes "alt,203\nsource\n") ≡ false
+
+-- labels of rows: those below the last one are of notes, an empty one above another is not, and without a label none is a note
+abbrev pub has_text_in : List ℕ → Bool
+has_text_in label = nat_lt 0 (length label)
+
+pub record PassesNotes : Type 0 where
+  pub notes : until_last_or_all has_text_in (codes "203" ∷ codes "204" ∷ [] ∷ [] ∷ []) ≡ codes "203" ∷ codes "204" ∷ []
+  pub gap : until_last_or_all has_text_in (codes "203" ∷ [] ∷ codes "204" ∷ [] ∷ []) ≡ codes "203" ∷ [] ∷ codes "204" ∷ []
+  pub none : until_last_or_all has_text_in ([] ∷ [] ∷ []) ≡ [] ∷ [] ∷ []
+
+-- a row below one of the group `main` at HS, filled: a group, a bit rate and a receiver, but no source
+pub record FillsFields : Type 0 where
+  pub empty : filled_from 0 needed_columns (row_of_alt (codes "main") (codes "HS") [] []) (row_of_alt [] [] [] []) ≡ row_of_alt (codes "main") (codes "HS") [] []
+  pub stated : filled_from 0 needed_columns (row_of_alt (codes "main") (codes "HS") [] []) (row_of_alt (codes "aux") [] [] []) ≡ row_of_alt (codes "aux") (codes "HS") [] []
+  pub other : filled_from 0 (codes "source" ∷ codes "Receiver" ∷ []) (codes "alt" ∷ codes "adc-1" ∷ []) ([] ∷ [] ∷ []) ≡ [] ∷ codes "adc-1" ∷ []
+  pub first : filled_from 0 needed_columns [] (row_of_alt [] [] [] []) ≡ row_of_alt [] [] [] []

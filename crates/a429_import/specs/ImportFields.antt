@@ -2,7 +2,7 @@
 use Rattle.std.specs.Prelude.{ℕ, ◌^◌, ◌+◌, ◌*◌, ◌-◌, ◌==◌, ◌&&◌, ◌||◌, List, [], ◌∷◌, Bool, true, false, not, Option, None, Some, codes, drop, if◌then◌else◌, is_some, length, nat_le, nat_lt, position, slice_get, slice_index_or, take}
 use Rattle.std.specs.Char.{is_ascii_digit}
 use Rattle.std.specs.List.{list_all, slice_split}
-use Rattle.std.specs.Option.{option_and_then, option_map}
+use Rattle.std.specs.Option.{option_and_then, option_map, option_or}
 use Rattle.std.specs.Str.{bytes_eq, is_utf8}
 use Rattle.a429_word.specs.Decimal.{decimal_number}
 use Rattle.a429_word.specs.Texts.{label_value}
@@ -20,17 +20,6 @@ in_32_bits n = if nat_lt n (2 ^ 32) then Some n else None
 -- one to ten decimal digits without leading zeros, below 2^32
 unfoldable pub number_in : List ℕ → Option ℕ
 number_in field = option_and_then in_32_bits (decimal_number field)
-
--- the words for the two usual bit rates
-abbrev pub is_high : List ℕ → Bool
-is_high field = is_text (codes "hs") field || is_text (codes "high") field
-
-abbrev pub is_low : List ℕ → Bool
-is_low field = is_text (codes "ls") field || is_text (codes "low") field
-
--- a bit rate as a number, or in a word
-unfoldable pub rate_in : List ℕ → Option ℕ
-rate_in field = if is_high field then Some 100000 else if is_low field then Some 12500 else number_in field
 
 -- ---- intervals
 
@@ -77,6 +66,39 @@ millis_in separator field = if may_be_thousands separator field then None else p
 -- an interval in microseconds, from a column in milliseconds or in microseconds
 abbrev pub interval_in : Bool → ℕ → List ℕ → Option ℕ
 interval_in in_millis separator field = if in_millis then millis_in separator field else number_in field
+
+-- ---- bit rates
+
+-- the words for the two usual bit rates
+abbrev pub is_high : List ℕ → Bool
+is_high field = is_text (codes "hs") field || (is_text (codes "high") field || is_text (codes "high speed") field)
+
+abbrev pub is_low : List ℕ → Bool
+is_low field = is_text (codes "ls") field || (is_text (codes "low") field || is_text (codes "low speed") field)
+
+-- the bit rate in a word
+abbrev pub worded_rate : List ℕ → Option ℕ
+worded_rate field = if is_high field then Some 100000 else if is_low field then Some 12500 else None
+
+-- a text without the space at its end, if it has one
+abbrev pub without_space : List ℕ → List ℕ
+without_space text = if slice_index_or text (length text - 1) 0 == 32 then take (length text - 1) text else text
+
+-- a field ends with a unit, in any case
+abbrev pub has_unit : List ℕ → List ℕ → Bool
+has_unit unit field = nat_le (length unit) (length field) && is_text unit (drop (length field - length unit) field)
+
+-- what comes before the unit of a field, and before a space above it
+abbrev pub before_unit : List ℕ → List ℕ → Option (List ℕ)
+before_unit unit field = if has_unit unit field then Some (without_space (take (length field - length unit) field)) else None
+
+-- A number of kbit/s, in bit/s. Such a number has the form of one of milliseconds, whose thousandths are microseconds
+abbrev pub kilobits_in : List ℕ → Option ℕ
+kilobits_in field = option_and_then (millis_in 44) (option_or (before_unit (codes "kbit/s") field) (before_unit (codes "kbps") field))
+
+-- a bit rate as a number of bit/s, in a word, or as a number of kbit/s
+unfoldable pub rate_in : List ℕ → Option ℕ
+rate_in field = option_or (number_in field) (option_or (worded_rate field) (kilobits_in field))
 
 -- ---- labels and SDIs
 

@@ -1,7 +1,7 @@
 -- What is known of lines that were read: what the rows among them say, or their first fault (profile: import).
 use Rattle.std.specs.Borrow.{Bor}
-use Rattle.std.specs.Prelude.{◌≡◌, ℕ, Bool, true, false, List, [], ◌∷◌, Option, None, Some, map, option_map, Result, Ok, Err}
-use Rattle.std.specs.List.{AllByRecursion}
+use Rattle.std.specs.Prelude.{◌≡◌, ◌+◌, ℕ, Bool, true, false, List, [], ◌∷◌, Option, None, Some, length, map, option_map, Result, Ok, Err, vec_len}
+use Rattle.std.specs.List.{AllByRecursion, list_any}
 use Rattle.csv.specs.Reading.{Reached, Ready, source_of, strip_bom}
 use Rattle.csv.specs.Records.{fields_of}
 use Rattle.csv.specs.declared.parser.State.TheVariants as st
@@ -13,12 +13,13 @@ use Rattle.a429_import.specs.declared.fault.ImportColumn.{ImportColumn}
 use Rattle.a429_import.specs.declared.fault.ImportFault.{ImportFault}
 use Rattle.a429_import.specs.declared.fault.ImportFault.TheVariants.{Csv}
 use Rattle.a429_import.specs.declared.lines.CsvLine.{CsvLine}
+use Rattle.a429_import.specs.declared.notes.Notes.{Notes}
 use Rattle.a429_import.specs.declared.reading.LinesRead.{LinesRead}
 use Rattle.a429_import.specs.declared.reading.RowsRead.{RowsRead}
 use Rattle.a429_import.specs.declared.rows.ImportRow.{ImportRow}
 use Rattle.a429_import.specs.ImportClashes.{Agree}
 use Rattle.a429_import.specs.ImportMaps.{AreNamedBy}
-use Rattle.a429_import.specs.ImportRows.{◌>>=◌, CsvFault, next_row, rows_after, rows_stated, with_row, wrong_column}
+use Rattle.a429_import.specs.ImportRows.{◌>>=◌, CsvFault, has_label, next_row, rows_after, rows_stated, with_row, without_notes, wrong_column}
 use Rattle.a429_import.specs.Imports.{States, separated}
 use Rattle.a429_import.specs.Known.{Knows, are_full}
 
@@ -60,17 +61,50 @@ abbrev pub IsTaken : Result (Unit {0}) ImportFault → RowsRead → Result (List
 IsTaken (Ok u) read stated = (rows : List ImportRow) × (stated ≡ Ok rows) × Agree rows × HasRows read rows
 IsTaken (Err fault) read stated = States {X = List ImportRow} (λ rows. rows) (Err fault) stated
 
--- the rows that lines below a heading say
+-- no row was read, so none may be a note
+pub record HasNoRow (notes : Notes) : Type 0 where
+  pub labelled : notes.is_labelled ≡ false
+  pub held : notes.held ≡ None
+  pub count : vec_len notes.rows ≡ 0
+
+-- the fault of this line, which has one
+abbrev pub HoldsFault : Option ImportFault → Result ImportRow CsvFault → Type 0
+HoldsFault None stated = ⊥
+HoldsFault (Some fault) stated = States {X = ImportRow} (λ row. row) (Err fault) stated
+
+-- the fault that is held back stays; otherwise that of this line is held back
+abbrev pub HoldsFirst : Option ImportFault → Option ImportFault → Result ImportRow CsvFault → Type 0
+HoldsFirst None new stated = HoldsFault new stated
+HoldsFirst (Some fault) new stated = new ≡ Some fault
+
+-- the fault that is held back is that of all lines, notes among them; these rows are those of all lines if there is none
+abbrev pub IsHeld : Option ImportFault → List ImportRow → Result (List ImportRow) CsvFault → Type 0
+IsHeld None rows stated = stated ≡ Ok rows
+IsHeld (Some fault) rows stated = States {X = List ImportRow} (λ rows. rows) (Err fault) stated
+
+-- the rows that lines below a heading say, if those below the last one with a label are notes
+pub record AreBelow (heading : List (List ℕ)) (below : List CsvLine) (read : RowsRead) (notes : Notes) : Type 0 where
+  pub rows : List ImportRow
+  pub stated : rows_after heading [] (without_notes heading below) ≡ Ok rows
+  pub held : IsHeld notes.held rows (rows_after heading [] below)
+  pub labelled : notes.is_labelled ≡ list_any (has_label heading) below
+  pub count : length (without_notes heading below) + vec_len notes.rows ≡ length below
+  pub agree : Agree rows
+  pub has : HasRows read rows
+
+-- lines below a heading are read, or refused
+abbrev pub AreTaken : Result (Unit {0}) ImportFault → List (List ℕ) → List CsvLine → RowsRead → Notes → Type 0
+AreTaken (Ok u) heading below read notes = AreBelow heading below read notes
+AreTaken (Err fault) heading below read notes = States {X = List ImportRow} (λ rows. rows) (Err fault) (rows_after heading [] (without_notes heading below))
+
+-- the same, below a heading without a fault
 pub record SayRows (heading : CsvLine) (below : List CsvLine) (read : LinesRead) : Type 0 where
   pub named : wrong_column (fields_of heading.fields) ≡ None
-  pub rows : List ImportRow
-  pub stated : rows_after (fields_of heading.fields) [] below ≡ Ok rows
-  pub agree : Agree rows
-  pub has : HasRows read.rows rows
+  pub are : AreBelow (fields_of heading.fields) below read.rows read.notes
 
 -- nothing was read yet, or a heading and the lines below it
 abbrev pub HaveRows : Option Heading → LinesRead → List CsvLine → Type 0
-HaveRows None read lines = (lines ≡ []) × HasRows read.rows []
+HaveRows None read lines = (lines ≡ []) × HasRows read.rows [] × HasNoRow read.notes
 HaveRows (Some heading) read lines = (below : List CsvLine) × (lines ≡ heading.line ∷ below) × SayRows heading.line below read
 
 abbrev pub AreRead : Option ImportFault → LinesRead → List CsvLine → Type 0

@@ -1,5 +1,5 @@
 -- What rows of comma-separated values say, or the first row with a fault (profile: import).
-use Rattle.std.specs.Prelude.{ℕ, ◌==◌, ◌&&◌, ◌||◌, Bool, true, false, not, List, [], ◌∷◌, ◌++◌, Option, None, Some, Result, Ok, Err, codes, if◌then◌else◌, length, nat_lt, position}
+use Rattle.std.specs.Prelude.{ℕ, ◌-◌, ◌==◌, ◌&&◌, ◌||◌, Bool, true, false, not, List, [], ◌∷◌, ◌++◌, Option, None, Some, Result, Ok, Err, codes, if◌then◌else◌, length, nat_lt, position}
 use Rattle.std.specs.List.{count_by, find, list_any}
 use Rattle.std.specs.Option.{ok_or, option_map_or, option_or}
 use Rattle.std.specs.Str.{bytes_eq}
@@ -190,13 +190,37 @@ abbrev pub rows_after : List (List ℕ) → List ImportRow → List CsvLine → 
 rows_after heading earlier [] = Ok earlier
 rows_after heading earlier (line ∷ lines) = next_row heading earlier line >>= λ row. rows_after heading (with_row earlier row) lines
 
+-- ---- notes
+
+-- a row has a label: its field in that column is there, and is not empty
+abbrev pub has_label : List (List ℕ) → CsvLine → Bool
+has_label heading line = not (length (column_field heading (fields_of line.fields) Label) == 0)
+
+-- the elements up to the last one that passes
+abbrev pub until_last : {X : Type 0} → (X → Bool) → List X → List X
+until_last passes [] = []
+until_last passes (x ∷ xs) = if list_any passes (x ∷ xs) then x ∷ until_last passes xs else []
+
+-- the same; all elements if none passes
+abbrev pub until_last_or_all : {X : Type 0} → (X → Bool) → List X → List X
+until_last_or_all passes xs = if list_any passes xs then until_last passes xs else xs
+
+-- the rows below a heading without the notes: those below the last row that has a label
+abbrev pub without_notes : List (List ℕ) → List CsvLine → List CsvLine
+without_notes heading lines = until_last_or_all (has_label heading) lines
+
+-- the number of notes of lines, of which the first is the heading
+abbrev pub note_count : List CsvLine → ℕ
+note_count [] = 0
+note_count (heading ∷ lines) = length lines - length (without_notes (fields_of heading.fields) lines)
+
 -- ---- all rows
 
 abbrev pub unless_wrong : CsvLine → List CsvLine → Option ImportColumn → Result (List ImportRow) CsvFault
-unless_wrong heading lines None = rows_after (fields_of heading.fields) [] lines
+unless_wrong heading lines None = rows_after (fields_of heading.fields) [] (without_notes (fields_of heading.fields) lines)
 unless_wrong heading lines (Some column) = Err (heading.number, Column, Some column)
 
--- the rows below a heading, unless a column is wrong in it
+-- the rows below a heading and above the notes, unless a column is wrong in it
 abbrev pub below_heading : CsvLine → List CsvLine → Result (List ImportRow) CsvFault
 below_heading heading lines = unless_wrong heading lines (wrong_column (fields_of heading.fields))
 

@@ -11,6 +11,8 @@ use Rattle.a429_table.specs.declared.fault.TableFault.TheVariants as fault
 use Rattle.a429_table.specs.Faults.{faults, first}
 use Rattle.a429_table.specs.Reading.{reading}
 use Rattle.a429_import.specs.declared.fault.CsvFaultKind.TheVariants.{Form}
+use Rattle.a429_import.specs.declared.import.Imported.{Imported}
+use Rattle.a429_import.specs.declared.import.ImportOptions.{ImportOptions}
 use Rattle.a429_import.specs.declared.fault.ImportFault.{ImportFault}
 use Rattle.a429_import.specs.declared.fault.ImportFault.TheVariants.{NoMemory, Csv, Wide, Table}
 use Rattle.a429_import.specs.declared.lines.CsvLine.{CsvLine}
@@ -19,9 +21,10 @@ use Rattle.a429_import.specs.ImportAbove.{has_data_above}
 use Rattle.a429_import.specs.ImportForms.{from_heading, separator_in}
 use Rattle.a429_import.specs.ImportMaps.{AreNamedBy}
 use Rattle.a429_import.specs.ImportQuotes.{has_wrong_quotes, text_before}
-use Rattle.a429_import.specs.ImportRows.{CsvFault, rows_stated}
+use Rattle.a429_import.specs.ImportRows.{CsvFault, note_count, rows_stated}
 use Rattle.a429_import.specs.ImportTables.{root_members, record_stated}
 use Rattle.a429_import.specs.ImportLimits.{limit_fault}
+use Rattle.a429_import.specs.FilledLines.{AreFilledBelow}
 use Rattle.a429_import.specs.KeyedLines.{AreKeyed}
 use Rattle.a429_import.specs.Renamed.{all_renamed}
 
@@ -81,9 +84,10 @@ is_misquoted_text maps text = has_wrong_quotes (separated (separator_in maps tex
 abbrev pub has_row_above : List (List ℕ) → List ℕ → Bool
 has_row_above maps text = has_data_above (separated (separator_in maps text)) maps (from_heading maps text) text
 
--- the import of lines: the text is read as the record of the rows; a table is refused for its first fault
-abbrev pub IsImportOf : List CsvLine → Result (Vec ℕ Global) ImportFault → Type 0
-IsImportOf lines (Ok text) = (rows : List ImportRow) × (rows_stated lines ≡ Ok rows) × (reading text.items ≡ Ok (record_stated rows))
+-- the import of lines: the text is read as the record of the rows, and the notes are counted; a table is refused for its first fault
+abbrev pub IsImportOf : List CsvLine → Result Imported ImportFault → Type 0
+IsImportOf lines (Ok imported) =
+    (rows : List ImportRow) × (rows_stated lines ≡ Ok rows) × (reading imported.text.items ≡ Ok (record_stated rows)) × (imported.notes ≡ note_count lines)
 IsImportOf lines (Err NoMemory) = Unit {0}
 IsImportOf lines (Err (Csv line kind column)) = rows_stated lines ≡ Err (line, kind, column)
 IsImportOf lines (Err (Wide line)) = ⊥
@@ -108,36 +112,44 @@ abbrev pub IsTableBy : Bool → List ImportRow → Result (Vec ℕ Global) Impor
 IsTableBy makes_names rows result = IsTableOf (rows_by makes_names rows) result
 
 -- the same, of the rows that lines state
-abbrev pub IsNamedImport : List CsvLine → Result (Vec ℕ Global) ImportFault → Type 0
+abbrev pub IsNamedImport : List CsvLine → Result Imported ImportFault → Type 0
+IsNamedImport lines (Ok imported) =
+    (rows : List ImportRow) × (rows_stated lines ≡ Ok rows) × IsTableBy true rows (Ok imported.text) × (imported.notes ≡ note_count lines)
 IsNamedImport lines (Err NoMemory) = Unit {0}
 IsNamedImport lines (Err (Csv line kind column)) = rows_stated lines ≡ Err (line, kind, column)
 IsNamedImport lines (Err (Wide line)) = ⊥
-IsNamedImport lines result = (rows : List ImportRow) × (rows_stated lines ≡ Ok rows) × IsTableBy true rows result
+IsNamedImport lines (Err (Table fault)) = (rows : List ImportRow) × (rows_stated lines ≡ Ok rows) × IsTableBy true rows (Err (Table fault))
 
 -- the same, with names if the flag is set
-abbrev pub IsImportFrom : Bool → List CsvLine → Result (Vec ℕ Global) ImportFault → Type 0
+abbrev pub IsImportFrom : Bool → List CsvLine → Result Imported ImportFault → Type 0
 IsImportFrom false lines result = IsImportOf lines result
 IsImportFrom true lines result = IsNamedImport lines result
 
 -- the import of lines, with names if the flag is set: sources differ if their texts, receivers, labels or SDIs do
-abbrev pub IsImportBy : Bool → List CsvLine → Result (Vec ℕ Global) ImportFault → Type 0
+abbrev pub IsImportBy : Bool → List CsvLine → Result Imported ImportFault → Type 0
 IsImportBy false lines result = IsImportOf lines result
 IsImportBy true lines result = (keyed : List CsvLine) × AreKeyed lines keyed × IsNamedImport keyed result
 
+-- the same; if the flag is set, empty fields of groups, bit rates and receivers are filled from above before names are made
+abbrev pub IsFilledImport : Bool → Bool → List CsvLine → Result Imported ImportFault → Type 0
+IsFilledImport false makes_names lines result = IsImportBy makes_names lines result
+IsFilledImport true makes_names lines result = (filled : List CsvLine) × AreFilledBelow lines filled × IsImportBy makes_names filled result
+
 -- the import of a text, unless its quotes are wrong or a row of data is above its heading: then no other line is looked at. The line of that fault
 -- is not stated
-abbrev pub IsImportIf : Bool → List (List ℕ) → Bool → List ℕ → Result (Vec ℕ Global) ImportFault → Type 0
-IsImportIf true maps makes_names text result = (line : ℕ) × (result ≡ Err (Csv line Form None))
-IsImportIf false maps makes_names text result = (lines : List CsvLine) × AreNamedLines maps text lines × IsImportBy makes_names lines result
+abbrev pub IsImportIf : Bool → List (List ℕ) → ImportOptions → List ℕ → Result Imported ImportFault → Type 0
+IsImportIf true maps options text result = (line : ℕ) × (result ≡ Err (Csv line Form None))
+IsImportIf false maps options text result =
+    (lines : List CsvLine) × AreNamedLines maps text lines × IsFilledImport options.fills options.makes_names lines result
 
 -- the same; a row with too many fields is refused before all that, and an allocation may fail before all lines are known
-abbrev pub IsImport : List (List ℕ) → Bool → List ℕ → Result (Vec ℕ Global) ImportFault → Type 0
-IsImport maps makes_names text (Err NoMemory) = Unit {0}
-IsImport maps makes_names text (Err (Wide line)) = is_wide_text maps text ≡ true
-IsImport maps makes_names text result =
-    (is_wide_text maps text ≡ false) × IsImportIf (is_misquoted_text maps text || has_row_above maps text) maps makes_names text result
+abbrev pub IsImport : List (List ℕ) → ImportOptions → List ℕ → Result Imported ImportFault → Type 0
+IsImport maps options text (Err NoMemory) = Unit {0}
+IsImport maps options text (Err (Wide line)) = is_wide_text maps text ≡ true
+IsImport maps options text result =
+    (is_wide_text maps text ≡ false) × IsImportIf (is_misquoted_text maps text || has_row_above maps text) maps options text result
 
 -- the fault of a text that comes before those of its rows, if it has one
 abbrev pub IsTextFault : List (List ℕ) → List ℕ → Option ImportFault → Type 0
 IsTextFault maps text None = (is_wide_text maps text ≡ false) × ((is_misquoted_text maps text || has_row_above maps text) ≡ false)
-IsTextFault maps text (Some fault) = (makes_names : Bool) → IsImport maps makes_names text (Err fault)
+IsTextFault maps text (Some fault) = (options : ImportOptions) → IsImport maps options text (Err fault)

@@ -12,6 +12,7 @@ pub mod ImportBuilding
 pub mod ImportFaults
 pub mod ImportTexts
 pub mod MadeNames
+pub mod FilledLines
 pub mod KeyedLines
 pub mod Renamed
 pub mod NumberRanges
@@ -23,6 +24,7 @@ pub mod ImportClashes
 pub mod ImportLimits
 pub mod ImportReading
 pub mod RenamedReading
+pub mod FilledReading
 pub mod SameTables
 pub mod Names
 pub mod Known

@@ -3,7 +3,7 @@ ghost use Rattle.std.specs.Prelude.{◌≡◌, ◌∷◌, [], ◌<◌, ◌==◌,
 ghost use Rattle.std.specs.Char.{is_ascii_digit};
 ghost use Rattle.std.specs.List.{list_all};
 ghost use Rattle.a429_filter.specs.FilterTexts.{filter_read};
-ghost use Rattle.a429_import.specs.ImportFields.{are_filters, are_micros, digit_of, filters_in, has_thousands, hold_in, if_group, interval_in, is_any, is_bit, is_high, is_low, is_mark, label_in, may_be_thousands, micros_in, millis_in, number_in, padded, rate_in, sdi_digits, sdi_in, sdi_or_any, text_in, together, utf8_in};
+ghost use Rattle.a429_import.specs.ImportFields.{are_filters, are_micros, digit_of, filters_in, has_thousands, hold_in, if_group, interval_in, is_any, is_bit, is_mark, label_in, may_be_thousands, micros_in, millis_in, number_in, padded, sdi_digits, sdi_in, sdi_or_any, text_in, together, utf8_in};
 ghost use Rattle.a429_word.specs.Texts.{label_value};
 
 use crate::plain::{is_text, unwrapped};
@@ -20,34 +20,6 @@ pub fn number_in(field: &[u8]) -> Option<u32>
         Some(number as u32)
     } else {
         None
-    }
-}
-
-/// Whether a field is the word for 100000 bit/s.
-fn is_high(field: &[u8]) -> bool
-    ensures { result ≡ is_high field.now }
-{
-    is_text("hs", field) || is_text("high", field)
-}
-
-/// Whether a field is the word for 12500 bit/s.
-fn is_low(field: &[u8]) -> bool
-    ensures { result ≡ is_low field.now }
-{
-    is_text("ls", field) || is_text("low", field)
-}
-
-/// The bit rate in a field, in bit/s: a number, or a word for one of the two usual bit rates. `None` for any other field.
-#[tactic(auto, unfolding(crate::specs::ImportFields::rate_in))]
-fn rate_in(field: &[u8]) -> Option<u32>
-    ensures { result ≡ rate_in field.now }
-{
-    if is_high(field) {
-        Some(100000)
-    } else if is_low(field) {
-        Some(12500)
-    } else {
-        number_in(field)
     }
 }
 
@@ -326,20 +298,6 @@ pub fn filters_in(field: &[u8]) -> Option<&str>
 {
     let text = text_in(field)?;
     if are_filters(text) { Some(text) } else { None }
-}
-
-/// The bit rate of a row, in bit/s. Of a row without a group it is 0. `None` if the field states no bit rate, or is not
-/// empty in a row without a group.
-pub fn rate_of(names_group: bool, field: &[u8]) -> Option<u32>
-    ensures { result ≡ if_group names_group rate_in 0 field.now }
-{
-    if names_group {
-        rate_in(field)
-    } else if field.is_empty() {
-        Some(0)
-    } else {
-        None
-    }
 }
 
 /// An interval of a row, in microseconds. Of a row without a group it is 0. `None` if the field states no interval, or is

@@ -3,6 +3,7 @@ ghost use Rattle.std.specs.Prelude.{◌≡◌, ◌||◌, [], false, IfOk, is_som
 ghost use Rattle.a429_import.specs.declared.lines.CsvLine.{CsvLine};
 ghost use Rattle.a429_import.specs.declared.rows.ImportRow.{ImportRow};
 ghost use Rattle.a429_import.specs.ImportAbove.{has_data_above};
+ghost use Rattle.a429_import.specs.FilledReading.{IsReadFilled};
 ghost use Rattle.a429_import.specs.ImportForms.{from_heading, separator_in};
 ghost use Rattle.a429_import.specs.ImportMaps.{given_texts};
 ghost use Rattle.a429_import.specs.ImportQuotes.{has_wrong_quotes};
@@ -11,11 +12,12 @@ ghost use Rattle.a429_import.specs.Imports.{IsImport, IsImportFrom, IsTableBy, I
 ghost use Rattle.a429_import.specs.Known.{Knows};
 ghost use Rattle.a429_import.specs.NumberRanges.{HaveRanges};
 ghost use Rattle.a429_import.specs.Renamed.{all_renamed};
-ghost use Rattle.a429_import.specs.RenamedReading.{AreWhole, IsReadBy};
+ghost use Rattle.a429_import.specs.RenamedReading.{AreWhole};
 
 use crate::above::line_above;
 use crate::comments::{MadeOf, with_texts};
 use crate::fault::{CsvFaultKind, ImportColumn, ImportFault};
+use crate::filled_reading::SheetRead;
 use crate::forms::{Form, form_of};
 use crate::known::Known;
 use crate::limits::limit_fault;
@@ -28,6 +30,24 @@ use crate::text_reading::read_lines;
 use crate::widths::wide_line;
 use a429_table::{TableFault, read_equipment};
 use std::alloc::{AllocError, Global};
+
+/// How rows are read.
+#[derive(Clone, Copy)]
+pub struct ImportOptions {
+    /// Whether an empty field of a group, a bit rate or a receiver is that of the row above.
+    pub fills: bool,
+    /// Whether the texts of groups, sources and receivers become names.
+    pub makes_names: bool,
+}
+
+/// The equipment table that rows describe.
+#[derive(Drop)]
+pub struct Imported {
+    /// The table as TOML of version 2.
+    pub text: Vec<u8>,
+    /// The number of rows that are notes: those below the last one that has a label.
+    pub notes: usize,
+}
 
 /// The table that rows describe.
 fn table_of_rows(alloc: Global, read: &RowsRead) -> Result<Vec<u8>, ImportFault>
@@ -107,13 +127,19 @@ fn table_below_heading(
     alloc: Global,
     makes_names: bool,
     read: &LinesRead,
-) -> Result<Vec<u8>, ImportFault>
+) -> Result<Imported, ImportFault>
     requires { (lines : List CsvLine) × HaveRows read.now.heading read.now lines }
     ensures { (lines : List CsvLine) → HaveRows read.now.heading read.now lines → IsImportFrom makes_names lines result }
 {
     match &read.heading {
         None => Err(wrong_heading(1, ImportColumn::Group)),
-        Some(_heading) => table_by(alloc, makes_names, &read.rows),
+        Some(_heading) => match table_by(alloc, makes_names, &read.rows) {
+            Ok(text) => Ok(Imported {
+                text,
+                notes: read.notes.len(),
+            }),
+            Err(fault) => Err(fault),
+        },
     }
 }
 
@@ -122,7 +148,7 @@ fn table_of_lines(
     alloc: Global,
     makes_names: bool,
     read: &mut LinesRead,
-) -> Result<Vec<u8>, ImportFault>
+) -> Result<Imported, ImportFault>
     requires { (lines : List CsvLine) × StandsFor read.old lines }
     ensures { (lines : List CsvLine) → StandsFor read.old lines → IsImportFrom makes_names lines result }
 {
@@ -136,35 +162,35 @@ fn table_of_lines(
 fn read_table(
     alloc: Global,
     maps: &[&str],
-    makes_names: bool,
+    options: ImportOptions,
     text: &[u8],
     form: Form<'_>,
-    read: &mut LinesRead,
-) -> Result<Vec<u8>, ImportFault>
+    read: &mut SheetRead,
+) -> Result<Imported, ImportFault>
     requires separator { form.separator ≡ separator_in (given_texts maps.now) text.now }
     requires text { form.text.now ≡ from_heading (given_texts maps.now) text.now }
-    requires read { IsReadBy makes_names read.old [] }
-    ensures { IsTextFault (given_texts maps.now) text.now None → IsImport (given_texts maps.now) makes_names text.now result }
+    requires read { IsReadFilled options read.old [] }
+    ensures { IsTextFault (given_texts maps.now) text.now None → IsImport (given_texts maps.now) options text.now result }
 {
-    read_lines(alloc, maps, makes_names, text, form, read)?;
-    table_of_lines(alloc, makes_names, read)
+    read_lines(alloc, maps, options, text, form, read)?;
+    table_of_lines(alloc, options.makes_names, &mut read.lines)
 }
 
 /// The table that a text of this form describes, if no fault comes before those of its rows.
 fn table_of_text(
     alloc: Global,
     maps: &[&str],
-    makes_names: bool,
+    options: ImportOptions,
     text: &[u8],
     form: Form<'_>,
-) -> Result<Vec<u8>, ImportFault>
+) -> Result<Imported, ImportFault>
     requires separator { form.separator ≡ separator_in (given_texts maps.now) text.now }
     requires text { form.text.now ≡ from_heading (given_texts maps.now) text.now }
-    ensures { IsTextFault (given_texts maps.now) text.now None → IsImport (given_texts maps.now) makes_names text.now result }
+    ensures { IsTextFault (given_texts maps.now) text.now None → IsImport (given_texts maps.now) options text.now result }
 {
     // A row with a new name has 11 bytes. So a chain has 12 names on average at most.
-    let mut read = LinesRead::new(alloc, text.len() / 128)?;
-    let table = read_table(alloc, maps, makes_names, text, form, &mut read);
+    let mut read = SheetRead::new(alloc, text.len() / 128)?;
+    let table = read_table(alloc, maps, options, text, form, &mut read);
     // One call, instead of a drop of each of its parts.
     std::mem::drop(read);
     table
@@ -225,6 +251,11 @@ fn text_fault(
 /// their first rows, outputs in the order of the rows of their group. `read_equipment` reads the answer. Error: the first
 /// fault of the rows, otherwise the first of the table, or `NoMemory` if an allocation fails.
 ///
+/// Rows below the last one that has a label are notes: they are not read, but counted. If no row has a label, none is a note.
+///
+/// With `fills`, a field `group`, `rate` or `receiver` that is empty is that of the row above, after that was filled. In the
+/// first row it stays empty. Then no row below one with a group states a source alone.
+///
 /// With `makes_names`, the texts of groups, sources and receivers become names, and no two become one name. Sources then
 /// differ if their texts, receivers, labels or SDIs do. `made_name` makes the name, if no other text of the column would have
 /// it. Otherwise the name of a source has its receiver, its label and its SDI, and that of another text has what is left of
@@ -233,14 +264,14 @@ fn text_fault(
 pub fn import_table(
     alloc: Global,
     maps: &[&str],
-    makes_names: bool,
+    options: ImportOptions,
     bytes: &[u8],
-) -> Result<Vec<u8>, ImportFault>
-    ensures { IsImport (given_texts maps.now) makes_names bytes.now result }
+) -> Result<Imported, ImportFault>
+    ensures { IsImport (given_texts maps.now) options bytes.now result }
 {
     let form = form_of(maps, bytes);
     match text_fault(alloc, maps, bytes, form)? {
         Some(fault) => Err(fault),
-        None => table_of_text(alloc, maps, makes_names, bytes, form),
+        None => table_of_text(alloc, maps, options, bytes, form),
     }
 }

@@ -1,5 +1,5 @@
 //! What is true of the definitions that the contracts cite.
-ghost use Rattle.a429_import.specs.ImportExamples.{ChoosesNames, MakesNames, ReadsAbove, ReadsAlone, ReadsFields, ReadsHeadings, ReadsMaps, ReadsMillis, ReadsQuotes, TellsApart};
+ghost use Rattle.a429_import.specs.ImportExamples.{ChoosesNames, FillsFields, MakesNames, PassesNotes, ReadsAbove, ReadsAlone, ReadsFields, ReadsHeadings, ReadsMaps, ReadsMillis, ReadsQuotes, TellsApart};
 ghost use Rattle.a429_import.specs.ImportedRows.{RowsAreInRecord};
 ghost use Rattle.a429_import.specs.Renamed.{NamesAreApart};
 
@@ -10,8 +10,8 @@ pub fn imported_rows_are_in_record()
     ensures { RowsAreInRecord }
 {}
 
-/// What some fields state, some headings, rows with and without a group, made names, wrong quotes, and rows above the heading:
-/// the definitions, by examples.
+/// What some fields state, some headings, rows with and without a group, made names, wrong quotes, rows above the heading,
+/// notes and fields that are filled: the definitions, by examples.
 pub fn forms_are_read_as_written()
     ensures fields { ReadsFields }
     ensures millis { ReadsMillis }
@@ -23,6 +23,8 @@ pub fn forms_are_read_as_written()
     ensures chosen { ChoosesNames }
     ensures quotes { ReadsQuotes }
     ensures above { ReadsAbove }
+    ensures notes { PassesNotes }
+    ensures filled { FillsFields }
 {}
 
 /// No two texts of a column become one name: a name that is not empty is that of one text alone. The column has at most as

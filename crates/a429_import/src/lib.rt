@@ -8,10 +8,10 @@
 //! with its line and its column; otherwise the first fault of the table.
 //!
 //! ```text
-//! match import_table(alloc, maps, names, &bytes) {
-//!     Ok(text) => {
+//! match import_table(alloc, maps, options, &bytes) {
+//!     Ok(imported) => {
 //!         ..
-//!         Ok(Reply::done(text))
+//!         Ok(Reply::done(imported.text))
 //!     }
 //!     Err(fault) => {
 //!         ..
@@ -27,6 +27,8 @@ mod columns;
 mod comments;
 mod fault;
 mod fields;
+mod filled_lines;
+mod filled_reading;
 mod firsts;
 mod forms;
 mod import;
@@ -40,8 +42,10 @@ mod made_names;
 mod maps;
 mod named_rows;
 mod names;
+mod notes;
 mod plain;
 mod quotes;
+mod rates;
 mod reading;
 mod renamed;
 mod rows;
@@ -56,7 +60,8 @@ mod words;
 pub use columns::{COLUMNS as IMPORT_COLUMNS, Heading, is_column, is_named as is_column_named};
 pub use fault::{CsvFaultKind, ImportColumn, ImportFault};
 pub use fields::{may_be_thousands, millis_in};
-pub use import::import_table;
+pub use filled_lines::filled_line;
+pub use import::{ImportOptions, Imported, import_table};
 pub use lines::{CsvLine, csv_lines};
 pub use made_names::made_name;
 pub use maps::{column_in, is_met, named_by};

@@ -29,6 +29,16 @@ fn is_filled(field: &[u8]) -> bool
     !field.is_empty()
 }
 
+/// The field of a row in a column, counted from 0; empty if there is no such field.
+pub fn field_at(fields: &ByteRecord, column: usize) -> &[u8]
+    ensures { result.now ≡ field_in column (fields_of fields.now) }
+{
+    match fields.get(column) {
+        Some(field) => field,
+        None => &[],
+    }
+}
+
 impl CsvLine {
     /// The number of fields.
     pub fn len(&self) -> usize
@@ -53,10 +63,7 @@ impl CsvLine {
     pub fn field(&self, column: usize) -> &[u8]
         ensures { result.now ≡ field_in column (fields_of self.now.fields) }
     {
-        match self.fields.get(column) {
-            Some(field) => field,
-            None => &[],
-        }
+        field_at(&self.fields, column)
     }
 }
 

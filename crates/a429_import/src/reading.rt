@@ -1,12 +1,12 @@
 //! What rows say, one line after the other. No line is kept except the heading.
-ghost use Rattle.std.specs.Prelude.{◌≡◌, ◌++◌, [], ◌∷◌, IfOk, List, None, OnOk, Some};
+ghost use Rattle.std.specs.Prelude.{◌≡◌, ◌++◌, ◌&&◌, [], ◌∷◌, IfOk, List, None, OnOk, Some, false, not};
 ghost use Rattle.std.specs.Result.{result_map_both};
 ghost use Rattle.csv.specs.Records.{fields_of};
 ghost use Rattle.a429_import.specs.declared.lines.CsvLine.{CsvLine};
 ghost use Rattle.a429_import.specs.declared.rows.ImportRow.{ImportRow};
 ghost use Rattle.a429_import.specs.ImportClashes.{Agree};
-ghost use Rattle.a429_import.specs.ImportReading.{AreRead, HasRows, HaveRows, IsHeadingOf, IsKept, IsTaken, StandsFor, heading_fault, with_line};
-ghost use Rattle.a429_import.specs.ImportRows.{next_row, with_row};
+ghost use Rattle.a429_import.specs.ImportReading.{AreBelow, AreRead, AreTaken, HasRows, HaveRows, IsHeadingOf, IsKept, IsTaken, StandsFor, heading_fault, with_line};
+ghost use Rattle.a429_import.specs.ImportRows.{has_label, next_row, with_row};
 ghost use Rattle.a429_import.specs.ImportTexts.{row_view};
 ghost use Rattle.a429_import.specs.Known.{Knows};
 
@@ -15,6 +15,7 @@ use crate::columns::{Heading, wrong_column};
 use crate::fault::{CsvFaultKind, ImportColumn, ImportFault};
 use crate::known::Known;
 use crate::lines::CsvLine;
+use crate::notes::{Notes, has_label};
 use crate::rows::{ImportRow, RowFields, copy_of, row_of};
 use std::alloc::{AllocError, Global};
 
@@ -34,6 +35,8 @@ pub struct LinesRead {
     pub heading: Option<Heading>,
     /// What the lines below the heading say.
     pub rows: RowsRead,
+    /// Those of them that may be notes.
+    pub notes: Notes,
     /// The first fault, after which lines are not looked at.
     pub fault: Option<ImportFault>,
 }
@@ -60,6 +63,7 @@ impl LinesRead {
         Ok(LinesRead {
             heading: None,
             rows: RowsRead::new(alloc, chains)?,
+            notes: Notes::new(alloc),
             fault: None,
         })
     }
@@ -125,7 +129,7 @@ fn take_row(alloc: Global, read: &mut RowsRead, row: &RowFields<'_>) -> Result<(
     }
 }
 
-/// Takes a line below the heading.
+/// Takes a row that is no note.
 fn take_below(
     alloc: Global,
     read: &mut RowsRead,
@@ -146,6 +150,49 @@ fn take_below(
             kind,
             column,
         }),
+    }
+}
+
+/// Takes a row that is no note. If rows above it are no notes either, since it has a label, the fault of the first of them is
+/// the answer.
+fn take_stated(
+    alloc: Global,
+    read: &mut RowsRead,
+    notes: &mut Notes,
+    heading: &Heading,
+    line: &CsvLine,
+    is_labelled: bool,
+) -> Result<(), ImportFault>
+    requires below { (below : List CsvLine) × AreBelow (fields_of heading.now.line.fields) below read.old notes.old }
+    requires label { is_labelled ≡ has_label (fields_of heading.now.line.fields) line.now }
+    requires stated { (notes.old.is_labelled && not is_labelled) ≡ false }
+    ensures { (below : List CsvLine) → AreBelow (fields_of heading.now.line.fields) below read.old notes.old
+        → AreTaken result (fields_of heading.now.line.fields) (below ++ line.now ∷ []) read.new notes.new }
+{
+    match notes.end(is_labelled) {
+        Some(fault) => Err(fault),
+        None => take_below(alloc, read, heading, line),
+    }
+}
+
+/// Takes a line below the heading, which may be a note.
+fn take_row_or_note(
+    alloc: Global,
+    read: &mut RowsRead,
+    notes: &mut Notes,
+    heading: &Heading,
+    line: &CsvLine,
+) -> Result<(), ImportFault>
+    requires { (below : List CsvLine) × AreBelow (fields_of heading.now.line.fields) below read.old notes.old }
+    ensures { (below : List CsvLine) → AreBelow (fields_of heading.now.line.fields) below read.old notes.old
+        → AreTaken result (fields_of heading.now.line.fields) (below ++ line.now ∷ []) read.new notes.new }
+{
+    let is_labelled = has_label(heading, line);
+    if notes.may_take(is_labelled) {
+        notes.hold(heading, line)?;
+        Ok(())
+    } else {
+        take_stated(alloc, read, notes, heading, line, is_labelled)
     }
 }
 
@@ -182,7 +229,9 @@ fn next_line(alloc: Global, read: &mut LinesRead, line: CsvLine) -> Option<Impor
             read.heading = Some(Heading::of(line));
             fault
         }
-        Some(heading) => take_below(alloc, &mut read.rows, heading, &line).err(),
+        Some(heading) => {
+            take_row_or_note(alloc, &mut read.rows, &mut read.notes, heading, &line).err()
+        }
     }
 }
 

@@ -8,8 +8,9 @@ ghost use Rattle.a429_import.specs.ImportTexts.{row_view, text_view, texts_view}
 
 use crate::columns::Heading;
 use crate::fault::{CsvFaultKind, ImportColumn};
-use crate::fields::{filters_in, hold_of, interval_of, label_in, rate_of, sdi_in, text_in};
+use crate::fields::{filters_in, hold_of, interval_of, label_in, sdi_in, text_in};
 use crate::lines::CsvLine;
+use crate::rates::rate_of;
 use a429_word::{Label, Sdi};
 use std::alloc::{AllocError, Global};
 use std::marker::Model;

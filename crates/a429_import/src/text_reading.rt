@@ -3,17 +3,17 @@ ghost use Rattle.std.specs.Prelude.{◌≡◌, ◌++◌, ◌∷◌, ◌<◌, [],
 ghost use Rattle.csv.specs.Reading.{owned_rows_left, owned_rows_reader};
 ghost use Rattle.csv.specs.Records.{fields_of};
 ghost use Rattle.a429_import.specs.declared.lines.CsvLine.{CsvLine};
+ghost use Rattle.a429_import.specs.FilledReading.{IsReadFilled};
 ghost use Rattle.a429_import.specs.ImportForms.{from_heading, separator_in};
 ghost use Rattle.a429_import.specs.ImportMaps.{given_texts};
 ghost use Rattle.a429_import.specs.ImportReading.{HasRead, IsOfNamed};
 ghost use Rattle.a429_import.specs.Imports.{AreNamedLines, has_text};
-ghost use Rattle.a429_import.specs.RenamedReading.{IsReadBy};
 
+use crate::filled_reading::{SheetRead, take_filled_by};
 use crate::forms::Form;
-use crate::keyed_reading::take_by;
+use crate::import::ImportOptions;
 use crate::lines::{CsvLine, count_before, line_of, rows_of};
 use crate::maps::named_line;
-use crate::reading::LinesRead;
 use csv::ByteRecordsIntoIter;
 use std::alloc::{AllocError, Global};
 
@@ -22,18 +22,18 @@ use std::alloc::{AllocError, Global};
 fn take_named(
     alloc: Global,
     maps: &[&str],
-    makes_names: bool,
+    options: ImportOptions,
     is_below: bool,
-    read: &mut LinesRead,
+    read: &mut SheetRead,
     line: CsvLine,
 ) -> Result<bool, AllocError>
-    requires { (lines : List CsvLine) × IsOfNamed (given_texts maps.now) is_below (IsReadBy makes_names read.old) lines }
-    ensures { IfOk result (λ below. (lines : List CsvLine) → IsOfNamed (given_texts maps.now) is_below (IsReadBy makes_names read.old) lines
-        → IsOfNamed (given_texts maps.now) below (IsReadBy makes_names read.new) (lines ++ line ∷ [])) }
+    requires { (lines : List CsvLine) × IsOfNamed (given_texts maps.now) is_below (IsReadFilled options read.old) lines }
+    ensures { IfOk result (λ below. (lines : List CsvLine) → IsOfNamed (given_texts maps.now) is_below (IsReadFilled options read.old) lines
+        → IsOfNamed (given_texts maps.now) below (IsReadFilled options read.new) (lines ++ line ∷ [])) }
 {
     match named_line(alloc, maps, is_below, line) {
         Ok(named) => {
-            take_by(alloc, makes_names, read, named)?;
+            take_filled_by(alloc, options, read, named)?;
             Ok(true)
         }
         Err(fault) => Err(fault),
@@ -45,17 +45,17 @@ fn take_named(
 fn take_filled(
     alloc: Global,
     maps: &[&str],
-    makes_names: bool,
+    options: ImportOptions,
     is_below: bool,
-    read: &mut LinesRead,
+    read: &mut SheetRead,
     line: CsvLine,
 ) -> Result<bool, AllocError>
-    requires { (lines : List CsvLine) × IsOfNamed (given_texts maps.now) is_below (IsReadBy makes_names read.old) lines }
-    ensures { IfOk result (λ below. (lines : List CsvLine) → IsOfNamed (given_texts maps.now) is_below (IsReadBy makes_names read.old) lines
-        → IsOfNamed (given_texts maps.now) below (IsReadBy makes_names read.new) (lines ++ filter (λ l. has_text (fields_of l.fields)) (line ∷ []))) }
+    requires { (lines : List CsvLine) × IsOfNamed (given_texts maps.now) is_below (IsReadFilled options read.old) lines }
+    ensures { IfOk result (λ below. (lines : List CsvLine) → IsOfNamed (given_texts maps.now) is_below (IsReadFilled options read.old) lines
+        → IsOfNamed (given_texts maps.now) below (IsReadFilled options read.new) (lines ++ filter (λ l. has_text (fields_of l.fields)) (line ∷ []))) }
 {
     if line.has_text() {
-        take_named(alloc, maps, makes_names, is_below, read, line)
+        take_named(alloc, maps, options, is_below, read, line)
     } else {
         Ok(is_below)
     }
@@ -65,24 +65,24 @@ fn take_filled(
 fn read_rows(
     alloc: Global,
     maps: &[&str],
-    makes_names: bool,
+    options: ImportOptions,
     text: &[u8],
     form: Form<'_>,
     rows: &mut ByteRecordsIntoIter<&[u8]>,
-    read: &mut LinesRead,
+    read: &mut SheetRead,
 ) -> Result<(), AllocError>
     requires separator { form.separator ≡ separator_in (given_texts maps.now) text.now }
     requires text { form.text.now ≡ from_heading (given_texts maps.now) text.now }
     requires before { HasRead form.separator form.text.now (owned_rows_reader rows.old) [] }
     requires left { 0 < owned_rows_left rows.old }
-    requires read { IsReadBy makes_names read.old [] }
-    ensures { OnOk result ((all : List CsvLine) × AreNamedLines (given_texts maps.now) text.now all × IsReadBy makes_names read.new all) }
+    requires read { IsReadFilled options read.old [] }
+    ensures { OnOk result ((all : List CsvLine) × AreNamedLines (given_texts maps.now) text.now all × IsReadFilled options read.new all) }
 {
     let mut count = count_before(text, form.text);
     let mut is_below = false;
     for row in rows {
         let line = line_of(form, &mut count, row)?;
-        is_below = take_filled(alloc, maps, makes_names, is_below, read, line)?;
+        is_below = take_filled(alloc, maps, options, is_below, read, line)?;
     }
     Ok(())
 }
@@ -91,18 +91,18 @@ fn read_rows(
 pub fn read_lines(
     alloc: Global,
     maps: &[&str],
-    makes_names: bool,
+    options: ImportOptions,
     text: &[u8],
     form: Form<'_>,
-    read: &mut LinesRead,
+    read: &mut SheetRead,
 ) -> Result<(), AllocError>
     requires separator { form.separator ≡ separator_in (given_texts maps.now) text.now }
     requires text { form.text.now ≡ from_heading (given_texts maps.now) text.now }
-    requires read { IsReadBy makes_names read.old [] }
-    ensures { OnOk result ((all : List CsvLine) × AreNamedLines (given_texts maps.now) text.now all × IsReadBy makes_names read.new all) }
+    requires read { IsReadFilled options read.old [] }
+    ensures { OnOk result ((all : List CsvLine) × AreNamedLines (given_texts maps.now) text.now all × IsReadFilled options read.new all) }
 {
     let mut rows = rows_of(alloc, form);
-    let done = read_rows(alloc, maps, makes_names, text, form, &mut rows, read);
+    let done = read_rows(alloc, maps, options, text, form, &mut rows, read);
     // One call, instead of a drop of each of its parts.
     std::mem::drop(rows);
     done

@@ -1,13 +1,11 @@
 -- The fields of a row of an interface control document state what they were written from.
-use Rattle.std.proofs.Common.{◌≡◌, ◌∙◌, ℕ, zero, suc, ◌+◌, ◌<◌, ◌^◌, Bool, true, false, List, [], ◌∷◌, length, map, Option, None, Some, Result, Ok, Err, IsAscii, ap, ap₂, sym, refl, arith, le-leb, ne_eqb, ◌≤◌, ◌/◌, ◌%◌, inl, inr, lt-ltb, eqb-true}
+use Rattle.std.proofs.Common.{◌≡◌, ◌∙◌, ℕ, zero, suc, ◌+◌, ◌<◌, ◌^◌, Bool, true, false, List, [], ◌∷◌, length, map, Option, None, Some, Result, Ok, Err, IsAscii, ap, sym, refl, arith, le-leb, ne_eqb, ◌≤◌, ◌/◌, ◌%◌, inl, inr, lt-ltb, eqb-true}
 use Rattle.std.specs.Prelude.{◌==◌, ◌||◌, ◌&&◌, IfSome, codes, if◌then◌else◌, nat_le}
-use Rattle.std.specs.Char.{is_ascii_digit, to_ascii_lowercase}
 use Rattle.std.specs.Fmt.{decimal}
 use Rattle.std.specs.List.{list_all}
 use Rattle.std.specs.Option.{option_map}
 use Rattle.std.specs.Str.{bytes_eq}
 use Rattle.std.proofs.lemmas.Bool.{and_parts, leb-true}
-use Rattle.std.proofs.lemmas.Bool.Decides.{nat_tests}
 use Rattle.std.proofs.lemmas.Fmt.{decimal_nonempty}
 use Rattle.std.proofs.lemmas.Option.{none-some}
 use Rattle.std.proofs.lemmas.Str.{IsUtf8-from_ascii, IsUtf8-nil, is_utf8-from_IsUtf8}
@@ -16,7 +14,6 @@ use Rattle.a429_word.specs.Decimal.{decimal_number, is_numeral}
 use Rattle.a429_word.specs.Texts.{label_value, octal}
 use Rattle.a429_word.proofs.LabelTexts.{value_of_written}
 use Rattle.a429_word.proofs.Lists.{false_unless, or_parts}
-use Rattle.a429_word.proofs.Numerals.{numeral_digits}
 use Rattle.a429_equipment.specs.NameForm.{is_name, is_name_byte}
 use Rattle.a429_equipment.specs.declared.rows.GroupRow.{GroupRow}
 use Rattle.a429_equipment.specs.declared.rows.OutputRow.{OutputRow}
@@ -26,7 +23,7 @@ use Rattle.a429_slots.specs.declared.group_plan.SendLimits.{SendLimits}
 use Rattle.a429_slots.specs.declared.group_plan.SlotPlace.{SlotPlace}
 use Rattle.a429_text.specs.Fields.{Field, field_text}
 use Rattle.a429_cert.proofs.CheckedPlans.{same_bytes}
-use Rattle.a429_cert.proofs.Fields.{decimal_numeral, value_again}
+use Rattle.a429_cert.proofs.Fields.{value_again}
 use Rattle.a429_import.specs.declared.fault.CsvFaultKind.TheVariants.{Form}
 use Rattle.a429_import.specs.declared.fault.ImportColumn.TheVariants.{Group, Rate, Source, Receiver, Label, Sdi, MinUs, MaxUs, Hold, Filters}
 use Rattle.a429_import.specs.declared.rows.ImportRow.{ImportRow}
@@ -35,7 +32,7 @@ use Rattle.a429_import.specs.declared.rows.RowTexts.{RowTexts}
 use Rattle.a429_documents.specs.Document.{icd_columns, icd_row, limit_field, receiver_name, sdi_field}
 use Rattle.a429_import.specs.ImportFields.{filters_in, hold_in, label_in, padded, number_in, rate_in, sdi_in, text_in, utf8_in}
 use Rattle.a429_import.specs.Imports.{is_filled}
-use Rattle.a429_import.specs.ImportWords.{is_text, unwrapped}
+use Rattle.a429_import.specs.ImportWords.{unwrapped}
 use Rattle.a429_import.specs.ImportRows.{CsvFault, column_field, is_column_in_millis, is_named, joined, names_group, numbers_of, texts_of}
 
 -- ---- numbers
@@ -44,26 +41,9 @@ number_back : (n : ℕ) → n < 2 ^ 32 → number_in (decimal n) ≡ Some n
 unfolding number_in
 number_back n small = rw (value_again n (omega (arith, small))) (ap (λ (b : Bool). if b then Some n else None) (lt-ltb n (2 ^ 32) small))
 
-lower_digit : (d : ℕ) → is_ascii_digit d ≡ true → to_ascii_lowercase d ≡ d
-lower_digit d h = grind (arith, nat_tests)
-
-lower_digits : (w : List ℕ) → list_all is_ascii_digit w ≡ true → map to_ascii_lowercase w ≡ w
-lower_digits [] h = refl
-lower_digits (d ∷ w) h =
-    let parts = and_parts (is_ascii_digit d) (list_all is_ascii_digit w) h in
-    ap₂ (λ (x : ℕ) (xs : List ℕ). x ∷ xs) (lower_digit d parts.0) (lower_digits w parts.1)
-
--- a number is no word for a bit rate, because no letter is a digit
-no_word : (word : List ℕ) (n : ℕ) → n < 2 ^ 32 → decimal_number (map to_ascii_lowercase word) ≡ None → is_text word (decimal n) ≡ false
-no_word word n small none =
-    let lower = lower_digits (decimal n) (numeral_digits (decimal n) (decimal_numeral n (omega (arith, small)))) in
-    false_unless (is_text word (decimal n))
-    (λ same. none-some n (sym none ∙ ap decimal_number (same_bytes (map to_ascii_lowercase word) (map to_ascii_lowercase (decimal n)) same ∙ lower) ∙ value_again n (omega (arith, small))))
-
 rate_back : (n : ℕ) → n < 2 ^ 32 → rate_in (decimal n) ≡ Some n
-unfolding rate_in decimal_number is_numeral
-rate_back n small =
-    rw (no_word (codes "hs") n small refl, no_word (codes "high") n small refl, no_word (codes "ls") n small refl, no_word (codes "low") n small refl) (number_back n small)
+unfolding rate_in
+rate_back n small = rw (number_back n small) refl
 
 not_wrapped : (first : ℕ) (rest : List ℕ) → first ≤ 51 → unwrapped (first ∷ rest) ≡ first ∷ rest
 not_wrapped first rest few = rw (ne_eqb first 61 (λ same. omega (arith, same, few))) refl

@@ -1,5 +1,5 @@
 -- What is imported_table from the text of an interface control document has the same plan.
-use Rattle.std.proofs.Common.{◌≡◌, ◌∙◌, ℕ, Bool, false, List, [], ◌∷◌, Option, None, Some, Vec, Global, Result, Ok, Err, ap, ap₂, map, refl, subst, sym}
+use Rattle.std.proofs.Common.{◌≡◌, ◌∙◌, ℕ, Bool, false, List, [], ◌∷◌, Option, None, Some, Result, Ok, Err, ap, ap₂, map, refl, subst, sym}
 use Rattle.std.specs.Prelude.{◌||◌}
 use Rattle.std.proofs.lemmas.Option.{none-some}
 use Rattle.csv.specs.Records.{fields_of}
@@ -17,12 +17,13 @@ use Rattle.a429_import.specs.declared.fault.CsvFaultKind.TheVariants.{Column}
 use Rattle.a429_import.specs.declared.fault.ImportColumn.{ImportColumn}
 use Rattle.a429_import.specs.declared.fault.ImportFault.{ImportFault}
 use Rattle.a429_import.specs.declared.fault.ImportFault.TheVariants.{Csv, NoMemory, Table, Wide}
+use Rattle.a429_import.specs.declared.import.Imported.{Imported}
 use Rattle.a429_import.specs.declared.lines.CsvLine.{CsvLine}
 use Rattle.a429_import.specs.declared.rows.ImportRow.{ImportRow}
-use Rattle.a429_callers.specs.ImportedIcd.{HasPlanTextOf, ImportedIcdIsSamePlan, ImportsPlan, IsWholeInIcd, icd_csv}
+use Rattle.a429_callers.specs.ImportedIcd.{HasPlanTextOf, ImportedIcdIsSamePlan, ImportsPlan, IsWholeInIcd, icd_csv, plainly}
 use Rattle.a429_import.specs.Imports.{AreNamedLines, IsImport, IsImportIf, IsImportOf, has_row_above, is_misquoted_text, is_wide_text}
 use Rattle.a429_import.specs.ImportMaps.{AreNamedBy, names_by}
-use Rattle.a429_import.specs.ImportRows.{CsvFault, rows_after, rows_stated, unless_wrong, wrong_column}
+use Rattle.a429_import.specs.ImportRows.{CsvFault, rows_after, rows_stated, unless_wrong, without_notes, wrong_column}
 use Rattle.a429_import.specs.ImportTables.{record_stated, root_members}
 use Rattle.a429_callers.proofs.Icd.Faults.{none_at_all}
 use Rattle.a429_callers.proofs.Icd.Groups.{new_number}
@@ -41,7 +42,7 @@ own_names [] = refl
 own_names (name ∷ names) = ap (λ (rest : List (List ℕ)). name ∷ rest) (own_names names)
 
 abbrev by_names : ℕ → List (List ℕ) → List CsvLine → Option ImportColumn → Result (List ImportRow) CsvFault
-by_names number names lines None = rows_after names [] lines
+by_names number names lines None = rows_after names [] (without_notes names lines)
 by_names number names lines (Some column) = Err (number, Column, Some column)
 
 unless_wrong_is : (heading : CsvLine) (lines : List CsvLine) (wrong : Option ImportColumn) → unless_wrong heading lines wrong ≡ by_names heading.number (fields_of heading.fields) lines wrong
@@ -90,8 +91,8 @@ module _ (bytes : List ℕ) (a : Proposed) (A : IsWholeInIcd bytes a) (one_plan 
   lines_state : (lines : List CsvLine) → AreNamedLines [] (icd_csv a) lines → rows_stated lines ≡ Ok rows
   lines_state lines are = unnamed are.1 are.0 lines are.3 ∙ rows_stated_are a.station sound a.plan are.0 A.plan are.2
 
-  of_lines : (lines : List CsvLine) → AreNamedLines [] (icd_csv a) lines → (result : Result (Vec ℕ Global) ImportFault) → IsImportOf lines result → ImportsPlan a result
-  of_lines lines are (Ok text) imports =
+  of_lines : (lines : List CsvLine) → AreNamedLines [] (icd_csv a) lines → (result : Result Imported ImportFault) → IsImportOf lines result → ImportsPlan a result
+  of_lines lines are (Ok imported) imports =
       let same : imports.0 ≡ rows = same_ok imports.0 rows (sym imports.1 ∙ lines_state lines are) in
       record {
         table = record_stated rows;
@@ -116,13 +117,13 @@ module _ (bytes : List ℕ) (a : Proposed) (A : IsWholeInIcd bytes a) (one_plan 
       let texts_of : List (List (List ℕ)) = map texts (icd_rows false a.station a.plan) in
       ap₂ (λ (x y : Bool). x || y) (quotes_are_right texts_of) (heading_is_first texts_of)
 
-  of_rows : (result : Result (Vec ℕ Global) ImportFault) → IsImportIf (is_misquoted_text [] (icd_csv a) || has_row_above [] (icd_csv a)) [] false (icd_csv a) result → ImportsPlan a result
+  of_rows : (result : Result Imported ImportFault) → IsImportIf (is_misquoted_text [] (icd_csv a) || has_row_above [] (icd_csv a)) [] plainly (icd_csv a) result → ImportsPlan a result
   of_rows result imports =
-      let of = subst (λ (b : Bool). IsImportIf b [] false (icd_csv a) result) fit imports in
+      let of = subst (λ (b : Bool). IsImportIf b [] plainly (icd_csv a) result) fit imports in
       of_lines of.0 of.1 result of.2
 
-  of_text : (result : Result (Vec ℕ Global) ImportFault) → IsImport [] false (icd_csv a) result → ImportsPlan a result
-  of_text (Ok text) imports = of_rows (Ok text) imports.1
+  of_text : (result : Result Imported ImportFault) → IsImport [] plainly (icd_csv a) result → ImportsPlan a result
+  of_text (Ok imported) imports = of_rows (Ok imported) imports.1
   of_text (Err NoMemory) imports = tt
   of_text (Err (Csv line kind column)) imports = of_rows (Err (Csv line kind column)) imports.1
   of_text (Err (Wide line)) imports = cc (sym imports ∙ narrow)

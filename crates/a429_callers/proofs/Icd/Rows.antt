@@ -27,9 +27,10 @@ use Rattle.a429_import.specs.declared.fault.ImportColumn.TheVariants.{Filters, L
 use Rattle.a429_import.specs.declared.lines.CsvLine.{CsvLine}
 use Rattle.a429_import.specs.declared.rows.ImportRow.{ImportRow}
 use Rattle.a429_documents.specs.Document.{groups_rows, icd_columns, icd_rows, output_row, output_rows, receiver_name}
-use Rattle.a429_import.specs.ImportRows.{CsvFault, agreed, clash, first_clash, is_named, joined, next_row, numbers_of, other_clash, row_of, rows_after, rows_stated, source_clash, texts_of, unless_wrong, with_row, wrong_column, is_wrong}
+use Rattle.a429_import.specs.ImportRows.{CsvFault, agreed, clash, first_clash, is_named, joined, next_row, numbers_of, other_clash, row_of, rows_after, rows_stated, source_clash, texts_of, unless_wrong, with_row, without_notes, wrong_column, is_wrong}
 use Rattle.a429_import.specs.ImportTables.{has_group, is_known}
 use Rattle.a429_import.specs.declared.firsts.Part.TheVariants.{Sources}
+use Rattle.a429_import.proofs.ImportNotes.{no_notes}
 use Rattle.a429_import.specs.Imports.{AreLines, has_text, is_wide, is_wide_text}
 use Rattle.a429_text.specs.Fields.{Field}
 use Rattle.a429_text.specs.Sheets.{csv_text_of}
@@ -334,9 +335,12 @@ module _ (e : TableRecord) (sound : IsSound e) where
   stated_from (heading ∷ lines) texts are read =
       let head : fields_of heading.fields ≡ icd_columns = first_is (fields_of heading.fields) icd_columns (map (λ (l : CsvLine). fields_of l.fields) lines) (map read_back texts) are.fields in
       let rest = later_are (fields_of heading.fields) icd_columns (map (λ (l : CsvLine). fields_of l.fields) lines) (map read_back texts) are.fields in
+      let stated : rows_after icd_columns [] lines ≡ Ok (read_table e) =
+      after_all icd_columns lines (read_table e) [] (lines_read lines texts (read_table e) rest are.separators.1 read) tt rows_are in
       ap (λ (o : Option ImportColumn). unless_wrong heading lines o) (ap wrong_column head ∙ no_wrong_column)
-      ∙ ap (λ (h : List (List ℕ)). rows_after h [] lines) head
-      ∙ after_all icd_columns lines (read_table e) [] (lines_read lines texts (read_table e) rest are.separators.1 read) tt rows_are
+      ∙ ap (λ (h : List (List ℕ)). rows_after h [] (without_notes h lines)) head
+      ∙ ap (rows_after icd_columns []) (no_notes icd_columns lines [] (read_table e) stated)
+      ∙ stated
 
   have_texts : (texts : List (List (List ℕ))) (rows : List ImportRow) → AllZip IsReadAs texts rows → HaveTexts texts
   have_texts [] rows read = tt

@@ -6,7 +6,8 @@ use Rattle.a429_text.specs.declared.sheets.SheetForm.{SheetForm}
 use Rattle.a429_cli.specs.Encoding.{FieldBytes, IsEncoded, IsNotEncoded}
 use Rattle.a429_cli.specs.Findings.{AnswersDiff, IsLinted, IsNoLint}
 use Rattle.a429_cli.specs.WholeReplies.{Replies}
-use Rattle.a429_cli.specs.Importing.{ImportsNoShortGroup, IsImportReply}
+use Rattle.a429_import.specs.declared.import.ImportOptions.{ImportOptions}
+use Rattle.a429_cli.specs.Importing.{ImportsSilently, IsImportReply}
 use Rattle.a429_cli.proofs.PlanReplies.{on_plan}
 use Rattle.a429_cli.proofs.WholeAnswers.{given_by}
 use Rattle.a429_cli.proofs.commands.reply_to.Goals as goal
@@ -26,7 +27,7 @@ returns-in-Import-clause-replied g c =
     given_by g.F.FileReader.answers c.args.files.now c.import_reply.new.files (asked_of asked) c.import_reply.result asked.verb verb.Import c.in-Import.is
     (read_weaker c.import_reply.ensures.replied
     (λ file is.
-    subst₂ (λ (maps : List (List ℕ)) (names : Bool). IsImportReply file maps names asked.first.now c.import_reply.result) (c.texts.ensures refl) c.has.ensures is))
+    subst₂ (λ (maps : List (List ℕ)) (options : ImportOptions). IsImportReply file maps options asked.first.now c.import_reply.result) (c.texts.ensures refl) c.import_options.ensures is))
 
 pub returns-in-Check-clause-replied : goal.returns-in-Check-clause-replied
 returns-in-Check-clause-replied g c =
@@ -67,7 +68,7 @@ returns-in-Import-clause-silent g c =
     rw c.in-Import.is
     (read_weaker c.import_reply.ensures.silent
     (λ file silent none.
-    silent (subst₂ (λ (maps : List (List ℕ)) (names : Bool). ImportsNoShortGroup file maps names asked.first.now) (sym (c.texts.ensures refl)) (sym c.has.ensures) none)))
+    silent (subst₂ (λ (maps : List (List ℕ)) (options : ImportOptions). ImportsSilently file maps options asked.first.now) (sym (c.texts.ensures refl)) (sym c.import_options.ensures) none)))
 
 pub returns-in-Check-clause-silent : goal.returns-in-Check-clause-silent
 returns-in-Check-clause-silent g c = read_weaker c.check_reply.ensures (λ file is silent. refl)

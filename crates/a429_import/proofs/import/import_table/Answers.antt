@@ -8,4 +8,4 @@ pub returns-in-Some : goal.returns-in-Some
 returns-in-Some c =
     let maps : List (List ℕ) = given_texts c.args.maps.now in
     let refused : IsTextFault maps c.args.bytes.now (Some c.in-Some.fault) = subst (λ (o : Option ImportFault). IsTextFault maps c.args.bytes.now o) c.in-Some.is c.in_ok-fault.ensures in
-    refused c.args.makes_names
+    refused c.args.options

@@ -1,26 +1,35 @@
-use Rattle.std.proofs.Common.{Err, None, Some, refl, subst, sym}
+use Rattle.std.proofs.Common.{◌∙◌, Err, None, Some, refl, subst, sym}
 use Rattle.a429_import.specs.declared.fault.CsvFaultKind.TheVariants.{Column}
 use Rattle.a429_import.specs.declared.fault.ImportColumn.TheVariants.{Group}
 use Rattle.a429_import.specs.declared.fault.ImportFault.{ImportFault}
-use Rattle.a429_import.specs.Imports.{IsImportFrom}
+use Rattle.a429_import.specs.Imports.{IsImportFrom, IsTableBy}
 use Rattle.a429_import.specs.ImportReading.{HaveRows}
 use Rattle.a429_import.proofs.ImportRanges.{stated_in_range}
-use Rattle.a429_import.proofs.ImportReading.{no_lines, rows_read}
-use Rattle.a429_import.proofs.Imports.{no_import, table_import}
+use Rattle.a429_import.proofs.ImportReading.{no_lines, notes_read, rows_read}
+use Rattle.a429_import.proofs.Imports.{no_import, table_fault, table_import}
 use Rattle.a429_import.proofs.import.table_below_heading.Goals as goal
 
 pub table_by-requires : goal.table_by-requires
 table_by-requires c =
     let there : HaveRows (Some c.in-Some._heading) c.args.read.now c.requires.0 = subst (λ o. HaveRows o c.args.read.now c.requires.0) c.in-Some.is c.requires.1 in
-    (there.2.rows, there.2.has)
+    (there.2.are.rows, there.2.are.has)
 
 pub returns-in-None : goal.returns-in-None
 returns-in-None c = λ lines known.
     let there : HaveRows None c.args.read.now lines = subst (λ o. HaveRows o c.args.read.now lines) c.in-None.is known in
     subst (λ (f : ImportFault). IsImportFrom c.args.makes_names lines (Err f)) (sym c.wrong_heading.ensures) (no_import c.args.makes_names lines 1 Column (Some Group) (no_lines c.args.read.now lines _ there refl))
 
-pub returns-in-Some : goal.returns-in-Some
-returns-in-Some c = λ lines known.
+pub returns-in-Ok-in-Some : goal.returns-in-Ok-in-Some
+returns-in-Ok-in-Some c = λ lines known.
     let there : HaveRows (Some c.in-Some._heading) c.args.read.now lines = subst (λ o. HaveRows o c.args.read.now lines) c.in-Some.is known in
     let are = rows_read c.in-Some._heading c.args.read.now lines there in
-    table_import c.args.makes_names lines there.2.rows c.table_by.result are (c.table_by.ensures there.2.rows there.2.has (stated_in_range lines there.2.rows are))
+    let table = c.table_by.ensures there.2.are.rows there.2.are.has (stated_in_range lines there.2.are.rows are) in
+    let count = c.len.ensures ∙ notes_read c.in-Some._heading c.args.read.now lines there in
+    table_import c.args.makes_names lines there.2.are.rows _ are count (subst (λ r. IsTableBy c.args.makes_names there.2.are.rows r) c.in-Ok-in-Some.is table)
+
+pub returns-in-Err-in-Some : goal.returns-in-Err-in-Some
+returns-in-Err-in-Some c = λ lines known.
+    let there : HaveRows (Some c.in-Some._heading) c.args.read.now lines = subst (λ o. HaveRows o c.args.read.now lines) c.in-Some.is known in
+    let are = rows_read c.in-Some._heading c.args.read.now lines there in
+    let table = c.table_by.ensures there.2.are.rows there.2.are.has (stated_in_range lines there.2.are.rows are) in
+    table_fault c.args.makes_names lines there.2.are.rows c.in-Err-in-Some.fault are (subst (λ r. IsTableBy c.args.makes_names there.2.are.rows r) c.in-Err-in-Some.is table)

@@ -16,11 +16,16 @@ use Rattle.std.specs.Str.{chars, is_utf8}
 use Rattle.a429_import.proofs.laws.forms_are_read_as_written.Goals as goal
 
 pub returns-clause-fields : goal.returns-clause-fields
-unfolding rate_in number_in decimal_number is_numeral label_in label_value sdi_in
+unfolding rate_in millis_in number_in decimal_number is_numeral label_in label_value sdi_in
 returns-clause-fields c = record {
   high = refl;
   low = refl;
   number = refl;
+  speed = refl;
+  kilobits = refl;
+  no_space = refl;
+  no_unit = refl;
+  no_number = refl;
   lost_zeros = refl;
   kept_zeros = refl;
   octal = refl;
@@ -43,7 +48,7 @@ unfolding is_named heading_among rsplit_once
 returns-clause-maps c = record { named = refl; last_mark = refl; first = refl; other = refl; no_heading = refl; no_column = refl; found = refl }
 
 pub returns-clause-alone : goal.returns-clause-alone
-unfolding numbers_of column_field is_column_in_millis is_named rate_in number_in decimal_number is_numeral label_in label_value sdi_in hold_in
+unfolding numbers_of column_field is_column_in_millis is_named rate_in millis_in number_in decimal_number is_numeral label_in label_value sdi_in hold_in
 returns-clause-alone c = record { output = refl; alone = refl; rated = refl; least = refl; no_rate = refl }
 
 pub returns-clause-names : goal.returns-clause-names
@@ -65,3 +70,10 @@ returns-clause-quotes c = record { closed = refl; not_closed = refl; doubled = r
 pub returns-clause-above : goal.returns-clause-above
 unfolding is_named heading_among strip_bom next_record records_from column_field label_in label_value rsplit_once
 returns-clause-above c = record { row = refl; title = refl; lost_zeros = refl; mapped = refl; unmapped = refl; names = refl; units = refl; fewer = refl; more = refl; below = refl; no_heading = refl }
+
+pub returns-clause-notes : goal.returns-clause-notes
+returns-clause-notes c = record { notes = refl; gap = refl; none = refl }
+
+pub returns-clause-filled : goal.returns-clause-filled
+unfolding is_named
+returns-clause-filled c = record { empty = refl; stated = refl; other = refl; first = refl }

@@ -3,7 +3,7 @@ use Rattle.std.proofs.lemmas.List.Elements.{filter-append}
 use Rattle.csv.specs.Records.{fields_of}
 use Rattle.a429_import.specs.declared.lines.CsvLine.{CsvLine}
 use Rattle.a429_import.specs.ImportReading.{IsOfNamed}
-use Rattle.a429_import.specs.RenamedReading.{IsReadBy}
+use Rattle.a429_import.specs.FilledReading.{IsReadFilled}
 use Rattle.a429_import.specs.ImportMaps.{given_texts}
 use Rattle.a429_import.specs.Imports.{has_text}
 use Rattle.a429_import.proofs.ImportForms.{read_all, read_more}
@@ -25,7 +25,7 @@ loop-row-preserved c =
       turns = s.2;
       all = inv.all ++ line ∷ [];
       read = read_more c.args.form.separator c.args.form.text.now c.loop-row.row-iterator.now.rdr c.next.new.self.now.rdr inv.all line inv.read s.0 s.1 c.in_ok-line.ensures.separator;
-      known = subst (λ (ls : List CsvLine). IsOfNamed (given_texts c.args.maps.now) c.in_ok-is_below.is_below (IsReadBy c.args.makes_names c.take_filled.new.read) ls) (sym (filter-append (λ (l : CsvLine). has_text (fields_of l.fields)) inv.all (line ∷ []))) (c.in_ok-is_below.ensures (filter (λ (l : CsvLine). has_text (fields_of l.fields)) inv.all) inv.known);
+      known = subst (λ (ls : List CsvLine). IsOfNamed (given_texts c.args.maps.now) c.in_ok-is_below.is_below (IsReadFilled c.args.options c.take_filled.new.read) ls) (sym (filter-append (λ (l : CsvLine). has_text (fields_of l.fields)) inv.all (line ∷ []))) (c.in_ok-is_below.ensures (filter (λ (l : CsvLine). has_text (fields_of l.fields)) inv.all) inv.known);
     }
 
 pub returns : goal.returns

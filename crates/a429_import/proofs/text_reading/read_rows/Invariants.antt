@@ -3,7 +3,7 @@ use Rattle.csv.specs.Records.{fields_of}
 use Rattle.a429_import.specs.declared.lines.CsvLine.{CsvLine}
 use Rattle.a429_import.specs.ImportMaps.{given_texts}
 use Rattle.a429_import.specs.ImportReading.{HasRead, IsOfNamed}
-use Rattle.a429_import.specs.RenamedReading.{IsReadBy}
+use Rattle.a429_import.specs.FilledReading.{IsReadFilled}
 use Rattle.a429_import.specs.Imports.{has_text}
 use Rattle.a429_import.proofs.text_reading.read_rows.Given as goal
 
@@ -12,5 +12,5 @@ invariant-loop-row l = record {
   turns : 0 < l.row-iterator.left;
   all : List CsvLine;
   read : HasRead l.form.separator l.form.text.now l.row-iterator.rdr all;
-  known : IsOfNamed (given_texts l.maps) l.is_below (IsReadBy l.makes_names l.read) (filter (λ line. has_text (fields_of line.fields)) all);
+  known : IsOfNamed (given_texts l.maps) l.is_below (IsReadFilled l.options l.read) (filter (λ line. has_text (fields_of line.fields)) all);
 }
