@@ -161,9 +161,6 @@ ignored, and so are up to ten lines above the heading.
   label, sdi         the label in octal, and the SDI, 0 to 3 or `any`
   min_us, max_us     minimum and maximum transmit interval in microseconds
   min_ms, max_ms     or in milliseconds, with at most three decimals
-  min_hz, max_hz     or the least and the greatest rate in Hz
-  interval_us        or both in one field, as 50000/100000 or 50000-100000;
-                     interval_ms and rate_hz alike
   hold               optional: a number, or empty
   filters            optional: filters of the receiver, separated by spaces
 A row without a group states its source and receiver alone.

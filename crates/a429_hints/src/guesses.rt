@@ -52,30 +52,18 @@ fn first_word(text: &[u8], words: &str) -> Option<usize> {
     None
 }
 
-/// Whether a heading is about milliseconds, or about a rate in Hz.
+/// Whether a heading is about milliseconds.
 fn is_in_millis(title: &[u8]) -> bool {
     first_word(title, "ms msec millisecond milliseconds").is_some()
 }
 
-fn is_in_hertz(title: &[u8]) -> bool {
-    has_word(title, "hz")
-}
-
-/// How likely a heading is meant by a column: 0 is the likeliest. `None` if it is not. The greatest rate in Hz is the least
-/// interval.
+/// How likely a heading is meant by a column: 0 is the likeliest. `None` if it is not. No column has rates in Hz.
 fn rank_of(column: ImportColumn, title: &[u8]) -> Option<usize> {
     let is_limit = first_word(title, "min minimum shortest max maximum longest").is_some();
     match column {
-        ImportColumn::MinUs if is_in_hertz(title) => first_word(
-            title,
-            words_of(ImportColumn::MaxUs),
-        ),
-        ImportColumn::MaxUs if is_in_hertz(title) => first_word(
-            title,
-            words_of(ImportColumn::MinUs),
-        ),
+        _ if has_word(title, "hz") => None,
         ImportColumn::MinUs | ImportColumn::MaxUs => first_word(title, words_of(column)),
-        ImportColumn::Rate if is_in_millis(title) || is_in_hertz(title) => None,
+        ImportColumn::Rate if is_in_millis(title) => None,
         _ if is_limit => None,
         _ => first_word(title, words_of(column)),
     }
@@ -131,9 +119,6 @@ fn is_short(file: FileRows, place: usize) -> bool {
 fn name_of_limit(file: FileRows, column: ImportColumn, place: usize) -> &'static str {
     let title = file.titles.field(place);
     let is_min = column == ImportColumn::MinUs;
-    if is_in_hertz(title) {
-        return if is_min { "max_hz" } else { "min_hz" };
-    }
     let is_micros = first_word(title, "us usec microsecond microseconds").is_some();
     if is_in_millis(title) || !is_micros && is_short(file, place) {
         return if is_min { "min_ms" } else { "max_ms" };
