@@ -10,10 +10,6 @@ pub three : (t0 t1 t2 t3 a b c : List ℕ) → t1 ≡ t0 ++ a → t2 ≡ t1 ++ b
 three t0 t1 t2 t3 a b c h1 h2 h3 =
     h3 ∙ ap (λ (x : List ℕ). x ++ c) h2 ∙ append_assoc t1 b c ∙ ap (λ (x : List ℕ). x ++ (b ++ c)) h1 ∙ append_assoc t0 a (b ++ c)
 
--- two pieces; the second may be the rest of the text
-pub two : (t0 t1 t2 a b : List ℕ) → t1 ≡ t0 ++ a → t2 ≡ t1 ++ b → t2 ≡ t0 ++ (a ++ b)
-two t0 t1 t2 a b h1 h2 = h2 ∙ ap (λ (x : List ℕ). x ++ b) h1 ∙ append_assoc t0 a b
-
 -- ---- one more of a range
 
 range_more : (k : ℕ) → range_with_len 0 (k + 1) ≡ range_with_len 0 k ++ k ∷ []

@@ -28,11 +28,17 @@ group_array g word = codes "a429_" ++ (array_name g.name ++ (codes "_" ++ word))
 unfoldable pub array_start : List ℕ → GroupRow → List ℕ → List ℕ
 array_start kind g word = codes "static const " ++ (kind ++ (codes " " ++ (group_array g word ++ codes "[] = {")))
 
--- the start of a type that is refused unless an array has as many elements as the number that follows
+-- whether an array has as many elements as the number that follows, after `sizeof`
+unfoldable pub size_test : GroupRow → List ℕ → List ℕ
+size_test g word = group_array g word ++ (codes " / sizeof " ++ (group_array g word ++ codes "[0]\n    == "))
+
+-- the start of a type that is named for an array
+unfoldable pub type_start : GroupRow → List ℕ → List ℕ
+type_start g word = codes "typedef char " ++ (group_array g word ++ codes "_is_whole[\n    sizeof ")
+
+-- the start of a type that is refused unless the array has its size
 unfoldable pub check_start : GroupRow → List ℕ → List ℕ
-check_start g word =
-    codes "typedef char " ++ (group_array g word ++ (codes "_is_whole[\n    sizeof " ++ (group_array g word
-    ++ (codes " / sizeof " ++ (group_array g word ++ codes "[0]\n    == ")))))
+check_start g word = type_start g word ++ size_test g word
 
 -- its end
 abbrev pub check_end : List ℕ

@@ -3,7 +3,7 @@ ghost use Rattle.std.specs.Prelude.{◌≡◌, ◌<◌, ◌++◌, IfSome, codes,
 ghost use Rattle.a429_text.specs.Nibbles.{nibble, nibbles};
 ghost use Rattle.a429_slots.specs.Tables.{outputs_of, source_of};
 ghost use Rattle.a429_cert.specs.PlanText.{HasSources};
-ghost use Rattle.a429_documents.specs.SlotColumns.{array_start, check_end, check_start, column_array, column_arrays, column_kind, column_value, column_word, group_array, group_macro, sdi_value, value_entries, value_entry, value_line};
+ghost use Rattle.a429_documents.specs.SlotColumns.{array_start, check_end, check_start, column_array, column_arrays, column_kind, column_value, column_word, group_array, group_macro, sdi_value, size_test, type_start, value_entries, value_entry, value_line};
 
 use crate::document::receiver_name;
 use crate::slots::header::names::{put_array_name, put_constant, put_macro_name};
@@ -91,18 +91,33 @@ pub(crate) fn put_array_start(text: &mut Text, kind: &str, group: &GroupRow, wor
     text.put("[] = {");
 }
 
+/// Begins the test of the size of an array, after `sizeof`.
+#[tactic(auto, unfolding(crate::specs::SlotColumns::size_test))]
+fn put_size_test(text: &mut Text, group: &GroupRow, word: &str)
+    ensures { text.new ≡ text.old ++ size_test group.now word.now }
+{
+    put_group_array(text, group, word);
+    text.put(" / sizeof ");
+    put_group_array(text, group, word);
+    text.put("[0]\n    == ");
+}
+
+/// Begins a type that is named for an array.
+fn put_type_start(text: &mut Text, group: &GroupRow, word: &str)
+    ensures { text.new ≡ text.old ++ type_start group.now word.now }
+{
+    text.put("typedef char ");
+    put_group_array(text, group, word);
+    text.put("_is_whole[\n    sizeof ");
+}
+
 /// Begins the type that checks the size of an array.
 #[tactic(auto, unfolding(crate::specs::SlotColumns::check_start))]
 pub(crate) fn put_check_start(text: &mut Text, group: &GroupRow, word: &str)
     ensures { text.new ≡ text.old ++ check_start group.now word.now }
 {
-    text.put("typedef char ");
-    put_group_array(text, group, word);
-    text.put("_is_whole[\n    sizeof ");
-    put_group_array(text, group, word);
-    text.put(" / sizeof ");
-    put_group_array(text, group, word);
-    text.put("[0]\n    == ");
+    put_type_start(text, group, word);
+    put_size_test(text, group, word);
 }
 
 /// Ends that type.
