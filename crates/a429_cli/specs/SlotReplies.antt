@@ -2,6 +2,7 @@
 use Rattle.std.specs.Prelude.{◌≡◌, ℕ, List, Option, Result, Some, if◌then◌else◌}
 use Rattle.a429_text.specs.Sheets.{sheet_text}
 use Rattle.a429_slots.specs.Proposed.{Proposed}
+use Rattle.a429_documents.specs.SlotBoard.{board_columns, board_rows}
 use Rattle.a429_documents.specs.SlotHeader.{header_text}
 use Rattle.a429_documents.specs.SlotRows.{slot_columns, slot_rows}
 use Rattle.a429_arguments.specs.Given.{Given, form_of, has_given}
@@ -12,14 +13,16 @@ use Rattle.a429_cli.specs.WholeReplies.{Replies}
 use Rattle.a429_cli.specs.declared.replies.reply.Reply.{Reply}
 use Rattle.a429_cli.specs.declared.slots.SlotsForm.{SlotsForm}
 
--- whether a header for C is asked for; otherwise whether the empty cells have rows too, and the form of the rows
+-- whether a header for C is asked for; otherwise whether rows for a bus board are; otherwise whether the empty cells have rows too; and the form
+-- of the rows
 abbrev pub slots_form : Given → SlotsForm
-slots_form given = record { code = has_given given option.Code; all = has_given given option.All; rows = form_of given }
+slots_form given = record { code = has_given given option.Code; board = has_given given option.Board; all = has_given given option.All; rows = form_of given }
 
 -- the slot tables of a proposal's plan, of the group of this number or of all
 abbrev pub slots_text : SlotsForm → Proposed → Option ℕ → List ℕ
 slots_text form q group =
     if form.code then header_text q.station q.plan group
+    else if form.board then sheet_text form.rows board_columns (board_rows q.station q.plan group)
     else sheet_text form.rows slot_columns (slot_rows q.station q.plan group form.all)
 
 -- the same of the group of this name, with status 0

@@ -9,7 +9,7 @@ use crate::replies::reply::Reply;
 use a429_arguments::options::OptionName;
 use a429_arguments::requests::Asked;
 use a429_console::refusals::Refused;
-use a429_documents::{slot_header, slot_sheet};
+use a429_documents::{slot_board, slot_header, slot_sheet};
 use a429_slots::{OUTPUTS, Proposal};
 use a429_text::SheetForm;
 use std::alloc::{AllocError, Global};
@@ -19,6 +19,8 @@ use std::alloc::{AllocError, Global};
 pub struct SlotsForm {
     /// A header for C, instead of rows.
     pub code: bool,
+    /// Rows for a bus board, instead of those of the cells.
+    pub board: bool,
     /// Rows for the empty cells too.
     pub all: bool,
     /// The form of the rows.
@@ -36,6 +38,7 @@ impl SlotsForm {
     {
         SlotsForm {
             code: asked.has(OptionName::Code),
+            board: asked.has(OptionName::Board),
             all: asked.has(OptionName::All),
             rows: asked.form(),
         }
@@ -54,6 +57,8 @@ fn slots_text(
 {
     if form.code {
         slot_header(alloc, proposal, group).into_bytes()
+    } else if form.board {
+        slot_board(alloc, proposal, group).render(alloc, form.rows)
     } else {
         slot_sheet(alloc, proposal, group, form.all).render(alloc, form.rows)
     }

@@ -25,3 +25,5 @@ pub mod Rooms
 pub mod FilledCells
 pub mod RoomsOfPlans
 pub mod SharesOfPlans
+pub mod BoardWords
+pub mod NamesApart

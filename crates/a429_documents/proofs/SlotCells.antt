@@ -8,12 +8,16 @@ use Rattle.a429_word.proofs.Lists.{read_is}
 use Rattle.a429_text.specs.Fields.{Field}
 use Rattle.a429_equipment.specs.TableRecord.{TableRecord}
 use Rattle.a429_equipment.specs.declared.rows.GroupRow.{GroupRow}
+use Rattle.a429_equipment.specs.declared.rows.ReceiverRow.{ReceiverRow}
 use Rattle.a429_equipment.specs.declared.rows.SourceRow.{SourceRow}
 use Rattle.a429_slots.specs.declared.group_plan.SlotPlace.{SlotPlace}
 use Rattle.a429_slots.specs.Tables.{Placed, SlotTable, PlanTable, buses_of, cell_at, frame_of, groups_of, outputs_of, place_of, placed_at, source_of}
 use Rattle.a429_slots.specs.Planned.{IsPlanOf}
 use Rattle.a429_slots.proofs.Cells.{output_is}
 use Rattle.a429_documents.specs.Drawing.{IsDrawn, first_drawn, groups_drawn}
+use Rattle.a429_documents.specs.SlotBoard.{board_row, sent_row}
+use Rattle.a429_documents.specs.SlotColumns.{value_entry, value_line}
+use Rattle.a429_documents.specs.declared.slots.header.columns.Column.{Column}
 use Rattle.a429_documents.specs.SlotHeader.{output_entry, output_line}
 use Rattle.a429_documents.specs.SlotRows.{IsRowOfCell, SlotRowsAreCells, cell_fields, cell_rows, filled_row, output_fields, rows_at, rows_in_frame, rows_in_slot}
 use Rattle.a429_documents.proofs.Among.{at_head, from_each, from_head, from_some, in_each, in_some, nothing_there}
@@ -27,6 +31,12 @@ pub sent_source : (sources : List SourceRow) (t : SlotTable) (o n : ℕ) (source
 sent_source sources t o n source below from there =
     let same : (placed_at t o).source ≡ n = same_Some _ _ (sym (ap (option_map (λ (p : Placed). p.source)) (output_is t o below)) ∙ from) in
     ap (slice_get sources) same ∙ there
+
+pub sent_row_is : (sources : List SourceRow) (t : SlotTable) (o n : ℕ) (source : SourceRow) → o < length (outputs_of t) → source_of t o ≡ Some n → slice_get sources n ≡ Some source
+    → (g : GroupRow) (bus slot : ℕ) → board_row g bus slot source ≡ sent_row sources g t bus slot o
+unfolding sent_row
+sent_row_is sources t o n source below from there g bus slot =
+    sym (ap (λ (s : Option SourceRow). option_map_or (board_row g bus slot) s []) (sent_source sources t o n source below from there))
 
 module _ (sources : List SourceRow) (t : SlotTable) (o n : ℕ) (place : SlotPlace) (source : SourceRow) (below : o < length (outputs_of t)) (at : place_of t o ≡ Some place) (from : source_of t o ≡ Some n) (there : slice_get sources n ≡ Some source) where
   -- what is made of the source and the place of an output
@@ -42,6 +52,10 @@ module _ (sources : List SourceRow) (t : SlotTable) (o n : ℕ) (place : SlotPla
   pub output_entry_is : output_line o source place ≡ output_entry sources t o
   unfolding output_entry
   output_entry_is = made_of (output_line o)
+
+  pub value_entry_is : (receivers : List ReceiverRow) (column : Column) → value_line receivers column source place ≡ value_entry receivers sources t column o
+  unfolding value_entry
+  value_entry_is receivers column = made_of (value_line receivers column)
 
 -- ---- a group
 

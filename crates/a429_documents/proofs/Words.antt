@@ -15,7 +15,7 @@ pub record WordOf (label sdi : ℕ) : Type 0 where
   pub label_is : label_of raw ≡ label
   pub sdi_is : sdi_of raw ≡ sdi
 
-turned_below : (n : ℕ) → reverse_bits_onto 8 n 0 < 256
+pub turned_below : (n : ℕ) → reverse_bits_onto 8 n 0 < 256
 unfolding reverse_bits_onto
 turned_below n = omega arith
 

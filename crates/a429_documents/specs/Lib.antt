@@ -10,3 +10,6 @@ pub mod SlotHeader
 pub mod Limits
 pub mod Load
 pub mod Buses
+pub mod SlotBoard
+pub mod SlotNames
+pub mod SlotColumns

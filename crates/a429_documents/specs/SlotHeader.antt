@@ -1,5 +1,5 @@
--- The slot tables of a plan as a header of C (C99): for each group a comment that numbers its outputs, its sizes as macros, and its cells as an
--- array (profile: docs/FORMATS.md, Header for C).
+-- The slot tables of a plan as a header of C (C99, C++17): the receivers and sources as constants, and for each group a comment that numbers its
+-- outputs, its sizes as macros, and its outputs and cells as arrays (profile: docs/FORMATS.md, Header for C).
 use Rattle.std.specs.Prelude.{ℕ, ◌%◌, ◌==◌, ◌^◌, List, ◌++◌, [], Option, None, Some, codes, if◌then◌else◌, length, slice_get}
 use Rattle.std.specs.Fmt.{decimal}
 use Rattle.std.specs.List.{flat_map, range_with_len}
@@ -7,19 +7,22 @@ use Rattle.std.specs.Option.{option_map_or}
 use Rattle.a429_word.specs.Texts.{octal}
 use Rattle.a429_equipment.specs.TableRecord.{TableRecord}
 use Rattle.a429_equipment.specs.declared.rows.GroupRow.{GroupRow}
+use Rattle.a429_equipment.specs.declared.rows.ReceiverRow.{ReceiverRow}
 use Rattle.a429_equipment.specs.declared.rows.SourceRow.{SourceRow}
 use Rattle.a429_slots.specs.declared.group_plan.SlotPlace.{SlotPlace}
 use Rattle.a429_slots.specs.Tables.{SlotTable, PlanTable, buses_of, cell_at, frame_of, groups_of, outputs_of, placed_at}
 use Rattle.a429_documents.specs.Drawing.{first_drawn, groups_drawn}
+use Rattle.a429_documents.specs.SlotColumns.{array_start, check_end, check_start, column_arrays, group_macro}
+use Rattle.a429_documents.specs.SlotNames.{receiver_enum, source_enum}
 
 -- ---- the lines before the groups
 
--- what the elements of the arrays are, and the number that is in an empty cell
+-- what the elements of the arrays are, how names are written, and the numbers of an empty cell and of any SDI
 unfoldable pub header_start : List ℕ
 header_start =
-    codes "/* Slot tables, by `a429 slots --c`. Element [bus * A429_GROUP_0_FRAME + slot] of an array\n"
-    ++ (codes "   is the number of the output in that cell, or A429_EMPTY. Outputs are numbered from 0. */\n"
-    ++ codes "#ifndef A429_SLOTS_H\n#define A429_SLOTS_H\n\n#include <stdint.h>\n\n#define A429_EMPTY 0xFFFF\n\n")
+    codes "/* Slot tables, by `a429 slots --c`. Outputs of a group are numbered from 0.\n   Element [bus * FRAME + slot] of `slots` is the output in that cell, or\n"
+    ++ (codes "   A429_EMPTY. Other arrays have an element for each output. In names `-` is\n   `_`; `_` is `u` in macros and constants, `U` in arrays. */\n"
+    ++ codes "#ifndef A429_SLOTS_H\n#define A429_SLOTS_H\n\n#include <stdint.h>\n\n#define A429_EMPTY 0xFFFF\n#define A429_ANY_SDI 0xFF\n\n")
 
 -- ---- the outputs of a group, as a comment
 
@@ -54,25 +57,17 @@ group_comment sources g t = codes "/* group " ++ (g.name ++ (output_entries sour
 
 -- ---- the sizes of a group, as macros
 
--- the start of a macro of a group, by the group's number: a word ends its name
-unfoldable pub macro_start : ℕ → List ℕ → List ℕ
-macro_start number word = codes "#define A429_GROUP_" ++ (decimal number ++ word)
-
 -- a macro whose value is a number
-unfoldable pub number_macro : ℕ → List ℕ → ℕ → List ℕ
-number_macro number word value = macro_start number word ++ (decimal value ++ codes "\n")
-
--- the macro of a group's name
-unfoldable pub name_macro : ℕ → GroupRow → List ℕ
-name_macro number g = macro_start number (codes "_NAME \"") ++ (g.name ++ codes "\"\n")
+unfoldable pub number_macro : GroupRow → List ℕ → ℕ → List ℕ
+number_macro g word value = codes "#define " ++ (group_macro g word ++ (codes " " ++ (decimal value ++ codes "\n")))
 
 -- its bit rate in bit/s, the number of slots in a frame, of buses and of outputs
-unfoldable pub size_macros : ℕ → GroupRow → SlotTable → List ℕ
-size_macros number g t =
-    number_macro number (codes "_RATE ") g.rate
-    ++ (number_macro number (codes "_FRAME ") (frame_of t)
-    ++ (number_macro number (codes "_BUSES ") (buses_of t)
-    ++ number_macro number (codes "_OUTPUTS ") (length (outputs_of t))))
+unfoldable pub size_macros : GroupRow → SlotTable → List ℕ
+size_macros g t =
+    number_macro g (codes "_RATE") g.rate
+    ++ (number_macro g (codes "_FRAME") (frame_of t)
+    ++ (number_macro g (codes "_BUSES") (buses_of t)
+    ++ number_macro g (codes "_OUTPUTS") (length (outputs_of t))))
 
 -- ---- the cells of a group, as an array
 
@@ -97,31 +92,33 @@ bus_elements t bus = flat_map (element t bus) (range_with_len 0 (frame_of t))
 abbrev pub group_elements : SlotTable → List ℕ
 group_elements t = flat_map (bus_elements t) (range_with_len 0 (buses_of t))
 
--- the name of an array, and its length: the slots of a frame on each bus
-unfoldable pub array_start : ℕ → List ℕ
-array_start number =
-    codes "static const uint16_t a429_group_" ++ (decimal number
-    ++ (codes "_slots[A429_GROUP_" ++ (decimal number ++ (codes "_BUSES * A429_GROUP_" ++ (decimal number ++ codes "_FRAME] = {")))))
+-- the type that checks the size of the array: the slots of a frame on each bus
+unfoldable pub slots_check : GroupRow → List ℕ
+slots_check g = check_start g (codes "slots") ++ (group_macro g (codes "_BUSES") ++ (codes " * " ++ (group_macro g (codes "_FRAME") ++ check_end)))
 
--- the array of a group, by the number of the group
-unfoldable pub group_array : ℕ → SlotTable → List ℕ
-group_array number t = array_start number ++ (group_elements t ++ codes "\n};\n\n")
+-- the array, and that type
+unfoldable pub slots_array : GroupRow → SlotTable → List ℕ
+slots_array g t = array_start (codes "uint16_t") g (codes "slots") ++ (group_elements t ++ (codes "\n};\n" ++ (slots_check g ++ codes "\n")))
 
 -- ---- the header
 
--- a group, by its number
-unfoldable pub group_part : List SourceRow → ℕ → GroupRow → SlotTable → List ℕ
-group_part sources number g t = group_comment sources g t ++ (name_macro number g ++ (size_macros number g t ++ group_array number t))
+-- a group
+unfoldable pub group_part : List ReceiverRow → List SourceRow → GroupRow → SlotTable → List ℕ
+group_part receivers sources g t = group_comment sources g t ++ (size_macros g t ++ (column_arrays receivers sources g t ++ slots_array g t))
 
 -- the same of a plan; nothing if there is no such group
 abbrev pub part_at : TableRecord → PlanTable → ℕ → List ℕ
 part_at e p number =
-    option_map_or (λ g. option_map_or (group_part e.sources number g) (slice_get (groups_of p) number) []) (slice_get e.groups number) []
+    option_map_or (λ g. option_map_or (group_part e.receivers e.sources g) (slice_get (groups_of p) number) []) (slice_get e.groups number) []
 
 -- one group of a plan, or all in table order
 abbrev pub header_parts : TableRecord → PlanTable → Option ℕ → List ℕ
 header_parts e p group = flat_map (part_at e p) (range_with_len (first_drawn group) (groups_drawn group p))
 
+-- the receivers and the sources of a table
+unfoldable pub table_enums : TableRecord → List ℕ
+table_enums e = receiver_enum e.receivers ++ source_enum e.sources
+
 -- the header of a plan, of one group or of all
 abbrev pub header_text : TableRecord → PlanTable → Option ℕ → List ℕ
-header_text e p group = header_start ++ (header_parts e p group ++ codes "#endif\n")
+header_text e p group = header_start ++ (table_enums e ++ (header_parts e p group ++ codes "#endif\n"))

@@ -3,6 +3,8 @@ ghost use Rattle.a429_documents.specs.Drawing.{MarksAreCells};
 ghost use Rattle.a429_documents.specs.Load.{NeededBusesAreFewest, RoomsAreExact};
 ghost use Rattle.a429_documents.specs.Losses.{BusCountsAreFewest, NoLossIsAllServed};
 ghost use Rattle.a429_documents.specs.Margins.{WiderIntervalsAreNext};
+ghost use Rattle.a429_documents.specs.SlotBoard.{BoardWordsHaveNoData};
+ghost use Rattle.a429_documents.specs.SlotNames.{SlotNamesDiffer};
 ghost use Rattle.a429_documents.specs.SlotRows.{SlotRowsAreCells};
 ghost use Rattle.a429_documents.specs.Unchanged.{NoRowIsOnePlan, NoStationRowIsOneStation};
 
@@ -70,4 +72,15 @@ pub fn rooms_are_exact()
 /// one output alone is above the capacity.
 pub fn needed_buses_are_fewest()
     ensures { NeededBusesAreFewest }
+{}
+
+/// A word of `slots --board` has the label and the SDI of its row, data 0, SSM 0 and odd parity.
+pub fn board_words_have_no_data()
+    ensures { BoardWordsHaveNoData }
+{}
+
+/// Two names of receivers, of sources or of groups that differ in a table differ in the header of C too: their macros
+/// differ, and so do their arrays.
+pub fn slot_names_differ()
+    ensures { SlotNamesDiffer }
 {}

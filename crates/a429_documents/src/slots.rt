@@ -7,9 +7,11 @@ ghost use Rattle.a429_slots.specs.Times.{slots_us};
 ghost use Rattle.a429_cert.specs.PlanText.{HasSources};
 ghost use Rattle.a429_documents.specs.SlotRows.{cell_fields, cell_rows, empty_row, filled_row, output_fields, rows_at, rows_in_frame, rows_in_slot, slot_columns, slot_rows};
 
+mod board;
 mod header;
 
 use crate::document::{number, sdi_cell};
+pub use crate::slots::board::slot_board;
 pub use crate::slots::header::slot_header;
 use a429_equipment::{GroupRow, SourceRow};
 use a429_slots::{GroupPlan, OUTPUTS, OutputId, Proposal, SlotPlace, slots_us};
@@ -29,7 +31,7 @@ const COLUMNS: &[&str] = &[
 ];
 
 /// When a slot of a group begins, from the start of the frame: in microseconds, rounded up.
-fn start_cell(group: &GroupRow, slot: u32) -> Cell<'static>
+pub(crate) fn start_cell(group: &GroupRow, slot: u32) -> Cell<'static>
     requires { 1 ≤ group.now.rate }
     ensures { field_of result ≡ Number (slots_us group.now.rate slot) }
 {

@@ -2,9 +2,16 @@
 ghost use Rattle.std.specs.Prelude.{◌≡◌, ◌<◌, ◌++◌, IfSome, None, length};
 ghost use Rattle.a429_slots.specs.Tables.{groups_of, outputs_of, source_of};
 ghost use Rattle.a429_cert.specs.PlanText.{HasSources};
-ghost use Rattle.a429_documents.specs.SlotHeader.{array_start, bus_elements, cell_number, element, element_start, group_array, group_comment, group_elements, group_part, header_parts, header_start, header_text, macro_start, name_macro, number_macro, output_entries, output_entry, output_line, part_at, sdi_text, sending_text, size_macros, words_text};
+ghost use Rattle.a429_documents.specs.SlotHeader.{bus_elements, cell_number, element, element_start, group_comment, group_elements, group_part, header_parts, header_start, header_text, number_macro, output_entries, output_entry, output_line, part_at, sdi_text, sending_text, size_macros, slots_array, slots_check, table_enums, words_text};
 
-use a429_equipment::{GroupRow, SourceRow};
+mod columns;
+mod names;
+
+use crate::slots::header::columns::{
+    put_array_start, put_check_end, put_check_start, put_columns, put_group_macro,
+};
+use crate::slots::header::names::{put_receivers, put_sources};
+use a429_equipment::{Equipment, GroupRow, ReceiverRow, SourceRow};
 use a429_slots::{GroupPlan, OUTPUTS, OutputId, Proposal, SlotPlace};
 use a429_text::Text;
 use a429_word::Sdi;
@@ -84,44 +91,27 @@ fn put_comment(text: &mut Text, sources: &[SourceRow], group: &GroupRow, table: 
     text.put(" */\n");
 }
 
-/// Begins a macro of the group with this number: the word ends its name.
-fn put_macro_start(text: &mut Text, number: usize, word: &str)
-    ensures { text.new ≡ text.old ++ macro_start number word.now }
-{
-    text.put("#define A429_GROUP_");
-    text.put_number(number as u64);
-    text.put(word);
-}
-
 /// Writes a macro whose value is a number.
 #[tactic(auto, unfolding(crate::specs::SlotHeader::number_macro))]
-fn put_macro(text: &mut Text, number: usize, word: &str, value: u64)
-    ensures { text.new ≡ text.old ++ number_macro number word.now value }
+fn put_macro(text: &mut Text, group: &GroupRow, word: &str, value: u64)
+    ensures { text.new ≡ text.old ++ number_macro group.now word.now value }
 {
-    put_macro_start(text, number, word);
+    text.put("#define ");
+    put_group_macro(text, group, word);
+    text.put(" ");
     text.put_number(value);
     text.put("\n");
 }
 
-/// Writes the macro of a group's name.
-#[tactic(auto, unfolding(crate::specs::SlotHeader::name_macro))]
-fn put_name(text: &mut Text, number: usize, group: &GroupRow)
-    ensures { text.new ≡ text.old ++ name_macro number group.now }
-{
-    put_macro_start(text, number, "_NAME \"");
-    text.put(group.name.as_str());
-    text.put("\"\n");
-}
-
 /// Writes the macros of a group's sizes.
 #[tactic(auto, unfolding(crate::specs::SlotHeader::size_macros))]
-fn put_sizes(text: &mut Text, number: usize, group: &GroupRow, table: &GroupPlan<OUTPUTS>)
-    ensures { text.new ≡ text.old ++ size_macros number group.now table.now }
+fn put_sizes(text: &mut Text, group: &GroupRow, table: &GroupPlan<OUTPUTS>)
+    ensures { text.new ≡ text.old ++ size_macros group.now table.now }
 {
-    put_macro(text, number, "_RATE ", u64::from(group.rate));
-    put_macro(text, number, "_FRAME ", u64::from(table.frame()));
-    put_macro(text, number, "_BUSES ", u64::from(table.buses()));
-    put_macro(text, number, "_OUTPUTS ", table.outputs() as u64);
+    put_macro(text, group, "_RATE", u64::from(group.rate));
+    put_macro(text, group, "_FRAME", u64::from(table.frame()));
+    put_macro(text, group, "_BUSES", u64::from(table.buses()));
+    put_macro(text, group, "_OUTPUTS", table.outputs() as u64);
 }
 
 /// Writes what is before an element.
@@ -173,49 +163,46 @@ fn put_elements(text: &mut Text, table: &GroupPlan<OUTPUTS>)
     }
 }
 
-/// Begins the array of the group with this number.
-#[tactic(auto, unfolding(crate::specs::SlotHeader::array_start))]
-fn put_array_start(text: &mut Text, number: usize)
-    ensures { text.new ≡ text.old ++ array_start number }
+/// Writes the type that checks the size of the array of cells.
+#[tactic(auto, unfolding(crate::specs::SlotHeader::slots_check))]
+fn put_slots_check(text: &mut Text, group: &GroupRow)
+    ensures { text.new ≡ text.old ++ slots_check group.now }
 {
-    let number = number as u64;
-    text.fill(
-        &[
-            "static const uint16_t a429_group_",
-            "_slots[A429_GROUP_",
-            "_BUSES * A429_GROUP_",
-            "_FRAME] = {",
-        ],
-        &[number, number, number],
-    );
+    put_check_start(text, group, "slots");
+    put_group_macro(text, group, "_BUSES");
+    text.put(" * ");
+    put_group_macro(text, group, "_FRAME");
+    put_check_end(text);
 }
 
-/// Writes the array of the group with this number.
-#[tactic(auto, unfolding(crate::specs::SlotHeader::group_array))]
-fn put_array(text: &mut Text, number: usize, table: &GroupPlan<OUTPUTS>)
-    ensures { text.new ≡ text.old ++ group_array number table.now }
+/// Writes the array of a group's cells.
+#[tactic(auto, unfolding(crate::specs::SlotHeader::slots_array))]
+fn put_slots(text: &mut Text, group: &GroupRow, table: &GroupPlan<OUTPUTS>)
+    ensures { text.new ≡ text.old ++ slots_array group.now table.now }
 {
-    put_array_start(text, number);
+    put_array_start(text, "uint16_t", group, "slots");
     put_elements(text, table);
-    text.put("\n};\n\n");
+    text.put("\n};\n");
+    put_slots_check(text, group);
+    text.put("\n");
 }
 
-/// Writes a group, by its number.
+/// Writes a group.
 #[tactic(auto, unfolding(crate::specs::SlotHeader::group_part))]
 fn put_part(
     text: &mut Text,
+    receivers: &[ReceiverRow],
     sources: &[SourceRow],
-    number: usize,
     group: &GroupRow,
     table: &GroupPlan<OUTPUTS>,
 )
     requires { HasSources sources.now table.now }
-    ensures { text.new ≡ text.old ++ group_part sources.now number group.now table.now }
+    ensures { text.new ≡ text.old ++ group_part receivers.now sources.now group.now table.now }
 {
     put_comment(text, sources, group, table);
-    put_name(text, number, group);
-    put_sizes(text, number, group, table);
-    put_array(text, number, table);
+    put_sizes(text, group, table);
+    put_columns(text, receivers, sources, group, table);
+    put_slots(text, group, table);
 }
 
 /// Writes the group with this number of a proposal.
@@ -225,10 +212,11 @@ fn put_group(text: &mut Text, proposal: &Proposal<OUTPUTS>, number: usize)
 {
     let equipment = proposal.equipment();
     equipment.rows_are_sound();
+    let receivers = equipment.receivers();
     let sources = equipment.sources();
     let groups = equipment.groups();
     let table = proposal.plan().group(number);
-    put_part(text, sources, number, &groups[number], table);
+    put_part(text, receivers, sources, &groups[number], table);
 }
 
 /// Writes each group of a proposal, in table order.
@@ -256,27 +244,39 @@ fn put_head(text: &mut Text)
     ensures { text.new ≡ text.old ++ header_start }
 {
     text.put(
-        "/* Slot tables, by `a429 slots --c`. Element [bus * A429_GROUP_0_FRAME + slot] of an array\n",
+        "/* Slot tables, by `a429 slots --c`. Outputs of a group are numbered from 0.\n   Element [bus * FRAME + slot] of `slots` is the output in that cell, or\n",
     );
     text.put(
-        "   is the number of the output in that cell, or A429_EMPTY. Outputs are numbered from 0. */\n",
+        "   A429_EMPTY. Other arrays have an element for each output. In names `-` is\n   `_`; `_` is `u` in macros and constants, `U` in arrays. */\n",
     );
     text.put(
-        "#ifndef A429_SLOTS_H\n#define A429_SLOTS_H\n\n#include <stdint.h>\n\n#define A429_EMPTY 0xFFFF\n\n",
+        "#ifndef A429_SLOTS_H\n#define A429_SLOTS_H\n\n#include <stdint.h>\n\n#define A429_EMPTY 0xFFFF\n#define A429_ANY_SDI 0xFF\n\n",
     );
 }
 
-/// The slot tables of a proposal's plan as a header of C (C99), of one group or of all in table order. Each group has a
-/// comment that numbers its outputs from 0. Macros have its name, its bit rate in bit/s, and the numbers of slots of a
-/// frame, buses and outputs. An array has its cells. The element of a cell is at the number of its bus times the slots of
-/// a frame, plus its slot. It is the number of the output in that cell; 0xFFFF if the cell is empty. The names have the
-/// number of the group.
+/// Writes the receivers and the sources of a table.
+#[tactic(auto, unfolding(crate::specs::SlotHeader::table_enums))]
+fn put_enums(text: &mut Text, equipment: &Equipment)
+    ensures { text.new ≡ text.old ++ table_enums equipment.now }
+{
+    put_receivers(text, equipment.receivers());
+    put_sources(text, equipment.sources());
+}
+
+/// The slot tables of a proposal's plan as a header of C (C99, C++17), of one group or of all in table order. Enumerations
+/// have the numbers of all receivers and sources of the table, and their counts. Each group has a comment that numbers its
+/// outputs from 0. Macros have its bit rate in bit/s, and the numbers of slots of a frame, buses and outputs. Arrays have an
+/// element for each output: its label, its SDI (0xFF for any), the receiver of its source, its source, and its period in
+/// slots. The last array has the cells. The element of a cell is at the number of its bus times the slots of a frame, plus
+/// its slot. It is the number of the output in that cell; 0xFFFF if the cell is empty. A type is refused unless each array
+/// has its size. Macros and arrays have the name of the group.
 pub fn slot_header(alloc: Global, proposal: &Proposal<OUTPUTS>, group: Option<usize>) -> Text
     requires known { IfSome group (λ group. group < length (groups_of proposal.now.plan)) }
     ensures { result ≡ header_text proposal.now.station proposal.now.plan group }
 {
     let mut text = Text::new(alloc);
     put_head(&mut text);
+    put_enums(&mut text, proposal.equipment());
     put_parts(&mut text, proposal, group);
     text.put("#endif\n");
     text

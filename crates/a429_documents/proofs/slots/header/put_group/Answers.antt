@@ -1,8 +1,9 @@
-use Rattle.std.proofs.Common.{◌≡◌, ◌++◌, ◌∙◌, List, ℕ, ap, subst, sym}
+use Rattle.std.proofs.Common.{◌≡◌, ◌++◌, ◌∙◌, List, ℕ, ap, ap₂, subst, sym}
 use Rattle.std.specs.Prelude.{Some, slice_get}
 use Rattle.a429_equipment.specs.TableRecord.{TableRecord}
 use Rattle.a429_equipment.specs.Sound.{IsSound}
 use Rattle.a429_equipment.specs.declared.rows.GroupRow.{GroupRow}
+use Rattle.a429_equipment.specs.declared.rows.ReceiverRow.{ReceiverRow}
 use Rattle.a429_equipment.specs.declared.rows.SourceRow.{SourceRow}
 use Rattle.a429_slots.specs.Tables.{SlotTable, PlanTable, groups_of}
 use Rattle.a429_cert.specs.PlanText.{HasSources}
@@ -31,6 +32,7 @@ returns c =
     let groups : c.groups-groups.result.now ≡ e.groups = c.groups-groups.ensures.rows ∙ ap (λ (e : TableRecord). e.groups) c.equipment-equipment.ensures.equipment in
     let named : slice_get e.groups c.args.number ≡ Some g = group_row_is e p c.args.number c.groups-groups.result.now g c.plan.ensures.own c.requires groups c.index-groups-number.is in
     let there : slice_get (groups_of p) c.args.number ≡ Some t = ap (λ (p : PlanTable). slice_get (groups_of p) c.args.number) (sym c.plan.ensures.plan) ∙ c.group-table.ensures in
-    c.put_part.ensures ∙ ap (λ (ss : List SourceRow). c.args.text.now ++ group_part ss c.args.number g t) sources
+    let receivers : c.receivers-receivers.result.now ≡ e.receivers = c.receivers-receivers.ensures.rows ∙ ap (λ (e : TableRecord). e.receivers) c.equipment-equipment.ensures.equipment in
+    c.put_part.ensures ∙ ap₂ (λ (rs : List ReceiverRow) (ss : List SourceRow). c.args.text.now ++ group_part rs ss g t) receivers sources
     ∙ ap (λ (part : List ℕ). c.args.text.now ++ part)
-    (made_of_group (group_part e.sources c.args.number) (slice_get e.groups c.args.number) (slice_get (groups_of p) c.args.number) g t named there)
+    (made_of_group (group_part e.receivers e.sources) (slice_get e.groups c.args.number) (slice_get (groups_of p) c.args.number) g t named there)

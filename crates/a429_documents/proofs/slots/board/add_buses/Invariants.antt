@@ -1,0 +1,7 @@
+use Rattle.std.proofs.Common.{◌≡◌, ◌++◌}
+use Rattle.std.specs.List.{flat_map, range_with_len}
+use Rattle.a429_documents.specs.SlotBoard.{board_bus}
+use Rattle.a429_documents.proofs.slots.board.add_buses.Given as goal
+
+abbrev pub invariant-loop-bus : goal.invariant-loop-bus
+invariant-loop-bus l = l.rows ≡ l.fn.rows ++ flat_map (board_bus l.sources l.group l.table) (range_with_len 0 l.bus)
