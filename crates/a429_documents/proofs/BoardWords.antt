@@ -1,41 +1,14 @@
--- A word without data, and its digits.
-use Rattle.std.proofs.Common.{◌≡◌, ℕ, zero, suc, ◌+◌, ◌*◌, ◌/◌, ◌%◌, ◌^◌, ◌<◌, ◌∙◌, Bool, true, false, [], ◌∷◌, IsUtf8, ap, sym, subst, refl, arith}
-use Rattle.std.specs.Prelude.{count_ones, bit_or, IsTrue, if◌then◌else◌, nat_lt}
+-- A word without data.
+use Rattle.std.proofs.Common.{◌≡◌, ℕ, ◌+◌, ◌*◌, ◌%◌, ◌^◌, ◌<◌, ◌∙◌, Bool, true, false, ap, sym, subst, refl, arith}
+use Rattle.std.specs.Prelude.{count_ones, bit_or, IsTrue}
 use Rattle.std.specs.Int.{reverse_bits_onto}
-use Rattle.std.specs.Str.{IsAscii}
 use Rattle.std.proofs.lemmas.Nat.{or_comm, or_shifted}
-use Rattle.std.proofs.lemmas.Str.{IsAscii-append, IsUtf8-from_ascii}
-use Rattle.std.proofs.lemmas.Str.Ascii.{IsAscii-cons, IsAscii-nil}
-use Rattle.a429_text.specs.Nibbles.{nibble, nibbles}
-use Rattle.a429_text.proofs.HexDigits.{nibbles-suc, none-left}
-use Rattle.a429_text.proofs.HexText.{hex_nibbles}
 use Rattle.a429_word.specs.Bits.{has_odd_parity, label_of, number_from, reversed_from}
-use Rattle.a429_word.specs.Hexadecimal.{hex}
 use Rattle.a429_word.proofs.Building.{bits_kept, data_built, label_built, odd_by_count, odd_by_top, sdi_built, ssm_built}
 use Rattle.a429_word.proofs.Fields.{label_reversed, same_word}
 use Rattle.a429_word.proofs.Lists.{clash}
 use Rattle.a429_documents.specs.SlotBoard.{BoardWordsHaveNoData, IsWordWithoutData, bits_below_parity, board_word}
 use Rattle.a429_documents.proofs.Words.{turned_below}
-
--- ---- the digits of a word
-
-either_below : (b : Bool) (n : ℕ) → n < 16 → (if b then 48 + n else 87 + n) < 128
-either_below true n small = omega (arith, small)
-either_below false n small = omega (arith, small)
-
-digit_below : (n : ℕ) → n < 16 → nibble n < 128
-unfolding nibble
-digit_below n small = either_below (nat_lt n 10) n small
-
-one_digit : (n : ℕ) → IsAscii (nibble (n % 16) ∷ [])
-one_digit n = IsAscii-cons (nibble (n % 16)) [] (digit_below (n % 16) (omega arith)) IsAscii-nil
-
-digits_ascii : (k n : ℕ) → IsAscii (nibbles k n)
-digits_ascii zero n = subst IsAscii (sym (none-left n)) IsAscii-nil
-digits_ascii (suc k) n = subst IsAscii (sym (nibbles-suc k n)) (IsAscii-append (nibbles k (n / 16)) (nibble (n % 16) ∷ []) (digits_ascii k (n / 16)) (one_digit n))
-
-pub hex_is_text : (raw : ℕ) → raw < 2 ^ 32 → IsUtf8 (hex raw)
-hex_is_text raw range = subst IsUtf8 (sym (hex_nibbles raw range)) (IsUtf8-from_ascii (nibbles 8 raw) (digits_ascii 8 raw))
 
 -- ---- the word
 

@@ -1,6 +1,5 @@
 //! The slot tables of a plan as a bus board takes them.
 ghost use Rattle.std.specs.Prelude.{◌≡◌, ◌≤◌, ◌<◌, ◌++◌, ◌∷◌, [], None, IfSome, length, map, unwrap_or};
-ghost use Rattle.a429_word.specs.Hexadecimal.{hex};
 ghost use Rattle.a429_slots.specs.Tables.{groups_of, outputs_of, source_of};
 ghost use Rattle.a429_cert.specs.PlanText.{HasSources};
 ghost use Rattle.a429_documents.specs.SlotBoard.{board_at, board_bus, board_cell, board_columns, board_group, board_row, board_rows, board_word, sent_row};
@@ -9,11 +8,9 @@ use crate::document::{number, sdi_cell};
 use crate::slots::start_cell;
 use a429_equipment::{GroupRow, SourceRow};
 use a429_slots::{GroupPlan, OUTPUTS, OutputId, Proposal};
-use a429_text::from_end::put_hex;
 use a429_text::{Cell, Rows, Sheet};
 use a429_word::{Label, Sdi, Word};
 use std::alloc::Global;
-use std::str;
 
 /// The names of the columns.
 const COLUMNS: &[&str] = &["group", "bus", "time_us", "label", "sdi", "word"];
@@ -36,40 +33,18 @@ fn board_word(label: Label, sdi: Option<Sdi>) -> u32
     Word::of_label(label, sdi_bits(sdi)).raw()
 }
 
-/// Eight hexadecimal digits in lower case.
-fn hex_digits(raw: u32) -> [u8; 8]
-    ensures { result ≡ hex raw }
-{
-    let mut digits = [b'0'; 8];
-    put_hex(&mut digits, 8, raw);
-    digits
-}
-
-/// These digits as a text.
-fn digits_text(digits: &[u8; 8], raw: u32) -> &str
-    requires { digits.now ≡ hex raw }
-    ensures { result.now ≡ hex raw }
-{
-    match str::from_utf8(digits) {
-        Ok(text) => text,
-        Err(_) => "",
-    }
-}
-
 /// Adds the row of a cell whose output sends this source.
 fn add_sent(rows: &mut Rows, group: &GroupRow, source: &SourceRow, bus: u32, slot: u32)
     requires { 1 ≤ group.now.rate }
     ensures { rows.new ≡ rows.old ++ board_row group.now bus slot source.now ∷ [] }
 {
-    let raw = board_word(source.label, source.sdi);
-    let digits = hex_digits(raw);
     rows.add(&[
         Cell::Text(group.name.as_str()),
         number(bus),
         start_cell(group, slot),
         Cell::Octal(source.label.value()),
         sdi_cell(source.sdi),
-        Cell::Text(digits_text(&digits, raw)),
+        Cell::Hex(board_word(source.label, source.sdi)),
     ]);
 }
 
