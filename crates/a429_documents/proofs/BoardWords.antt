@@ -1,6 +1,6 @@
 -- A word without data.
 use Rattle.std.proofs.Common.{◌≡◌, ℕ, ◌+◌, ◌*◌, ◌%◌, ◌^◌, ◌<◌, ◌∙◌, Bool, true, false, ap, sym, subst, refl, arith}
-use Rattle.std.specs.Prelude.{count_ones, bit_or, IsTrue}
+use Rattle.std.specs.Prelude.{count_ones, bit_or, IsTrue, if◌then◌else◌}
 use Rattle.std.specs.Int.{reverse_bits_onto}
 use Rattle.std.proofs.lemmas.Nat.{or_comm, or_shifted}
 use Rattle.a429_word.specs.Bits.{has_odd_parity, label_of, number_from, reversed_from}
