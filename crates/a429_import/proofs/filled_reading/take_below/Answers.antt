@@ -6,7 +6,7 @@ use Rattle.a429_import.proofs.filled_reading.take_below.Goals as goal
 pub take_by-requires : goal.take_by-requires
 take_by-requires c = let known = c.requires.1 in (known.first ∷ known.filled, known.read_by)
 
-pub returns-in_ok-take_by : goal.returns-in_ok-take_by
-returns-in_ok-take_by c = λ lines known.
+pub returns : goal.returns
+returns c = λ lines known.
     more_filled (fields_of c.args.heading.now) (fields_of c.args.above.now) (fields_of c.in_ok-fields.fields) c.args.makes_names c.args.read.now c.take_by.new.read lines c.args.line.now
-    c.in_ok-filled.filled known c.in_ok-filled.ensures (ap fields_of c.in_ok-fields.ensures) (c.in_ok-take_by.ensures (known.first ∷ known.filled) known.read_by)
+    c.in_ok-filled.filled known c.in_ok-filled.ensures (ap fields_of c.in_ok-fields.ensures.cases) (c.in_ok-take_by.ensures (known.first ∷ known.filled) known.read_by)

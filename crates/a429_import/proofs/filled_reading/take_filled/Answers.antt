@@ -1,4 +1,4 @@
-use Rattle.std.proofs.Common.{[], ap, subst, sym}
+use Rattle.std.proofs.Common.{◌++◌, ◌∷◌, [], ap, subst, sym}
 use Rattle.csv.specs.Records.{fields_of}
 use Rattle.a429_import.specs.FilledReading.{HasFilled}
 use Rattle.a429_import.proofs.FilledLines.{first_filled}
@@ -13,7 +13,7 @@ pub returns-in_ok-take_by-in-None : goal.returns-in_ok-take_by-in-None
 returns-in_ok-take_by-in-None c = λ lines known.
     let there = subst (λ o. HasFilled o (fields_of c.args.filler.now.above) c.args.makes_names c.args.read.now lines) c.in-None.is known in
     first_filled (fields_of c.in_ok-heading-in-None.heading) (fields_of c.args.filler.now.above) c.args.makes_names c.take_by.new.read lines c.args.line there.0 there.1
-    (ap fields_of c.in_ok-heading-in-None.ensures) (c.in_ok-take_by-in-None.ensures [] there.2)
+    (ap fields_of c.in_ok-heading-in-None.ensures.cases) (c.in_ok-take_by-in-None.ensures [] there.2)
 
 pub take_below-requires : goal.take_below-requires
 take_below-requires c =
@@ -22,4 +22,4 @@ take_below-requires c =
 pub returns-in_ok-take_below-in-Some : goal.returns-in_ok-take_below-in-Some
 returns-in_ok-take_below-in-Some c = λ lines known.
     let there = subst (λ o. HasFilled o (fields_of c.args.filler.now.above) c.args.makes_names c.args.read.now lines) c.in-Some.is known in
-    subst (λ o. HasFilled o _ c.args.makes_names c.take_below.new.read _) (sym c.in-Some.is) (c.in_ok-take_below-in-Some.ensures lines there)
+    subst (λ o. HasFilled o (fields_of c.take_below.new.above) c.args.makes_names c.take_below.new.read (lines ++ c.args.line ∷ [])) (sym c.in-Some.is) (c.in_ok-take_below-in-Some.ensures lines there)
