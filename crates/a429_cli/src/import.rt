@@ -70,8 +70,8 @@ fn note_import(alloc: Global, imported: &Imported, warnings: &mut Vec<Warning>)
 }
 
 /// The table that the rows in a file state, with status 0. Their heading is read by texts HEADING=COLUMN, and the options
-/// say how rows are read. Each group of the table whose intervals may be milliseconds is noted, and rows that are notes. Errors, in this order: the file is refused, a row has a fault, or the table has one. `Memory` if an allocation
-/// fails.
+/// say how rows are read. Each group of the table whose intervals may be milliseconds is noted, and rows that are notes.
+/// Errors, in this order: the file is refused, a row has a fault, or the table has one. `Memory` if an allocation fails.
 pub fn import_reply<F: FileReader>(
     alloc: Global,
     files: &mut F,
