@@ -19,17 +19,17 @@ returns-in-None c = λ lines known.
     let there : HaveRows None c.args.read.now lines = subst (λ o. HaveRows o c.args.read.now lines) c.in-None.is known in
     subst (λ (f : ImportFault). IsImportFrom c.args.makes_names lines (Err f)) (sym c.wrong_heading.ensures) (no_import c.args.makes_names lines 1 Column (Some Group) (no_lines c.args.read.now lines _ there refl))
 
-pub returns-in-Ok-in-Some : goal.returns-in-Ok-in-Some
-returns-in-Ok-in-Some c = λ lines known.
+pub returns-in-Ok : goal.returns-in-Ok
+returns-in-Ok c = λ lines known.
     let there : HaveRows (Some c.in-Some._heading) c.args.read.now lines = subst (λ o. HaveRows o c.args.read.now lines) c.in-Some.is known in
     let are = rows_read c.in-Some._heading c.args.read.now lines there in
     let table = c.table_by.ensures there.2.are.rows there.2.are.has (stated_in_range lines there.2.are.rows are) in
     let count = c.len.ensures ∙ notes_read c.in-Some._heading c.args.read.now lines there in
-    table_import c.args.makes_names lines there.2.are.rows _ are count (subst (λ r. IsTableBy c.args.makes_names there.2.are.rows r) c.in-Ok-in-Some.is table)
+    table_import c.args.makes_names lines there.2.are.rows _ are count (subst (λ r. IsTableBy c.args.makes_names there.2.are.rows r) c.in-Ok.is table)
 
-pub returns-in-Err-in-Some : goal.returns-in-Err-in-Some
-returns-in-Err-in-Some c = λ lines known.
+pub returns-in-Err : goal.returns-in-Err
+returns-in-Err c = λ lines known.
     let there : HaveRows (Some c.in-Some._heading) c.args.read.now lines = subst (λ o. HaveRows o c.args.read.now lines) c.in-Some.is known in
     let are = rows_read c.in-Some._heading c.args.read.now lines there in
     let table = c.table_by.ensures there.2.are.rows there.2.are.has (stated_in_range lines there.2.are.rows are) in
-    table_fault c.args.makes_names lines there.2.are.rows c.in-Err-in-Some.fault are (subst (λ r. IsTableBy c.args.makes_names there.2.are.rows r) c.in-Err-in-Some.is table)
+    table_fault c.args.makes_names lines there.2.are.rows c.in-Err.fault are (subst (λ r. IsTableBy c.args.makes_names there.2.are.rows r) c.in-Err.is table)
