@@ -1,5 +1,5 @@
 -- Lines whose empty fields are filled from above, with one more field or one more line.
-use Rattle.std.proofs.Common.{◌≡◌, ◌∙◌, ◌+◌, ◌<◌, ℕ, zero, suc, Bool, false, true, List, [], ◌∷◌, ◌++◌, Option, None, Some, get_or, length, take, ap, ap₂, arith, refl, subst, sym}
+use Rattle.std.proofs.Common.{◌≡◌, ◌∙◌, ◌+◌, ◌<◌, ℕ, zero, suc, Bool, false, true, List, [], ◌∷◌, ◌++◌, Option, None, Some, get_or, length, take, ap, arith, refl, subst, sym}
 use Rattle.csv.specs.Records.{fields_of}
 use Rattle.csv.specs.declared.record.ByteRecord.{ByteRecord}
 use Rattle.a429_import.specs.declared.filled_reading.Filler.{Filler}

@@ -1,5 +1,5 @@
 -- What is known of rows that may be notes, after one more row.
-use Rattle.std.proofs.Common.{◌≡◌, ◌∙◌, ◌+◌, ℕ, suc, List, [], ◌∷◌, ◌++◌, Option, None, Some, option_map, Result, Ok, Err, Bool, true, false, ap, ap₂, arith, cond, length, refl, subst, sym}
+use Rattle.std.proofs.Common.{◌≡◌, ◌∙◌, ◌+◌, ℕ, suc, List, [], ◌∷◌, ◌++◌, Option, None, Some, Result, Ok, Err, Bool, true, false, ap, ap₂, arith, cond, length, refl, subst, sym}
 use Rattle.std.specs.Prelude.{◌==◌, ◌&&◌, ◌||◌, if◌then◌else◌, not, vec_len}
 use Rattle.std.specs.List.{list_any}
 use Rattle.std.specs.Option.{ok_or}
@@ -18,9 +18,8 @@ use Rattle.a429_import.specs.declared.reading.RowsRead.{RowsRead}
 use Rattle.a429_import.specs.declared.rows.ImportRow.{ImportRow}
 use Rattle.a429_import.specs.declared.rows.RowNumbers.{RowNumbers}
 use Rattle.a429_import.specs.declared.rows.RowTexts.{RowTexts}
-use Rattle.a429_import.specs.ImportClashes.{Agree}
 use Rattle.a429_import.specs.ImportFields.{hold_in, label_in, rate_in, sdi_in}
-use Rattle.a429_import.specs.ImportReading.{AreBelow, AreTaken, HasRows, HoldsFault, HoldsFirst, IsHeld, IsTaken, with_line}
+use Rattle.a429_import.specs.ImportReading.{AreBelow, AreTaken, HoldsFirst, IsHeld, IsTaken, with_line}
 use Rattle.a429_import.specs.ImportRows.{◌>>=◌, CsvFault, agreed, column_field, first_clash, has_label, interval_at, joined, next_row, numbers_of, output_at, row_of, rows_after, stated_at, texts_of, until_last, with_row, without_notes}
 use Rattle.a429_import.specs.Imports.{States}
 use Rattle.a429_import.proofs.ImportRanges.{bound}

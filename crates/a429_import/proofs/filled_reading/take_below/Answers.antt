@@ -1,4 +1,4 @@
-use Rattle.std.proofs.Common.{◌∷◌, List, ap, ℕ}
+use Rattle.std.proofs.Common.{◌∷◌, ap}
 use Rattle.csv.specs.Records.{fields_of}
 use Rattle.a429_import.proofs.FilledLines.{more_filled}
 use Rattle.a429_import.proofs.filled_reading.take_below.Goals as goal

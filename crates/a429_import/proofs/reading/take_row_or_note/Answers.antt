@@ -1,5 +1,4 @@
-use Rattle.std.proofs.Common.{◌≡◌, ◌∙◌, Bool, List, ap, false, sym, true, ℕ}
-use Rattle.std.specs.Prelude.{◌&&◌, not}
+use Rattle.std.proofs.Common.{◌≡◌, ◌∙◌, List, false, sym, ℕ}
 use Rattle.csv.specs.Records.{fields_of}
 use Rattle.a429_import.specs.declared.notes.Notes.{Notes}
 use Rattle.a429_import.specs.ImportRows.{has_label}
