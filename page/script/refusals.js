@@ -57,8 +57,10 @@ function tableLines(bytes) {
 
 // The rows of a spreadsheet.
 function spreadsheetLines(spreadsheet) {
+  // a source has the name of its text, or that of its receiver and label
+  const isOf = (row, source) => [nameOf(spreadsheet.cell(row, "source")), spreadsheet.sourceName(row)].includes(source);
   const findOutput = (group, source) => spreadsheet.dataRows().find((row) => nameOf(spreadsheet.cell(row, "group")) === group
-    && (!source || spreadsheet.sourceName(row) === source))?.line;
+    && (!source || isOf(row, source)))?.line;
   return new Lines(spreadsheet.rows, { heading: spreadsheet.heading, findOutput });
 }
 
