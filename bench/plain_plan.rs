@@ -597,6 +597,7 @@ fn draw_group(text: &mut String, table: &Table, number: usize, top: u64) -> Resu
         }
     }
     let legend = fold_top(slots.div_ceil(64)) + 4;
+    writeln!(text, "<text x='8' y='{}' font-size='10'>group {}</text>", legend - 2, group.name)?;
     let mut ranked: Vec<usize> = (0..group.outputs.len()).collect();
     ranked.sort_by_key(|&output| (source_of(output).label, source_of(output).sdi.map_or(0, |sdi| sdi + 1)));
     let mut ranks = vec![0; ranked.len()];

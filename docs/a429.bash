@@ -45,21 +45,26 @@ _a429() {
     fi
     case $command in
         help) COMPREPLY=($(compgen -W "$commands" -- "$word")); return ;;
-        word) COMPREPLY=($(compgen -W "$options" -- "$word")); return ;;
+        word) COMPREPLY=($(compgen -W "--csv --json $options" -- "$word")); return ;;
         # options
         import) options="--map --names --fill $options" ;;
-        icd) options="--csv --text --json $options" ;;
+        plan) options="--csv --json $options" ;;
+        check) options="--csv --json $options" ;;
+        icd) options="--csv --text --json --stamp $options" ;;
         draw) options="--group --slots --width --html $options" ;;
-        slots) options="--group --all --c --board --csv --json $options" ;;
-        buses) options="--csv --json $options" ;;
-        load) options="--limit --csv --json $options" ;;
-        margin) options="--csv --json $options" ;;
-        lint) options="--csv --json $options" ;;
-        diff) options="--all --csv --json $options" ;;
+        slots) options="--group --all --c --board --csv --json --stamp $options" ;;
+        buses) options="--csv --json --stamp $options" ;;
+        load) options="--limit --csv --json --stamp $options" ;;
+        margin) options="--csv --json --stamp $options" ;;
+        lint) options="--csv --json --stamp $options" ;;
+        diff) options="--all --csv --json --stamp $options" ;;
+        replay) options="--quiet --only --csv $options" ;;
         simulate) options="--time --from --channel --reversed --until --sent --summary --csv --json $options" ;;
         survey) options="--time --from --channel --reversed --rate --rows --slack --csv --json $options" ;;
         judge) options="--in --tolerance --events --time --from --channel --reversed --csv --json $options" ;;
-        encode) options="--sdi --ssm --data --bnr --bits --bcd $options" ;;
+        word) options="--csv --json $options" ;;
+        encode) options="--sdi --ssm --data --bnr --bits --bcd --csv --json $options" ;;
+        lines) options="--csv --json $options" ;;
         # end of options
     esac
     case ${COMP_WORDS[COMP_CWORD - 1]} in
@@ -67,9 +72,9 @@ _a429() {
         --time) COMPREPLY=($(compgen -W "us ms s" -- "$word")); return ;;
         --from) COMPREPLY=($(compgen -W "first" -- "$word")); return ;;
         --sdi | --ssm) COMPREPLY=($(compgen -W "0 1 2 3" -- "$word")); return ;;
-        --group) COMPREPLY=($(compgen -W "$(_a429_groups "${COMP_WORDS[2]}")" -- "$word")); return ;;
+        --group | --only) COMPREPLY=($(compgen -W "$(_a429_groups "${COMP_WORDS[2]}")" -- "$word")); return ;;
         # values
-        --map | --group | --slots | --width | --limit | --time | --from | --channel | --reversed | --until | --rate | --slack | --tolerance | --sdi | --ssm | --data | --bnr | --bits | --bcd) COMPREPLY=(); return ;;
+        --map | --group | --slots | --width | --limit | --only | --time | --from | --channel | --reversed | --until | --rate | --slack | --tolerance | --sdi | --ssm | --data | --bnr | --bits | --bcd) COMPREPLY=(); return ;;
         # end of values
     esac
     case $word in

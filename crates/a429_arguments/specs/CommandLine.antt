@@ -16,7 +16,7 @@ use Rattle.a429_arguments.specs.declared.options.OptionKind.{OptionKind}
 use Rattle.a429_arguments.specs.declared.options.OptionKind.TheVariants as given
 use Rattle.a429_arguments.specs.declared.options.OptionName.{OptionName}
 use Rattle.a429_arguments.specs.declared.options.OptionName.TheVariants as option
-use Rattle.a429_arguments.specs.declared.options.TheConstants.{DIFF_OPTIONS, DRAW_OPTIONS, ENCODE_OPTIONS, FORMS, ICD_OPTIONS, IMPORT_OPTIONS, JUDGE_OPTIONS, LOAD_OPTIONS, OPTIONS, SIMULATE_OPTIONS, SLOTS_OPTIONS, SURVEY_OPTIONS}
+use Rattle.a429_arguments.specs.declared.options.TheConstants.{DIFF_OPTIONS, DRAW_OPTIONS, ENCODE_OPTIONS, FORMS, ICD_OPTIONS, IMPORT_OPTIONS, JUDGE_OPTIONS, LOAD_OPTIONS, OPTIONS, REPLAY_OPTIONS, SHEET_OPTIONS, SIMULATE_OPTIONS, SLOTS_OPTIONS, SURVEY_OPTIONS}
 use Rattle.a429_arguments.specs.declared.forms.Verb.{Verb}
 use Rattle.a429_arguments.specs.declared.forms.Verb.TheVariants as verb
 
@@ -91,12 +91,17 @@ option_rule name = kind_rule (id_of name) (kind_of name)
 abbrev pub options_of : Verb → List OptionName
 options_of verb.Encode = ENCODE_OPTIONS.now
 options_of verb.Import = IMPORT_OPTIONS.now
+options_of verb.Plan = FORMS.now
+options_of verb.Check = FORMS.now
+options_of verb.Replay = REPLAY_OPTIONS.now
+options_of verb.Word = FORMS.now
+options_of verb.Lines = FORMS.now
 options_of verb.Icd = ICD_OPTIONS.now
-options_of verb.Margin = FORMS.now
+options_of verb.Margin = SHEET_OPTIONS.now
 options_of verb.Load = LOAD_OPTIONS.now
 options_of verb.Slots = SLOTS_OPTIONS.now
-options_of verb.Buses = FORMS.now
-options_of verb.Lint = FORMS.now
+options_of verb.Buses = SHEET_OPTIONS.now
+options_of verb.Lint = SHEET_OPTIONS.now
 options_of verb.Diff = DIFF_OPTIONS.now
 options_of verb.Draw = DRAW_OPTIONS.now
 options_of verb.Simulate = SIMULATE_OPTIONS.now

@@ -7,7 +7,8 @@ ghost use Rattle.a429_arguments.specs.CommandLine.{IsRow, form_row, row_of, verb
 use crate::argument_help::NameHelp;
 use crate::options::{
     DIFF_OPTIONS, DRAW_OPTIONS, ENCODE_OPTIONS, FORMS, ICD_OPTIONS, IMPORT_OPTIONS, JUDGE_OPTIONS,
-    LOAD_OPTIONS, OptionName, SIMULATE_OPTIONS, SLOTS_OPTIONS, SURVEY_OPTIONS,
+    LOAD_OPTIONS, OptionName, REPLAY_OPTIONS, SHEET_OPTIONS, SIMULATE_OPTIONS, SLOTS_OPTIONS,
+    SURVEY_OPTIONS,
 };
 
 /// A command of the program.
@@ -105,12 +106,14 @@ static COMMANDS: [CommandForm; 19] = [
     CommandForm {
         verb: Verb::Plan,
         name: "plan",
+        options: FORMS,
         ..OF_TABLE
     },
     CommandForm {
         verb: Verb::Check,
         name: "check",
         second: Some(name!("PLAN", NameHelp::Text)),
+        options: FORMS,
         ..OF_TABLE
     },
     CommandForm {
@@ -134,7 +137,7 @@ static COMMANDS: [CommandForm; 19] = [
     CommandForm {
         verb: Verb::Buses,
         name: "buses",
-        options: FORMS,
+        options: SHEET_OPTIONS,
         ..OF_TABLE
     },
     CommandForm {
@@ -146,13 +149,13 @@ static COMMANDS: [CommandForm; 19] = [
     CommandForm {
         verb: Verb::Margin,
         name: "margin",
-        options: FORMS,
+        options: SHEET_OPTIONS,
         ..OF_TABLE
     },
     CommandForm {
         verb: Verb::Lint,
         name: "lint",
-        options: FORMS,
+        options: SHEET_OPTIONS,
         ..OF_TABLE
     },
     CommandForm {
@@ -167,6 +170,7 @@ static COMMANDS: [CommandForm; 19] = [
         name: "replay",
         second: Some(name!("SCRIPT", NameHelp::Script)),
         more: Some(name!("FURTHER", NameHelp::Further)),
+        options: REPLAY_OPTIONS,
         ..OF_TABLE
     },
     CommandForm {
@@ -206,6 +210,7 @@ static COMMANDS: [CommandForm; 19] = [
         verb: Verb::Word,
         name: "word",
         first: name!("HEX", NameHelp::Hex),
+        options: FORMS,
         ..OF_TABLE
     },
     CommandForm {
@@ -220,6 +225,7 @@ static COMMANDS: [CommandForm; 19] = [
         name: "lines",
         first: name!("FILE", NameHelp::File),
         more: Some(name!("FILTER", NameHelp::Filter)),
+        options: FORMS,
         ..OF_TABLE
     },
 ];

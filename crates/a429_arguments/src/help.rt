@@ -3,8 +3,9 @@
 use crate::forms::Verb;
 use crate::options::OptionName;
 use crate::recording_help::{
-    CHANNEL, EVENTS, FROM, HEARD_LOGS, IMPORT_ROWS, JUDGE, JUDGE_END, RATE, REVERSED, SLACK,
-    SURVEY, SURVEY_END, TIME, TOLERANCE,
+    CHANNEL, EVENTS, FROM, HEARD_LOGS, IMPORT_ROWS, JUDGE, JUDGE_END, LOG, ONLY, QUIET, RATE,
+    REVERSED, SENT, SIMULATE, SIMULATE_END, SLACK, SUMMARY, SUMMARY_JSON, SURVEY, SURVEY_END, TIME,
+    TOLERANCE, UNTIL,
 };
 
 /// The help of a command: its first line, and its end, which has an example.
@@ -54,6 +55,7 @@ pub fn option_help(verb: Verb, option: OptionName) -> OptionHelp {
         OptionName::All if verb == Verb::Slots => ("", ALL_CELLS),
         OptionName::Csv => ("", CSV),
         OptionName::Json => ("", JSON),
+        OptionName::Stamp => ("", STAMP),
         OptionName::Text => ("", TEXT_LABELS),
         OptionName::Map => ("HEADING=COLUMN", MAP),
         OptionName::Names => ("", NAMES),
@@ -85,8 +87,18 @@ pub fn option_help(verb: Verb, option: OptionName) -> OptionHelp {
         OptionName::Bnr => ("N", BNR),
         OptionName::Bits => ("K", BITS),
         OptionName::Bcd => ("DIGITS", BCD),
+        _ => replay_help(option),
     };
     OptionHelp { value, text }
+}
+
+/// The help of an option that only `replay` has.
+fn replay_help(option: OptionName) -> (&'static str, &'static str) {
+    match option {
+        OptionName::Quiet => ("", QUIET),
+        OptionName::Only => ("GROUP", ONLY),
+        _ => ("", ""),
+    }
 }
 
 pub const VERSION: &str = "0.2.0";
@@ -161,6 +173,9 @@ ignored, and so are up to ten lines above the heading.
   label, sdi         the label in octal, and the SDI, 0 to 3 or `any`
   min_us, max_us     minimum and maximum transmit interval in microseconds
   min_ms, max_ms     or in milliseconds, with at most three decimals
+  max_hz, min_hz     or as the greatest and the least rate in Hz
+  interval_ms        or both in a column, as 50/100; also interval_us, and
+                     rate_hz for rates, as 10-20
   hold               optional: a number, or empty
   filters            optional: filters of the receiver, separated by spaces
 A row without a group states its source and receiver alone.
@@ -194,6 +209,8 @@ pub const CSV: &str = "As comma-separated values, for spreadsheets";
 pub const TEXT_LABELS: &str = "With --csv: labels whose zeros a spreadsheet keeps";
 
 pub const JSON: &str = "As JSON, an array with an object for each row";
+
+pub const STAMP: &str = "First the name and the SHA-256 digest of the table's file";
 
 pub const ICD_END: &str = "\
 There is a row for each output:
@@ -320,7 +337,7 @@ pub const DRAWN_SLOTS: &str = "Slots to draw, 1 to 8192 [default: one frame, at 
 
 pub const WIDTH: &str = "Slots in a row, 64, 128 or 256 [default: 64]";
 
-pub const HTML: &str = "As a page (HTML) with `icd`, `margin` and `lint`";
+pub const HTML: &str = "As a page (HTML) with `icd`, `load`, `margin` and `lint`";
 
 pub const DRAW_END: &str = "\
 Example:
@@ -343,36 +360,6 @@ A script has an event on each line:
 
 Example:
   a429 replay examples/first/table.toml examples/first/script";
-
-pub const SIMULATE: &str = "Simulate a station on a log of received words with times";
-
-pub const LOG: &str = "Received words, `TIME RECEIVER HEX` on each line";
-
-pub const LOGS: &str = "Further logs, read after the first as if they were one";
-
-pub const UNTIL: &str = "\
-Simulate until US
-[default: one frame after the last word]";
-
-pub const SENT: &str = "Only the words that are sent, as a log for `judge`";
-
-pub const SUMMARY: &str = "A row for each output instead of a line for each word";
-
-pub const SUMMARY_JSON: &str = "The summary as JSON";
-
-pub const SIMULATE_END: &str = "\
-A log has a word on each line. Blanks, commas or semicolons separate its fields,
-and a heading may name its columns. TIME must not decrease. Empty lines, and
-lines that begin with #, are ignored. US is in microseconds. Output lines:
-  TIME GROUP BUS HEX SOURCE AGE      a word is sent, AGE microseconds old
-  TIME RECEIVER HEX refused REASON   a received word is not accepted
-With --summary there is a row for each output, with times in microseconds:
-  sent                   how many words it sent
-  least_us, greatest_us  the time from one send to the next
-  late_us, bound_us      how late a word was sent, and how late it can be
-
-Example:
-  a429 simulate examples/displays/table.toml examples/displays/log";
 
 pub const LIVE: &str = "Run a station on threads, and print how many words and cells passed";
 

@@ -7,6 +7,7 @@ ghost use Rattle.a429_arguments.specs.CommandLine.{id_of, kind_of};
 pub enum OptionName {
     Csv,
     Json,
+    Stamp,
     Text,
     Map,
     Names,
@@ -38,6 +39,8 @@ pub enum OptionName {
     Bnr,
     Bits,
     Bcd,
+    Quiet,
+    Only,
 }
 
 /// Which texts an option takes.
@@ -112,9 +115,10 @@ macro_rules! options {
 
 /// The options, in the order of `OptionName`: the name of each without the two hyphens, and what is given with it. The
 /// ranges are those of docs/RULES.md, Limits; that of `--rate` is the bit rate of a line (ARINC 429 Part 1).
-pub static OPTIONS: [(OptionName, &str, OptionKind); 33] = [
+pub static OPTIONS: [(OptionName, &str, OptionKind); 36] = [
     flag!(Csv, "csv"),
     flag!(Json, "json"),
+    flag!(Stamp, "stamp"),
     flag!(Text, "text"),
     texts!(Map, "map", Rename),
     flag!(Names, "names"),
@@ -146,22 +150,26 @@ pub static OPTIONS: [(OptionName, &str, OptionKind); 33] = [
     text!(Bnr, "bnr", Any),
     number!(Bits, "bits", 1, 18),
     text!(Bcd, "bcd", Any),
+    flag!(Quiet, "quiet"),
+    text!(Only, "only", Any),
 ];
 
 /// The options of the commands that have some, in the order in which help lists them.
 pub const FORMS: &[OptionName] = options![Csv, Json];
 
+pub const SHEET_OPTIONS: &[OptionName] = options![Csv, Json, Stamp];
+
 pub const IMPORT_OPTIONS: &[OptionName] = options![Map, Names, Fill];
 
-pub const ICD_OPTIONS: &[OptionName] = options![Csv, Text, Json];
+pub const ICD_OPTIONS: &[OptionName] = options![Csv, Text, Json, Stamp];
 
 pub const DRAW_OPTIONS: &[OptionName] = options![Group, Slots, Width, Html];
 
-pub const SLOTS_OPTIONS: &[OptionName] = options![Group, All, Code, Board, Csv, Json];
+pub const SLOTS_OPTIONS: &[OptionName] = options![Group, All, Code, Board, Csv, Json, Stamp];
 
-pub const LOAD_OPTIONS: &[OptionName] = options![Limit, Csv, Json];
+pub const LOAD_OPTIONS: &[OptionName] = options![Limit, Csv, Json, Stamp];
 
-pub const DIFF_OPTIONS: &[OptionName] = options![All, Csv, Json];
+pub const DIFF_OPTIONS: &[OptionName] = options![All, Csv, Json, Stamp];
 
 pub const SIMULATE_OPTIONS: &[OptionName] = options![
     Time, From, Channel, Reversed, Until, Sent, Summary, Csv, Json
@@ -175,7 +183,9 @@ pub const JUDGE_OPTIONS: &[OptionName] = options![
     In, Tolerance, Events, Time, From, Channel, Reversed, Csv, Json
 ];
 
-pub const ENCODE_OPTIONS: &[OptionName] = options![Sdi, Ssm, Data, Bnr, Bits, Bcd];
+pub const ENCODE_OPTIONS: &[OptionName] = options![Sdi, Ssm, Data, Bnr, Bits, Bcd, Csv, Json];
+
+pub const REPLAY_OPTIONS: &[OptionName] = options![Quiet, Only, Csv];
 
 impl OptionName {
     /// The name without the two hyphens.

@@ -1,4 +1,4 @@
-//! The texts of help of `survey` and `judge`, and of the options for logs.
+//! The texts of help of `simulate`, `survey` and `judge`, and of the options for logs and of `replay`.
 
 pub const SURVEY: &str = "Print which words are on recorded lines, and how often each comes";
 
@@ -73,3 +73,37 @@ in --channel 3=adc-1; may be given again";
 pub const REVERSED: &str = "\
 Bits of the words in a log that are written the other
 way round: those of the label, or all of the word";
+
+pub const QUIET: &str = "Only the answers of cells that are sent";
+
+pub const ONLY: &str = "Only the answers for cells and frames of this group";
+
+pub const SIMULATE: &str = "Simulate a station on a log of received words with times";
+
+pub const LOG: &str = "Received words, `TIME RECEIVER HEX` on each line";
+
+pub const LOGS: &str = "Further logs, read after the first as if they were one";
+
+pub const UNTIL: &str = "\
+Simulate until US
+[default: one frame after the last word]";
+
+pub const SENT: &str = "Only the words that are sent, as a log for `judge`";
+
+pub const SUMMARY: &str = "A row for each output instead of a line for each word";
+
+pub const SUMMARY_JSON: &str = "The summary as JSON";
+
+pub const SIMULATE_END: &str = "\
+A log has a word on each line. Blanks, commas or semicolons separate its fields,
+and a heading may name its columns. TIME must not decrease. Empty lines, and
+lines that begin with #, are ignored. US is in microseconds. Output lines:
+  TIME GROUP BUS HEX SOURCE AGE      a word is sent, AGE microseconds old
+  TIME RECEIVER HEX refused REASON   a received word is not accepted
+With --summary there is a row for each output, with times in microseconds:
+  sent                   how many words it sent
+  least_us, greatest_us  the time from one send to the next
+  late_us, bound_us      how late a word was sent, and how late it can be
+
+Example:
+  a429 simulate examples/displays/table.toml examples/displays/log";

@@ -32,7 +32,7 @@ pub enum Rule {
 }
 
 /// The rules, in the order in which they are checked. With a command: the rule is for that command alone.
-pub static RULES: [(Rule, Option<Verb>); 26] = [
+pub static RULES: [(Rule, Option<Verb>); 28] = [
     (
         Rule::OneOf(OptionName::Data, OptionName::Bnr, OptionName::Bcd),
         Some(Verb::Encode),
@@ -65,6 +65,8 @@ pub static RULES: [(Rule, Option<Verb>); 26] = [
     (Rule::Excludes(OptionName::Board, OptionName::All), None),
     (Rule::Excludes(OptionName::Rows, OptionName::Csv), None),
     (Rule::Excludes(OptionName::Rows, OptionName::Json), None),
+    (Rule::Excludes(OptionName::Stamp, OptionName::Json), None),
+    (Rule::Excludes(OptionName::Stamp, OptionName::Code), None),
 ];
 
 /// What is wrong with arguments that break a rule, for people.
@@ -95,6 +97,9 @@ fn message(rule: Rule) -> &'static str {
         Rule::Fits(OptionName::Time) => "'--time <UNIT>' takes us, ms, s or ns",
         Rule::Fits(OptionName::Reversed) => "'--reversed <BITS>' takes label or word",
         Rule::Fits(_) => "'--from <TIME>' takes 'first' or a number of at most 18 digits",
+        Rule::Excludes(OptionName::Stamp, _) => {
+            "'--stamp' cannot be used with '--json' or '--c'"
+        }
         Rule::Excludes(OptionName::Csv, _) => "'--csv' and '--json' cannot be used together",
         Rule::Excludes(_, OptionName::Board) => "'--c' and '--board' cannot be used together",
         Rule::Excludes(OptionName::Board, _) => "'--all' and '--board' cannot be used together",

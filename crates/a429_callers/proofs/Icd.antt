@@ -1,5 +1,6 @@
 -- What is imported from the interface control document of a plan has the same plan.
 pub mod Texts
+pub mod Visible
 pub mod Fields
 pub mod Rows
 pub mod NamedFirsts

@@ -15,21 +15,22 @@ use Rattle.a429_filter.specs.Sources.{raw_found}
 use Rattle.a429_filter.specs.declared.filters.Filter.{Filter}
 use Rattle.a429_filter.specs.FilterTexts.{filter_of}
 use Rattle.a429_line.specs.LineBytes.{symbol_of, symbols_of}
-use Rattle.a429_cli.specs.LineReports.{found_line, printed, received, word_line}
+use Rattle.a429_cli.specs.LineReports.{ending_in, found_in, printed, received, rows_head, word_in}
 use Rattle.a429_cli.specs.LineReplies.{IsPrinted, IsTold, IsToldInPart, filter_list}
-use Rattle.a429_console.specs.Outputs.{ending, memory_refused, status_of}
+use Rattle.a429_console.specs.Outputs.{status_of}
+use Rattle.a429_text.specs.declared.sheets.SheetForm.{SheetForm}
 
 -- ---- reports
 
-pub printed-nil : (filters : Option (List Filter)) → printed filters [] ≡ []
-printed-nil None = refl
-printed-nil (Some fs) = refl
+pub printed-nil : (form : SheetForm) (filters : Option (List Filter)) → printed form filters [] ≡ []
+printed-nil form None = refl
+printed-nil form (Some fs) = refl
 
-pub printed-append : (filters : Option (List Filter)) (xs ys : List Found) → printed filters (xs ++ ys) ≡ printed filters xs ++ printed filters ys
-printed-append None xs ys = flat_map-append found_line xs ys
-printed-append (Some fs) xs ys =
-    ap (flat_map word_line) (ap (filter (accepts (Some fs))) (filter_map-append raw_found xs ys) ∙ filter-append (accepts (Some fs)) (filter_map raw_found xs) (filter_map raw_found ys))
-    ∙ flat_map-append word_line (received (Some fs) xs) (received (Some fs) ys)
+pub printed-append : (form : SheetForm) (filters : Option (List Filter)) (xs ys : List Found) → printed form filters (xs ++ ys) ≡ printed form filters xs ++ printed form filters ys
+printed-append form None xs ys = flat_map-append (found_in form) xs ys
+printed-append form (Some fs) xs ys =
+    ap (flat_map (word_in form)) (ap (filter (accepts (Some fs))) (filter_map-append raw_found xs ys) ∙ filter-append (accepts (Some fs)) (filter_map raw_found xs) (filter_map raw_found ys))
+    ∙ flat_map-append (word_in form) (received (Some fs) xs) (received (Some fs) ys)
 
 -- of a line without symbols
 pub no_reports : reports (symbols_of []) ≡ []
@@ -53,13 +54,14 @@ pub taken_whole : (bytes seen : List ℕ) (n : ℕ) → seen ≡ bytes → n ≡
 taken_whole bytes seen n same all = ap symbols_of (ap (λ (k : ℕ). take k bytes) (all ∙ ap length same) ∙ take-length bytes)
 
 -- all reports of a first part
-pub told_before : (filters : Option (List Filter)) (line first later : List Symbol) → line ≡ first ++ later → IsToldInPart filters line (printed filters (reports first))
-told_before filters line first later is = (length first, length (reports first), rw (is, take-append_seam first later, take-length (reports first)) refl)
+pub told_before : (form : SheetForm) (filters : Option (List Filter)) (line first later : List Symbol) → line ≡ first ++ later → IsToldInPart form filters line (printed form filters (reports first))
+told_before form filters line first later is = (length first, length (reports first), rw (is, take-append_seam first later, take-length (reports first)) refl)
 
--- with the end of the lines
-pub told_ended : (filters : Option (List Filter)) (line : List Symbol) (all : Bool) (lines : List ℕ) → IsPrinted filters line all lines → IsTold filters line (status_of all) (lines ++ ending all)
-told_ended filters line true lines is = inl (append-nil lines ∙ is, refl)
-told_ended filters line false lines part = inr (lines, part, refl, sym (append_assoc lines (memory_refused) (10 ∷ [])))
+-- with what is before the lines, and with their end
+pub told_ended : (form : SheetForm) (filters : Option (List Filter)) (line : List Symbol) (all : Bool) (lines : List ℕ) → IsPrinted form filters line all lines
+    → IsTold form filters line (status_of all) (rows_head form ++ (lines ++ ending_in form all))
+told_ended form filters line true lines is = inl (ap (λ (bs : List ℕ). rows_head form ++ bs) (append-nil lines ∙ is), refl)
+told_ended form filters line false lines part = inr (lines, part, refl, refl)
 
 -- ---- filters
 

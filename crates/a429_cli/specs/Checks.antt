@@ -1,12 +1,16 @@
 -- The command `check`: what it writes, and its status (profile: output).
-use Rattle.std.specs.Prelude.{◌≡◌, ◌∷◌, [], ◌++◌, ◌⊎◌, ℕ, List, Option, Result, MatchResult, Ok, Err, string_bytes}
+use Rattle.std.specs.Prelude.{◌≡◌, ◌∷◌, [], ◌++◌, ◌⊎◌, ℕ, List, Option, Result, MatchResult, Ok, Err, codes, string_bytes}
 use Rattle.a429_equipment.specs.TableRecord.{TableRecord}
 use Rattle.a429_table.specs.Reading.{reading}
 use Rattle.a429_cli.specs.WholeReplies.{Replies}
 use Rattle.a429_cli.specs.declared.replies.reply.Reply.{Reply}
 use Rattle.a429_cert.specs.Due.{IsFirstUnfitOf}
 use Rattle.a429_cert.specs.Judged.{IsVerdictOnBytes}
-use Rattle.a429_cert.specs.Printed.{verdict_text}
+use Rattle.a429_text.specs.Fields.{Field, Text, Number, Absent}
+use Rattle.a429_text.specs.Sheets.{sheet_text}
+use Rattle.a429_text.specs.declared.sheets.SheetForm.{SheetForm}
+use Rattle.a429_text.specs.declared.sheets.SheetForm.TheVariants.{Columns}
+use Rattle.a429_cert.specs.Printed.{reason_text, verdict_text}
 use Rattle.a429_cert.specs.declared.verdicts.Verdict.{Verdict}
 use Rattle.a429_cert.specs.declared.verdicts.Verdict.TheVariants as verdicts
 use Rattle.a429_console.specs.FileReadings.{AreRead, IsFirstUnread}
@@ -40,14 +44,27 @@ abbrev pub verdict_status : Verdict → ℕ
 verdict_status verdicts.Fewest = 0
 verdict_status (verdicts.No _) = 1
 
--- the line of a verdict, and its status
-abbrev pub IsVerdictReply : Verdict → ℕ → List ℕ → Type 0
-IsVerdictReply v status bytes = (status ≡ verdict_status v) × (bytes ≡ verdict_text v ++ 10 ∷ [])
+-- a verdict as a sheet of one row: `fewest`, or `no` with the reason and the line's number from 1
+abbrev pub verdict_columns : List (List ℕ)
+verdict_columns = codes "result" ∷ codes "reason" ∷ codes "line" ∷ []
 
--- the line of the verdict on the text in a file by the table in another, and its status
-abbrev pub IsCheckOf : (List ℕ → Option (List ℕ)) → List ℕ → List ℕ → ℕ → List ℕ → Type 0
-IsCheckOf file name plan status bytes = (v : Verdict) × IsVerdictOf file name plan v × IsVerdictReply v status bytes
+abbrev pub verdict_row : Verdict → List Field
+verdict_row verdicts.Fewest = Text (codes "fewest") ∷ Absent ∷ Absent ∷ []
+verdict_row (verdicts.No found) = Text (codes "no") ∷ Text (reason_text found.reason) ∷ Number found.line ∷ []
+
+-- the line of a verdict, or its sheet
+abbrev pub told_verdict : SheetForm → Verdict → List ℕ
+told_verdict Columns v = verdict_text v ++ 10 ∷ []
+told_verdict form v = sheet_text form verdict_columns (verdict_row v ∷ [])
+
+-- the same, and its status
+abbrev pub IsVerdictReply : SheetForm → Verdict → ℕ → List ℕ → Type 0
+IsVerdictReply form v status bytes = (status ≡ verdict_status v) × (bytes ≡ told_verdict form v)
+
+-- the verdict on the text in a file by the table in another, in this form, and its status
+abbrev pub IsCheckOf : (List ℕ → Option (List ℕ)) → SheetForm → List ℕ → List ℕ → ℕ → List ℕ → Type 0
+IsCheckOf file form name plan status bytes = (v : Verdict) × IsVerdictOf file name plan v × IsVerdictReply form v status bytes
 
 -- the answer of `check` on two files, or why there is none
-abbrev pub AnswersCheck : (List ℕ → Option (List ℕ)) → List ℕ → List ℕ → Result Reply CommandRefusal → Type 0
-AnswersCheck file name plan result = Replies (IsCheckOf file name plan) (IsNoCheck file name plan) result
+abbrev pub AnswersCheck : (List ℕ → Option (List ℕ)) → SheetForm → List ℕ → List ℕ → Result Reply CommandRefusal → Type 0
+AnswersCheck file form name plan result = Replies (IsCheckOf file form name plan) (IsNoCheck file name plan) result

@@ -8,6 +8,9 @@ use Rattle.a429_word.specs.Hexadecimal.{hex, hex_onto, raw_word}
 use Rattle.a429_word.specs.Decimal.{decimal_number}
 use Rattle.a429_arguments.specs.Given.{Given, number_given, text_given}
 use Rattle.a429_arguments.specs.declared.options.OptionName.TheVariants as option
+use Rattle.a429_text.specs.declared.sheets.SheetForm.{SheetForm}
+use Rattle.a429_text.specs.declared.sheets.SheetForm.TheVariants.{Columns}
+use Rattle.a429_cli.specs.WordRows.{told_word}
 use Rattle.a429_cli.specs.declared.encode.FieldOptions.{FieldOptions}
 use Rattle.a429_console.specs.declared.refusals.CommandRefusal.{CommandRefusal}
 use Rattle.a429_console.specs.declared.refusals.CommandRefusal.TheVariants as refused
@@ -137,9 +140,9 @@ pub record IsWordWith (label : List ℕ) (f : FieldBytes) (raw : ℕ) : Type 0 w
   pub ssm_is : ssm_of raw ≡ given_ssm f
   pub data_is : HasData f raw
 
--- its eight hexadecimal digits on a line, with status 0
-abbrev pub IsEncoded : List ℕ → FieldBytes → ℕ → List ℕ → Type 0
-IsEncoded label f status bytes = (raw : ℕ) × IsWordWith label f raw × (bytes ≡ hex raw ++ 10 ∷ []) × (status ≡ 0)
+-- its eight hexadecimal digits on a line, or its sheet, with status 0
+abbrev pub IsEncoded : List ℕ → FieldBytes → SheetForm → ℕ → List ℕ → Type 0
+IsEncoded label f form status bytes = (raw : ℕ) × IsWordWith label f raw × (bytes ≡ told_word form (hex raw ++ 10 ∷ []) raw) × (status ≡ 0)
 
 -- why there is none: the text of the label is none, which is asked first, or no word has the fields
 abbrev pub IsNotEncoded : List ℕ → FieldBytes → CommandRefusal → Type 0
@@ -170,5 +173,5 @@ pub record HasFields (label : ℕ) (f : FieldBytes) (raw : ℕ) : Type 0 where
 -- what is printed is the digits of the word, by which it is read
 abbrev pub EncodedWordsAreRead : Type 0
 EncodedWordsAreRead =
-    (label : List ℕ) (f : FieldBytes) (status : ℕ) (bytes : List ℕ) → IsEncoded label f status bytes
+    (label : List ℕ) (f : FieldBytes) (status : ℕ) (bytes : List ℕ) → IsEncoded label f Columns status bytes
     → (digits : List ℕ) × (raw : ℕ) × (bytes ≡ digits ++ 10 ∷ []) × (raw_word digits ≡ Some raw) × IsWordWith label f raw

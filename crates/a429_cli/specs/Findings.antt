@@ -1,5 +1,5 @@
 -- The commands that look for something, `lint` and `diff`: what they write, and their status (profile: output).
-use Rattle.std.specs.Prelude.{◌≡◌, ◌==◌, ◌∷◌, [], ◌⊎◌, ℕ, Bool, List, Option, Result, Ok, Some, if◌then◌else◌, length, map}
+use Rattle.std.specs.Prelude.{◌≡◌, ◌==◌, ◌∷◌, ◌++◌, [], ◌⊎◌, ℕ, Bool, List, Option, Result, Ok, Some, if◌then◌else◌, length, map}
 use Rattle.a429_text.specs.Fields.{Field}
 use Rattle.a429_text.specs.Sheets.{sheet_text}
 use Rattle.a429_text.specs.declared.sheets.Sheet.{Sheet}
@@ -12,6 +12,10 @@ use Rattle.a429_documents.specs.Lint.{AreFindings, lint_columns}
 use Rattle.a429_console.specs.FileReadings.{AreRead, IsFileRefusal, IsFirstUnread, readable}
 use Rattle.a429_console.specs.Tables.{IsProposedBy, IsTableFault, IsTableRefusal}
 use Rattle.a429_console.specs.declared.refusals.CommandRefusal.{CommandRefusal}
+use Rattle.a429_arguments.specs.Given.{form_of, has_given}
+use Rattle.a429_arguments.specs.Requests.{AskedBytes}
+use Rattle.a429_arguments.specs.declared.options.OptionName.TheVariants as option
+use Rattle.a429_cli.specs.Stamping.{IsStamped, stamp_line}
 use Rattle.a429_cli.specs.WholeReplies.{Replies}
 use Rattle.a429_cli.specs.declared.replies.reply.Reply.{Reply}
 
@@ -34,9 +38,10 @@ abbrev pub IsLint : SheetForm → TableRecord → ℕ → List ℕ → Type 0
 IsLint form t status bytes = (rows : List (List Field)) × AreFindings t rows × IsFound form lint_columns rows status bytes
 
 -- the same of the table in a file, which need not have a plan
-abbrev pub IsLinted : (List ℕ → Option (List ℕ)) → SheetForm → List ℕ → ℕ → List ℕ → Type 0
-IsLinted file form name status bytes =
-    (table : List ℕ) × (t : TableRecord) × (readable (file name) ≡ Some table) × (reading table ≡ Ok t) × IsLint form t status bytes
+abbrev pub IsLinted : (List ℕ → Option (List ℕ)) → AskedBytes → ℕ → List ℕ → Type 0
+IsLinted file r status bytes =
+    (table : List ℕ) × (t : TableRecord) × (readable (file r.first) ≡ Some table) × (reading table ≡ Ok t)
+    × IsStamped r.given (stamp_line r.first table) (IsLint (form_of r.given) t) status bytes
 
 -- why there is none: the file, or its table
 abbrev pub IsNoLint : (List ℕ → Option (List ℕ)) → List ℕ → CommandRefusal → Type 0
@@ -54,9 +59,10 @@ abbrev pub IsNoDiffBetween : List ℕ → List ℕ → CommandRefusal → Type 0
 IsNoDiffBetween table other refusal = IsTableRefusal table refusal ⊎ ((a : Proposed) × IsProposedBy table a × IsTableRefusal other refusal)
 
 -- the same of the tables in two files
-abbrev pub IsDiffOf : (List ℕ → Option (List ℕ)) → Bool → SheetForm → List ℕ → List ℕ → ℕ → List ℕ → Type 0
-IsDiffOf file all form name other status bytes =
-    (a : List ℕ) × (b : List ℕ) × AreRead file (name ∷ other ∷ []) (a ∷ b ∷ []) × IsDiffBetween all form a b status bytes
+abbrev pub IsDiffOf : (List ℕ → Option (List ℕ)) → AskedBytes → ℕ → List ℕ → Type 0
+IsDiffOf file r status bytes =
+    (a : List ℕ) × (b : List ℕ) × AreRead file (r.first ∷ r.second ∷ []) (a ∷ b ∷ [])
+    × IsStamped r.given (stamp_line r.first a ++ stamp_line r.second b) (IsDiffBetween (has_given r.given option.All) (form_of r.given) a b) status bytes
 
 -- why there is nothing: a file, otherwise a table
 abbrev pub IsNoDiff : (List ℕ → Option (List ℕ)) → List ℕ → List ℕ → CommandRefusal → Type 0
@@ -65,5 +71,5 @@ IsNoDiff file name other refusal =
     ⊎ ((a : List ℕ) × (b : List ℕ) × AreRead file (name ∷ other ∷ []) (a ∷ b ∷ []) × IsNoDiffBetween a b refusal)
 
 -- the answer of `diff` on two files, or why there is none
-abbrev pub AnswersDiff : (List ℕ → Option (List ℕ)) → Bool → SheetForm → List ℕ → List ℕ → Result Reply CommandRefusal → Type 0
-AnswersDiff file all form name other result = Replies (IsDiffOf file all form name other) (IsNoDiff file name other) result
+abbrev pub AnswersDiff : (List ℕ → Option (List ℕ)) → AskedBytes → Result Reply CommandRefusal → Type 0
+AnswersDiff file r result = Replies (IsDiffOf file r) (IsNoDiff file r.first r.second) result

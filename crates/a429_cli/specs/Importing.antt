@@ -1,11 +1,11 @@
 -- The command `import`: what it writes, and its status (profile: import).
-use Rattle.std.specs.Prelude.{◌≡◌, ◌⊎◌, ◌<◌, ℕ, List, Option, Result, Ok, Err, Some, slice_get}
+use Rattle.std.specs.Prelude.{◌≡◌, ◌⊎◌, ◌<◌, ℕ, true, List, Option, Result, Ok, Err, Some, length, slice_get}
 use Rattle.std.specs.List.{AllByRecursion}
 use Rattle.a429_grid.specs.Grid.{HasNoGridPeriod}
+use Rattle.a429_documents.specs.Lint.{IsMillisGroup}
 use Rattle.a429_equipment.specs.TableRecord.{TableRecord}
 use Rattle.a429_equipment.specs.declared.rows.GroupRow.{GroupRow}
 use Rattle.a429_equipment.specs.declared.rows.OutputRow.{OutputRow}
-use Rattle.a429_table.specs.Reading.{reading}
 use Rattle.a429_table.specs.declared.fault.TableFault.TheVariants as fault
 use Rattle.a429_import.specs.Imports.{IsImport}
 use Rattle.a429_import.specs.declared.import.Imported.{Imported}
@@ -73,12 +73,12 @@ HasNoShortGroup t =
     (g : ℕ) (group : GroupRow) (rows : List OutputRow) → slice_get t.groups g ≡ Some group → slice_get t.outputs g ≡ Some rows
     → ¬ (AllByRecursion (IsShortInterval group.rate) rows)
 
--- a text is read as a table without such a group, if it is read as one
-abbrev pub StatesNoShortGroup : List ℕ → Type 0
-StatesNoShortGroup text = (t : TableRecord) → reading text ≡ Ok t → HasNoShortGroup t
+-- for no group does `lint` find that its intervals may be milliseconds
+abbrev pub HasNoMillisGroup : TableRecord → Type 0
+HasNoMillisGroup t = (g : ℕ) → g < length t.groups → ¬ (IsMillisGroup t g true)
 
 -- the table that the rows in a file state has no such group, and no row is a note
 abbrev pub ImportsSilently : (List ℕ → Option (List ℕ)) → List (List ℕ) → ImportOptions → List ℕ → Type 0
 ImportsSilently file maps options name =
     (bytes : List ℕ) (imported : Imported) → readable (file name) ≡ Some bytes → IsImport maps options bytes (Ok imported)
-    → (imported.notes ≡ 0) × StatesNoShortGroup imported.text.items
+    → (imported.notes ≡ 0) × HasNoShortGroup imported.equipment × HasNoMillisGroup imported.equipment

@@ -10,8 +10,8 @@ use Rattle.a429_console.specs.declared.files.FileFault.{FileFault}
 use Rattle.a429_console.specs.declared.output.OutputFault.{OutputFault}
 use Rattle.a429_line.specs.LineBytes.{symbols_of}
 use Rattle.a429_line.specs.LineBytes.{first_bad_byte}
-use Rattle.a429_cli.specs.LineReports.{printed, rest_line}
-use Rattle.a429_console.specs.Outputs.{memory_refused}
+use Rattle.a429_cli.specs.LineReports.{printed, refused_in, rest_in, rows_head}
+use Rattle.a429_text.specs.declared.sheets.SheetForm.{SheetForm}
 use Rattle.a429_console.specs.RefusalText.{OrMemory, refusal_line}
 use Rattle.a429_cli.specs.declared.lines.LineInput.{LineInput}
 use Rattle.a429_console.specs.declared.refusals.CommandRefusal.{CommandRefusal}
@@ -61,34 +61,35 @@ abbrev pub IsLineReading : (List ℕ → Option (List ℕ)) → List ℕ → Lis
 IsLineReading file name filters result = MatchResult result (IsLineOf file name filters) (OrMemory (IsLinesRefusal file name filters))
 
 -- these lines are what is printed of some reports of a first part of a line
-abbrev pub IsToldInPart : Option (List Filter) → List Symbol → List ℕ → Type 0
-IsToldInPart filters line lines = (k : ℕ) × (n : ℕ) × (lines ≡ printed filters (take n (reports (take k line))))
+abbrev pub IsToldInPart : SheetForm → Option (List Filter) → List Symbol → List ℕ → Type 0
+IsToldInPart form filters line lines = (k : ℕ) × (n : ℕ) × (lines ≡ printed form filters (take n (reports (take k line))))
 
 -- these lines are what is printed of all reports of a line and of its rest, or of some reports
-abbrev pub IsPrinted : Option (List Filter) → List Symbol → Bool → List ℕ → Type 0
-IsPrinted filters line true lines = lines ≡ printed filters (reports line) ++ rest_line filters (rest line)
-IsPrinted filters line false lines = IsToldInPart filters line lines
+abbrev pub IsPrinted : SheetForm → Option (List Filter) → List Symbol → Bool → List ℕ → Type 0
+IsPrinted form filters line true lines = lines ≡ printed form filters (reports line) ++ rest_in form filters (rest line)
+IsPrinted form filters line false lines = IsToldInPart form filters line lines
 
--- what is printed of a line, and the status: all its reports and its rest, or some reports and then that an allocation failed
-abbrev pub IsTold : Option (List Filter) → List Symbol → ℕ → List ℕ → Type 0
-IsTold filters line status bytes =
-    ((bytes ≡ printed filters (reports line) ++ rest_line filters (rest line)) × (status ≡ 0))
-    ⊎ ((lines : List ℕ) × IsToldInPart filters line lines × (status ≡ 1) × (bytes ≡ lines ++ memory_refused ++ 10 ∷ []))
+-- what is printed of a line, and the status: all its reports and its rest, or some reports and then that an allocation failed; before them the
+-- beginning of the rows
+abbrev pub IsTold : SheetForm → Option (List Filter) → List Symbol → ℕ → List ℕ → Type 0
+IsTold form filters line status bytes =
+    ((bytes ≡ rows_head form ++ (printed form filters (reports line) ++ rest_in form filters (rest line))) × (status ≡ 0))
+    ⊎ ((lines : List ℕ) × IsToldInPart form filters line lines × (status ≡ 1) × (bytes ≡ rows_head form ++ (lines ++ refused_in form)))
 
 -- what is printed of a line that was read, and whether memory sufficed for all
-abbrev pub IsLinePrinted : LineInput → Bool → List ℕ → Type 0
-IsLinePrinted l sufficed lines = IsPrinted l.filters (symbols_of l.bytes.items) sufficed lines
+abbrev pub IsLinePrinted : SheetForm → LineInput → Bool → List ℕ → Type 0
+IsLinePrinted form l sufficed lines = IsPrinted form l.filters (symbols_of l.bytes.items) sufficed lines
 
 -- what is printed of a line that was read, and the status
-abbrev pub IsLineTold : LineInput → ℕ → List ℕ → Type 0
-IsLineTold l status bytes = IsTold l.filters (symbols_of l.bytes.items) status bytes
+abbrev pub IsLineTold : SheetForm → LineInput → ℕ → List ℕ → Type 0
+IsLineTold form l status bytes = IsTold form l.filters (symbols_of l.bytes.items) status bytes
 
 -- what is written of a line file with filters of these texts, and the status: the line of a refusal, or what is printed of the line
-abbrev pub IsLinesReply : (List ℕ → Option (List ℕ)) → List ℕ → List (List ℕ) → ℕ → List ℕ → Type 0
-IsLinesReply file name filters status bytes =
+abbrev pub IsLinesReply : (List ℕ → Option (List ℕ)) → SheetForm → List ℕ → List (List ℕ) → ℕ → List ℕ → Type 0
+IsLinesReply file form name filters status bytes =
     ((refusal : CommandRefusal) × OrMemory (IsLinesRefusal file name filters) refusal × (status ≡ 1) × (bytes ≡ refusal_line refusal ++ 10 ∷ []))
-    ⊎ ((content : List ℕ) × AreLineBytes file name filters content × (first_bad_byte content ≡ None) × IsTold (filter_list filters) (symbols_of content) status bytes)
+    ⊎ ((content : List ℕ) × AreLineBytes file name filters content × (first_bad_byte content ≡ None) × IsTold form (filter_list filters) (symbols_of content) status bytes)
 
 -- what `lines` answers of the files of a reader: the files are those that give what the reader answered in the call
-abbrev pub HasToldLines : {S X : Type 0} → (S → List ℕ → Result (List ℕ) FileFault → S → Type 0) → (X → Option (List ℕ)) → List ℕ → List (List ℕ) → S → S → X → X → Result ℕ OutputFault → Type 0
-HasToldLines Answers contents name filters = HasReplied Answers contents (λ file. IsLinesReply file name filters)
+abbrev pub HasToldLines : {S X : Type 0} → (S → List ℕ → Result (List ℕ) FileFault → S → Type 0) → (X → Option (List ℕ)) → SheetForm → List ℕ → List (List ℕ) → S → S → X → X → Result ℕ OutputFault → Type 0
+HasToldLines Answers contents form name filters = HasReplied Answers contents (λ file. IsLinesReply file form name filters)

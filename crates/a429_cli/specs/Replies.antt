@@ -19,6 +19,7 @@ use Rattle.a429_import.specs.declared.import.ImportOptions.{ImportOptions}
 use Rattle.a429_cli.specs.Importing.{ImportsSilently, IsImported, IsNoImport}
 use Rattle.a429_live.specs.LiveReplies.{IsLiveReply, TakesLive}
 use Rattle.a429_replay.specs.Replaying.{IsReplay, TakesFurther}
+use Rattle.a429_replay.specs.Views.{view_given}
 use Rattle.a429_recordings.specs.SimulationReplies.{IsSimulation, SimulatesSpacedWords, simulation_form}
 use Rattle.a429_cli.specs.JudgeAnswers.{IsJudgement, IsUnjudged}
 use Rattle.a429_cli.specs.SurveyReplies.{IsSurveyed, IsUnsurveyed}
@@ -46,12 +47,12 @@ import_options given = record { fills = has_given given option.Fill; makes_names
 
 -- the status and the bytes of such an answer, by these files and by what the command is given
 abbrev pub IsAnswerOf : Verb → (List ℕ → Option (List ℕ)) → AskedBytes → ℕ → List ℕ → Type 0
-IsAnswerOf verb.Word file r = IsWordOf r.first
-IsAnswerOf verb.Encode file r = IsEncoded r.first (fields_given r.given)
+IsAnswerOf verb.Word file r = IsWordOf r.first (form_of r.given)
+IsAnswerOf verb.Encode file r = IsEncoded r.first (fields_given r.given) (form_of r.given)
 IsAnswerOf verb.Import file r = IsImported file (r.given option.Map) (import_options r.given) r.first
-IsAnswerOf verb.Check file r = IsCheckOf file r.first r.second
-IsAnswerOf verb.Lint file r = IsLinted file (form_of r.given) r.first
-IsAnswerOf verb.Diff file r = IsDiffOf file (has_given r.given option.All) (form_of r.given) r.first r.second
+IsAnswerOf verb.Check file r = IsCheckOf file (form_of r.given) r.first r.second
+IsAnswerOf verb.Lint file r = IsLinted file r
+IsAnswerOf verb.Diff file r = IsDiffOf file r
 IsAnswerOf verb.Survey file r = IsSurveyed file r
 IsAnswerOf verb.Judge file r = IsJudgement file r
 IsAnswerOf v file r = IsPlanReply v file r
@@ -70,8 +71,8 @@ IsNoAnswer v file r = IsNoPlanReply v file r
 
 -- the status and the bytes that answer a command, by these files and by what it is given
 abbrev pub IsReplyOf : Verb → (List ℕ → Option (List ℕ)) → AskedBytes → ℕ → List ℕ → Type 0
-IsReplyOf verb.Lines file r = IsLinesReply file r.first r.more
-IsReplyOf verb.Replay file r = IsReplay file r.first r.second r.more
+IsReplyOf verb.Lines file r = IsLinesReply file (form_of r.given) r.first r.more
+IsReplyOf verb.Replay file r = IsReplay file (view_given r.given) r.first r.second r.more
 IsReplyOf verb.Simulate file r = IsSimulation file r.first (r.second ∷ r.more) (r.given option.Channel) (simulation_form r.given)
 IsReplyOf verb.Live file r = IsLiveReply file r
 IsReplyOf v file r = IsReplyBy (trouble_of v) (IsAnswerOf v file r) (IsNoAnswer v file r)

@@ -6,6 +6,8 @@ use Rattle.a429_word.specs.Bits.{label_of, sdi_of, ssm_of, data_of, bnr_of, bcd_
 use Rattle.a429_word.specs.Texts.{octal}
 use Rattle.a429_word.specs.Meanings.{two_bits, bnr_meaning, bnr_text, bcd_meaning, bcd_text}
 use Rattle.a429_word.specs.Hexadecimal.{data_digits, raw_word}
+use Rattle.a429_text.specs.declared.sheets.SheetForm.{SheetForm}
+use Rattle.a429_cli.specs.WordRows.{told_word}
 use Rattle.a429_console.specs.declared.refusals.CommandRefusal.{CommandRefusal}
 use Rattle.a429_console.specs.declared.refusals.CommandRefusal.TheVariants as refused
 
@@ -43,8 +45,9 @@ abbrev pub word_lines : ℕ → List ℕ
 word_lines raw = fields_line raw ++ bnr_line raw ++ bcd_line raw
 
 -- what the word of eight hexadecimal digits says, with status 0
-abbrev pub IsWordOf : List ℕ → ℕ → List ℕ → Type 0
-IsWordOf text status bytes = (raw : ℕ) × (raw_word text ≡ Some raw) × (has_odd_parity raw ≡ true) × (bytes ≡ word_lines raw) × (status ≡ 0)
+abbrev pub IsWordOf : List ℕ → SheetForm → ℕ → List ℕ → Type 0
+IsWordOf text form status bytes =
+    (raw : ℕ) × (raw_word text ≡ Some raw) × (has_odd_parity raw ≡ true) × (bytes ≡ told_word form (word_lines raw) raw) × (status ≡ 0)
 
 -- why there is none: the text is none of eight hexadecimal digits, or the word has even parity
 abbrev pub IsNoWord : List ℕ → CommandRefusal → Type 0

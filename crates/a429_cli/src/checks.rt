@@ -1,10 +1,10 @@
 //! The command `check`: whether the text of a plan shows the fewest buses.
-ghost use Rattle.std.specs.Prelude.{◌≡◌, ◌≤◌, ◌++◌, ◌∷◌, [], MatchResult, OnOk};
+ghost use Rattle.std.specs.Prelude.{◌≡◌, ◌≤◌, ◌++◌, ◌∷◌, [], IfOk, MatchResult, OnOk, map};
 ghost use Rattle.std.specs.Io.KnownBytes.{Appends};
 ghost use Rattle.a429_cert.specs.Judged.{IsVerdictOnBytes};
 ghost use Rattle.a429_cert.specs.Printed.{verdict_text};
 ghost use Rattle.a429_console.specs.Readings.{HasRead};
-ghost use Rattle.a429_cli.specs.Checks.{AnswersCheck, IsJudging, IsUnjudged, IsVerdictReply, verdict_status};
+ghost use Rattle.a429_cli.specs.Checks.{AnswersCheck, IsJudging, IsUnjudged, IsVerdictReply, told_verdict, verdict_columns, verdict_row, verdict_status};
 ghost use Rattle.a429_cli.specs.WholeReplies.{Replies};
 ghost use Rattle.a429_console.specs.RefusalText.{OrMemory};
 ghost use Rattle.a429_console.specs.Tables.{IsUnfitNamed};
@@ -19,10 +19,14 @@ use a429_console::refusals::evidence::TableEvidence;
 use a429_console::refusals::tables::unfit;
 use a429_console::refusals::{CommandRefusal, Refused};
 use a429_equipment::Equipment;
-use std::alloc::Global;
+use a429_text::{Cell, Rows, Sheet, SheetForm};
+use std::alloc::{AllocError, Global};
 use std::io;
 use std::io::Write;
 use std::marker::Model;
+
+/// The names of the columns of a verdict.
+const COLUMNS: &[&str] = &["result", "reason", "line"];
 
 /// What is wrong with the line that is refused, for a hint. `None`: no line is refused, or an allocation failed.
 fn objection_of(alloc: Global, refusal: Option<Refusal>) -> Option<Objection> {
@@ -120,6 +124,54 @@ fn write_verdict<W: Write>(out: &mut W, verdict: Verdict) -> io::Result<()>
     writeln!(out, "{verdict}")
 }
 
+/// The line of a verdict. Error: an allocation failed.
+fn verdict_line(alloc: Global, verdict: Verdict) -> Result<Vec<u8>, AllocError>
+    ensures { IfOk result (λ line. line.items ≡ verdict_text verdict ++ 10 ∷ []) }
+{
+    let mut line = Vec::new(alloc);
+    match write_verdict(&mut line, verdict) {
+        Ok(()) => Ok(line),
+        Err(_) => Err(AllocError),
+    }
+}
+
+/// Adds the row of a verdict.
+fn add_row(rows: &mut Rows, verdict: Verdict)
+    ensures { rows.new ≡ rows.old ++ verdict_row verdict ∷ [] }
+{
+    match verdict {
+        Verdict::Fewest => rows.add(&[Cell::Text("fewest"), Cell::Absent, Cell::Absent]),
+        Verdict::No(no) => rows.add(&[
+            Cell::Text("no"),
+            Cell::Text(no.reason.text()),
+            Cell::Number(no.line as u64),
+        ]),
+    }
+}
+
+/// A verdict as a sheet of one row.
+fn verdict_sheet(alloc: Global, verdict: Verdict) -> Sheet
+    ensures columns { map (λ name. name.now) result.columns.now ≡ verdict_columns }
+    ensures rows { result.rows ≡ verdict_row verdict ∷ [] }
+{
+    let mut rows = Rows::new(alloc);
+    add_row(&mut rows, verdict);
+    Sheet {
+        columns: COLUMNS,
+        rows,
+    }
+}
+
+/// The line of a verdict, or its sheet with `--csv` or `--json`. Error: an allocation failed.
+fn told_verdict(alloc: Global, verdict: Verdict, form: SheetForm) -> Result<Vec<u8>, AllocError>
+    ensures { IfOk result (λ text. text.items ≡ told_verdict form verdict) }
+{
+    match form {
+        SheetForm::Columns => verdict_line(alloc, verdict),
+        SheetForm::Csv | SheetForm::Json => verdict_sheet(alloc, verdict).render(alloc, form),
+    }
+}
+
 /// The status that belongs to a verdict: 0 if the text shows the fewest buses, otherwise 1.
 fn verdict_status(verdict: Verdict) -> u8
     ensures due { result ≡ verdict_status verdict }
@@ -131,12 +183,11 @@ fn verdict_status(verdict: Verdict) -> u8
     }
 }
 
-/// The line of a verdict, with its status. An allocation that fails is refused.
-fn verdict_reply(alloc: Global, verdict: JudgedText) -> Result<Reply, Refused>
-    ensures { Replies (IsVerdictReply verdict) (λ refusal. ⊥) result }
+/// The verdict in a form, with its status. An allocation that fails is refused.
+fn verdict_reply(alloc: Global, verdict: JudgedText, form: SheetForm) -> Result<Reply, Refused>
+    ensures { Replies (IsVerdictReply form verdict) (λ refusal. ⊥) result }
 {
-    let mut bytes = Vec::new(alloc);
-    let Ok(()) = write_verdict(&mut bytes, verdict.verdict()) else {
+    let Ok(bytes) = told_verdict(alloc, verdict.verdict(), form) else {
         return Err(Refused::plain(CommandRefusal::Memory));
     };
     let status = verdict_status(verdict.verdict());
@@ -148,7 +199,7 @@ fn verdict_reply(alloc: Global, verdict: JudgedText) -> Result<Reply, Refused>
     })
 }
 
-/// The line of the verdict on the text in a file by the table in another. The status is 0 if the text shows the fewest
+/// The verdict on the text in a file by the table in another: its line, or its sheet with `--csv` or `--json`. The status is 0 if the text shows the fewest
 /// buses for the table, otherwise 1. Errors, in this order: the file of the table or that of the text is refused, or the
 /// table has a fault. `Memory` if an allocation fails.
 pub fn check_reply<F: FileReader>(
@@ -156,9 +207,10 @@ pub fn check_reply<F: FileReader>(
     files: &mut F,
     table: &str,
     plan: &str,
+    form: SheetForm,
 ) -> Result<Reply, Refused>
-    ensures { HasRead F.answers (λ file. AnswersCheck file table.now plan.now result) files.old files.new }
+    ensures { HasRead F.answers (λ file. AnswersCheck file form table.now plan.now result) files.old files.new }
 {
     let verdict = verdict_on_files(alloc, files, table, plan)?;
-    verdict_reply(alloc, verdict)
+    verdict_reply(alloc, verdict, form)
 }

@@ -36,6 +36,7 @@ use a429_console::refusals::Refused;
 use a429_import::ImportOptions;
 use a429_recordings::simulate::{LogNames, SimulationForm, simulate};
 use a429_replay::replay::replay;
+use a429_replay::views::ReplayForm;
 use std::alloc::Global;
 
 /// Runs a command: `words` are the arguments without the program's name. Answers, refusals and help that is asked for
@@ -96,8 +97,8 @@ fn reply_to<F: FileReader>(
     let Asked { first, second, .. } = asked;
     let form = asked.form();
     match asked.verb {
-        Verb::Word => word_reply(alloc, first),
-        Verb::Encode => encode_reply(alloc, first, &FieldOptions::of(asked)),
+        Verb::Word => word_reply(alloc, first, form),
+        Verb::Encode => encode_reply(alloc, first, &FieldOptions::of(asked), form),
         Verb::Import => import_reply(
             alloc,
             files,
@@ -106,12 +107,9 @@ fn reply_to<F: FileReader>(
             import_options(asked),
             warnings,
         ),
-        Verb::Check => check_reply(alloc, files, first, second),
-        Verb::Lint => lint_reply(alloc, files, first, form),
-        Verb::Diff => {
-            let all = asked.has(OptionName::All);
-            diff_reply(alloc, files, first, second, all, form)
-        }
+        Verb::Check => check_reply(alloc, files, first, second, form),
+        Verb::Lint => lint_reply(alloc, files, asked),
+        Verb::Diff => diff_reply(alloc, files, asked),
         Verb::Survey => survey_reply(alloc, files, asked),
         Verb::Judge => judge_reply(alloc, files, asked),
         _ => plan_reply(alloc, files, asked),
@@ -177,8 +175,11 @@ fn answer_by_lines<F: FileReader, O: Output>(
         ..
     } = asked;
     match asked.verb {
-        Verb::Lines => tell_lines(alloc, files, first, more, out),
-        Verb::Replay => replay(alloc, files, first, second, more, warnings, out),
+        Verb::Lines => tell_lines(alloc, files, first, more, asked.form(), out),
+        Verb::Replay => {
+            let view = ReplayForm::of(asked);
+            replay(alloc, files, first, second, more, &view, warnings, out)
+        }
         Verb::Simulate => {
             let form = SimulationForm::of(asked);
             simulate(

@@ -8,12 +8,13 @@ ghost use Rattle.a429_slots.specs.Tables.{groups_of};
 use crate::replies::reply::Reply;
 use a429_arguments::options::OptionName;
 use a429_arguments::requests::Asked;
+use a429_console::files::reading::printable_name;
 use a429_console::refusals::tables::no_group;
 use a429_console::refusals::{CommandRefusal, Refused};
-use a429_documents::{Drawing, DrawingFault, DrawingForm, draw_text, page_text};
+use a429_documents::{Drawing, DrawingFault, DrawingForm, TableFile, draw_text, page_text};
 use a429_equipment::GroupRow;
 use a429_slots::{OUTPUTS, Proposal};
-use std::alloc::Global;
+use std::alloc::{AllocError, Global};
 
 /// What is drawn of a plan: an image, or a page with it and the documents.
 #[derive(Clone, Copy)]
@@ -80,15 +81,34 @@ fn refusal_of(fault: DrawingFault) -> CommandRefusal
     }
 }
 
+/// A page about the table in a file, with an image. Error: an allocation failed.
+fn page_of(
+    alloc: Global,
+    file: TableFile<'_>,
+    drawing: &Drawing<'_>,
+) -> Result<Vec<u8>, AllocError> {
+    let name = printable_name(alloc, file.name)?;
+    let shown = TableFile {
+        name: name.as_str(),
+        bytes: file.bytes,
+    };
+    page_text(alloc, drawing, shown)
+}
+
 /// A picture of what is drawn: an image, or a page with it. An allocation that fails is refused.
-fn picture_text(alloc: Global, drawing: &Drawing<'_>, is_page: bool) -> Result<Reply, Refused>
+fn picture_text(
+    alloc: Global,
+    file: TableFile<'_>,
+    drawing: &Drawing<'_>,
+    is_page: bool,
+) -> Result<Reply, Refused>
     ensures done { IfOk result (λ reply. reply.status ≡ 0) }
     ensures refused { IfErr result (λ refusal. refusal ≡ Memory) }
 {
     let text = if is_page {
-        page_text(alloc, drawing)
+        page_of(alloc, file, drawing)
     } else {
-        draw_text(alloc, drawing)
+        draw_text(alloc, drawing, file.bytes)
     };
     match text {
         Ok(text) => Ok(Reply::done(text)),
@@ -99,6 +119,7 @@ fn picture_text(alloc: Global, drawing: &Drawing<'_>, is_page: bool) -> Result<R
 /// The picture of a proposal's plan, of the group of this number or of all. One that is too high is refused.
 fn image_numbered(
     alloc: Global,
+    file: TableFile<'_>,
     proposal: &Proposal<OUTPUTS>,
     number: Option<usize>,
     picture: Picture,
@@ -107,7 +128,7 @@ fn image_numbered(
     ensures { GivesNumbered proposal.now number picture result }
 {
     match Drawing::of(alloc, proposal, number, picture.form) {
-        Ok(drawing) => picture_text(alloc, &drawing, picture.is_page),
+        Ok(drawing) => picture_text(alloc, file, &drawing, picture.is_page),
         Err(fault) => Err(Refused::plain(refusal_of(fault))),
     }
 }
@@ -116,6 +137,7 @@ fn image_numbered(
 /// has this name, or the image is too high. `Memory` if an allocation fails.
 pub fn image_of(
     alloc: Global,
+    file: TableFile<'_>,
     proposal: &Proposal<OUTPUTS>,
     group: Option<&str>,
     picture: Picture,
@@ -124,5 +146,5 @@ pub fn image_of(
 {
     let _plan = proposal.plan();
     let number = group_asked(alloc, proposal.equipment().groups(), group)?;
-    image_numbered(alloc, proposal, number, picture)
+    image_numbered(alloc, file, proposal, number, picture)
 }

@@ -1,15 +1,19 @@
 //! The command `encode`.
-ghost use Rattle.std.specs.Prelude.{◌≡◌, ◌<◌, ◌≤◌, ◌-◌, ◌%◌, ◌^◌, MatchOption};
+ghost use Rattle.std.specs.Prelude.{◌≡◌, ◌<◌, ◌≤◌, ◌-◌, ◌%◌, ◌^◌, ◌++◌, ◌∷◌, [], IfOk, MatchOption};
 ghost use Rattle.a429_cli.specs.Encoding.{GivesData, HasBcd, HasBnr, HasData, HasFields, HasHex, IsEncoded, IsNoBcd, IsNoBnr, IsNoHex, IsNotEncoded, NoWordHasData, NoWordHasFields, fields_of, given_sdi, given_ssm, hex_number, in_place};
+ghost use Rattle.a429_word.specs.Hexadecimal.{hex};
 ghost use Rattle.a429_cli.specs.WholeReplies.{Replies};
+ghost use Rattle.a429_cli.specs.WordRows.{told_word};
 
 use crate::replies::reply::Reply;
+use crate::word_rows::word_sheet;
 use a429_arguments::options::OptionName;
 use a429_arguments::requests::Asked;
 use a429_console::refusals::{CommandRefusal, Refused};
+use a429_text::SheetForm;
 use a429_text::from_end::push_hex;
 use a429_word::{Label, Sdi, Ssm, Word, decimal_number, raw_word};
-use std::alloc::Global;
+use std::alloc::{AllocError, Global};
 
 /// What is given of the fields of a word that is made. The data are given in one of three ways.
 #[derive(Clone, Copy)]
@@ -195,11 +199,30 @@ fn given_word(label: Label, fields: &FieldOptions<'_>) -> Option<Word>
     Word::build(label, sdi, value, ssm).ok()
 }
 
-/// The word of a label, an SDI, an SSM and data: eight hexadecimal digits on a line, with status 0. Errors, in this
-/// order: the text is no label (`label-text`), or the data is not in its form or does not fit its bits (`data-text`).
-/// `Memory` if an allocation fails.
-pub fn encode_reply(alloc: Global, label: &str, fields: &FieldOptions<'_>) -> Result<Reply, Refused>
-    ensures { Replies (IsEncoded label.now (fields_of fields.now)) (IsNotEncoded label.now (fields_of fields.now)) result }
+/// The digits of a word on a line, or its sheet with `--csv` or `--json`. Error: an allocation failed.
+fn encoded_text(alloc: Global, word: Word, form: SheetForm) -> Result<Vec<u8>, AllocError>
+    ensures { IfOk result (λ text. text.items ≡ told_word form (hex word ++ 10 ∷ []) word) }
+{
+    match form {
+        SheetForm::Columns => {
+            let mut line = Vec::new(alloc);
+            push_hex(&mut line, b"", word.raw())?;
+            Ok(line)
+        }
+        SheetForm::Csv | SheetForm::Json => word_sheet(alloc, word, form),
+    }
+}
+
+/// The word of a label, an SDI, an SSM and data: eight hexadecimal digits on a line, or its sheet with `--csv` or
+/// `--json`, with status 0. Errors, in this order: the text is no label (`label-text`), or the data is not in its form or
+/// does not fit its bits (`data-text`). `Memory` if an allocation fails.
+pub fn encode_reply(
+    alloc: Global,
+    label: &str,
+    fields: &FieldOptions<'_>,
+    form: SheetForm,
+) -> Result<Reply, Refused>
+    ensures { Replies (IsEncoded label.now (fields_of fields.now) form) (IsNotEncoded label.now (fields_of fields.now)) result }
 {
     let Some(label) = Label::of_digits(label.as_bytes()) else {
         return Err(Refused::plain(CommandRefusal::LabelText));
@@ -207,7 +230,5 @@ pub fn encode_reply(alloc: Global, label: &str, fields: &FieldOptions<'_>) -> Re
     let Some(word) = given_word(label, fields) else {
         return Err(Refused::plain(CommandRefusal::DataText));
     };
-    let mut line = Vec::new(alloc);
-    push_hex(&mut line, b"", word.raw())?;
-    Ok(Reply::done(line))
+    Ok(Reply::done(encoded_text(alloc, word, form)?))
 }

@@ -1,19 +1,26 @@
 //! The commands that look for something in tables, `lint` and `diff`: the status says whether they found it.
-ghost use Rattle.std.specs.Prelude.{◌≡◌, ◌≤◌, IfOk, MatchResult};
+ghost use Rattle.std.specs.Prelude.{◌≡◌, ◌≤◌, ◌++◌, IfOk, MatchResult};
+ghost use Rattle.a429_arguments.specs.Given.{form_of, has_given};
+ghost use Rattle.a429_arguments.specs.Requests.{asked_of};
+ghost use Rattle.a429_arguments.specs.declared.options.OptionName.TheVariants as option;
 ghost use Rattle.a429_console.specs.Readings.{HasRead};
 ghost use Rattle.a429_console.specs.RefusalText.{OrMemory};
 ghost use Rattle.a429_console.specs.Tables.{IsProposedBy, IsTableRefusal};
 ghost use Rattle.a429_documents.specs.Diff.{diff_columns, diff_rows};
 ghost use Rattle.a429_cli.specs.Findings.{AnswersDiff, IsDiffBetween, IsFound, IsLint, IsLinted, IsNoDiffBetween, IsNoLint, found_status, names_of};
+ghost use Rattle.a429_cli.specs.Stamping.{IsStamped, stamp_line};
 ghost use Rattle.a429_cli.specs.WholeReplies.{Replies};
 
 use crate::replies::reply::Reply;
+use crate::stamping::{stamped, stamped_both};
+use a429_arguments::options::OptionName;
+use a429_arguments::requests::Asked;
 use a429_console::answered::Found;
 use a429_console::files::FileReader;
 use a429_console::files::reading::read_file;
 use a429_console::planning::{propose, read_table};
 use a429_console::refusals::Refused;
-use a429_documents::{diff_sheet, lint_sheet};
+use a429_documents::{TableFile, diff_sheet, lint_sheet};
 use a429_equipment::Equipment;
 use a429_slots::{OUTPUTS, Proposal};
 use a429_text::{Rows, Sheet, SheetForm};
@@ -50,19 +57,37 @@ fn lint(alloc: Global, equipment: &Equipment, form: SheetForm) -> Result<Reply, 
     Ok(reply.with(Found::Rows(sheet)))
 }
 
+/// The likely mistakes in the equipment of a table, as asked for.
+fn stamped_lint(
+    alloc: Global,
+    asked: &Asked,
+    table: &[u8],
+    equipment: &Equipment,
+) -> Result<Reply, AllocError>
+    ensures { IfOk result (λ reply. IsStamped (asked_of asked.now).given (stamp_line (asked_of asked.now).first table.now)
+        (IsLint (form_of (asked_of asked.now).given) equipment.now) reply.status reply.bytes.items) }
+{
+    let reply = lint(alloc, equipment, asked.form())?;
+    let file = TableFile {
+        name: asked.first,
+        bytes: table,
+    };
+    stamped(alloc, asked, file, reply)
+}
+
 /// The likely mistakes in the table in a file, a row for each finding. The status is 0 if there is none, otherwise 1.
 /// Errors, in this order: the file is refused, or the table has a fault. `Memory` if an allocation fails.
 pub fn lint_reply<F: FileReader>(
     alloc: Global,
     files: &mut F,
-    name: &str,
-    form: SheetForm,
+    asked: &Asked,
 ) -> Result<Reply, Refused>
-    ensures { HasRead F.answers (λ file. Replies (IsLinted file form name.now) (IsNoLint file name.now) result) files.old files.new }
+    ensures { HasRead F.answers (λ file. Replies (IsLinted file (asked_of asked.now))
+        (IsNoLint file (asked_of asked.now).first) result) files.old files.new }
 {
-    let table = read_file(alloc, files, name)?;
+    let table = read_file(alloc, files, asked.first)?;
     let equipment = read_table(alloc, &table)?;
-    Ok(lint(alloc, &equipment, form)?)
+    Ok(stamped_lint(alloc, asked, &table, &equipment)?)
 }
 
 /// The proposal of the bytes of the second of two tables. Error: the table's fault, otherwise the first fault of its plan.
@@ -106,21 +131,43 @@ fn diff_between(
     Ok(diff_of(alloc, &first, &second, all, form)?)
 }
 
+/// The same, as asked for.
+fn stamped_diff(alloc: Global, asked: &Asked, table: &[u8], other: &[u8]) -> Result<Reply, Refused>
+    ensures { Replies (IsStamped (asked_of asked.now).given
+        (stamp_line (asked_of asked.now).first table.now ++ stamp_line (asked_of asked.now).second other.now)
+        (IsDiffBetween (has_given (asked_of asked.now).given option.All) (form_of (asked_of asked.now).given) table.now other.now))
+        (IsNoDiffBetween table.now other.now) result }
+{
+    let reply = diff_between(
+        alloc,
+        table,
+        other,
+        asked.has(OptionName::All),
+        asked.form(),
+    )?;
+    let first = TableFile {
+        name: asked.first,
+        bytes: table,
+    };
+    let second = TableFile {
+        name: asked.second,
+        bytes: other,
+    };
+    Ok(stamped_both(alloc, asked, first, second, reply)?)
+}
+
 /// What changes from the plan of the table in a file to that of the table in another, a row for each thing that differs.
-/// With `all` each output that only changes its place has a row, otherwise one row has their number. The status is 0 if
+/// With `--all` each output that only changes its place has a row, otherwise one row has their number. The status is 0 if
 /// nothing changes, otherwise 1. Errors, in this order: the first or the second file is refused, or a table has a fault
 /// or no plan. `Memory` if an allocation fails.
 pub fn diff_reply<F: FileReader>(
     alloc: Global,
     files: &mut F,
-    table: &str,
-    other: &str,
-    all: bool,
-    form: SheetForm,
+    asked: &Asked,
 ) -> Result<Reply, Refused>
-    ensures { HasRead F.answers (λ file. AnswersDiff file all form table.now other.now result) files.old files.new }
+    ensures { HasRead F.answers (λ file. AnswersDiff file (asked_of asked.now) result) files.old files.new }
 {
-    let table = read_file(alloc, files, table)?;
-    let other = read_file(alloc, files, other)?;
-    diff_between(alloc, &table, &other, all, form)
+    let table = read_file(alloc, files, asked.first)?;
+    let other = read_file(alloc, files, asked.second)?;
+    stamped_diff(alloc, asked, &table, &other)
 }

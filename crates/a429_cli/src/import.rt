@@ -1,21 +1,24 @@
 //! The command `import`: an equipment table from rows of comma-separated values.
 ghost use Rattle.std.specs.Prelude.{◌≡◌};
 ghost use Rattle.a429_console.specs.Readings.{HasRead};
-ghost use Rattle.a429_cli.specs.Importing.{ImportsSilently, IsImportReply, StatesNoShortGroup, csv_kind, import_refusal};
+ghost use Rattle.a429_cli.specs.Importing.{HasNoMillisGroup, HasNoShortGroup, ImportsSilently, IsImportReply, csv_kind, import_refusal};
 ghost use Rattle.a429_import.specs.ImportMaps.{given_texts};
 
 mod short_intervals;
 
-use crate::import::short_intervals::note_short_intervals;
+use crate::import::short_intervals::{note_millis_groups, note_short_intervals};
 use crate::replies::reply::Reply;
 use a429_console::files::FileReader;
 use a429_console::files::reading::read_file;
 use a429_console::hints::warnings::Warning;
-use a429_console::refusals::evidence::{Evidence, RowsEvidence};
+use a429_console::refusals::evidence::Evidence;
+use a429_console::refusals::rows::{RowEvidence, RowsEvidence};
 use a429_console::refusals::{CommandRefusal, CsvKind, Refused};
-use a429_import::{CsvFaultKind, ImportFault, ImportOptions, Imported, import_table};
+use a429_import::{
+    CsvFaultKind, CsvLine, ImportFault, ImportOptions, Imported, RefusedRows, import_or_keep,
+};
 use a429_table::TableFault;
-use std::alloc::Global;
+use std::alloc::{AllocError, Global};
 
 /// What is wrong with a row, as a refusal has it.
 fn csv_kind(kind: CsvFaultKind) -> CsvKind
@@ -47,23 +50,92 @@ fn import_refusal(fault: &ImportFault) -> CommandRefusal
     }
 }
 
-/// Rows that are refused, for a hint, by their bytes.
-fn rows_evidence(bytes: Vec<u8>, fault: &ImportFault) -> RowsEvidence {
-    let column = match fault {
-        ImportFault::Csv { column, .. } => *column,
+/// The name of the column that is at fault, if one is.
+fn column_name(fault: &ImportFault) -> Option<&'static str> {
+    match fault {
+        ImportFault::Csv {
+            column: Some(column),
+            ..
+        } => Some(column.name()),
         _ => None,
-    };
-    RowsEvidence {
+    }
+}
+
+/// A row, for a hint.
+fn row_evidence(line: CsvLine) -> RowEvidence {
+    let CsvLine {
+        number,
+        separator,
+        fields,
+    } = line;
+    RowEvidence {
+        number,
+        separator,
+        fields,
+    }
+}
+
+/// Rows, for a hint. Error: an allocation failed.
+fn all_evidence(alloc: Global, lines: Vec<CsvLine>) -> Result<Vec<RowEvidence>, AllocError> {
+    let mut rows = Vec::new(alloc);
+    for line in lines {
+        rows.push(row_evidence(line))?;
+    }
+    Ok(rows)
+}
+
+/// Rows that are refused, for a hint. Error: an allocation failed.
+fn rows_evidence(
+    alloc: Global,
+    bytes: Vec<u8>,
+    column: Option<&'static str>,
+    refused: RefusedRows,
+) -> Result<RowsEvidence, AllocError> {
+    let RefusedRows {
+        titles,
+        heading,
+        rows,
+        faulty,
+        count,
+        is_misquoted,
+        ..
+    } = refused;
+    Ok(RowsEvidence {
+        rows: all_evidence(alloc, rows)?,
+        faulty: all_evidence(alloc, faulty)?,
+        titles: titles.map(row_evidence),
+        heading: heading.map(row_evidence),
         bytes,
-        column: column.map(|column| column.name()),
+        column,
+        count,
+        is_misquoted,
+    })
+}
+
+/// What a hint needs of a refused sheet.
+fn evidence_of(
+    alloc: Global,
+    bytes: Vec<u8>,
+    fault: &ImportFault,
+    refused: Option<RefusedRows>,
+) -> Evidence {
+    let refused = match refused {
+        Some(refused) => refused,
+        None => RefusedRows::new(alloc),
+    };
+    match rows_evidence(alloc, bytes, column_name(fault), refused) {
+        Ok(rows) => Evidence::Rows(rows),
+        Err(_) => Evidence::Nothing,
     }
 }
 
 /// Notes what an import has to warn of: each group whose intervals may be milliseconds, and rows that are notes.
 fn note_import(alloc: Global, imported: &Imported, warnings: &mut Vec<Warning>)
-    ensures { imported.now.notes ≡ 0 → StatesNoShortGroup imported.now.text.items → warnings.new.items ≡ warnings.old.items }
+    ensures { imported.now.notes ≡ 0 → HasNoShortGroup imported.now.equipment → HasNoMillisGroup imported.now.equipment
+        → warnings.new.items ≡ warnings.old.items }
 {
-    note_short_intervals(alloc, &imported.text, warnings);
+    note_short_intervals(&imported.equipment, warnings);
+    note_millis_groups(alloc, &imported.equipment, warnings);
     if 0 < imported.notes {
         Warning::note_notes(warnings, imported.notes);
     }
@@ -85,14 +157,15 @@ pub fn import_reply<F: FileReader>(
         → warnings.new.items ≡ warnings.old.items) files.old files.new }
 {
     let bytes = read_file(alloc, files, name)?;
-    match import_table(alloc, maps, options, &bytes) {
+    let mut refused = None;
+    match import_or_keep(alloc, maps, options, &bytes, &mut refused) {
         Ok(imported) => {
             note_import(alloc, &imported, warnings);
             Ok(Reply::done(imported.text))
         }
         Err(fault) => {
-            let rows = rows_evidence(bytes, &fault);
-            Err(Refused::with(import_refusal(&fault), Evidence::Rows(rows)))
+            let evidence = evidence_of(alloc, bytes, &fault, refused);
+            Err(Refused::with(import_refusal(&fault), evidence))
         }
     }
 }

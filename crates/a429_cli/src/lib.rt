@@ -29,14 +29,16 @@ pub mod laws;
 mod lines;
 mod live;
 mod loads;
+mod plan_rows;
 mod plans;
 mod program;
-mod proposals;
 mod replies;
 mod runs;
 mod slots;
+mod stamping;
 mod surveys;
 mod word;
+mod word_rows;
 
 pub use a429_arguments::given::{Arguments, given_words};
 pub use a429_arguments::memory::MemoryWords;

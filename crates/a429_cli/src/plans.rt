@@ -1,29 +1,33 @@
 //! The commands on the plan of one table: `plan`, `icd`, `margin`, `load`, `slots`, `buses` and `draw`.
 ghost use Rattle.std.specs.Prelude.{◌≡◌, List, true, IfOk};
-ghost use Rattle.a429_cert.specs.PlanText.{plan_text_of};
 ghost use Rattle.a429_console.specs.Readings.{HasRead};
 ghost use Rattle.a429_arguments.specs.Requests.{asked_of};
 ghost use Rattle.a429_documents.specs.Buses.{buses_columns, buses_rows};
 ghost use Rattle.a429_documents.specs.Document.{icd_columns, icd_rows};
+ghost use Rattle.a429_documents.specs.KeptColumns.{kept_sheet, kept_texts};
 ghost use Rattle.a429_documents.specs.Margins.{IsMargin, margin_columns};
 ghost use Rattle.a429_text.specs.Fields.{Field};
 ghost use Rattle.a429_text.specs.Sheets.{sheet_text};
-ghost use Rattle.a429_cli.specs.Plans.{IsNoReplyOnPlan, IsNoPlanReply, IsReplyOnPlan, IsPlanReply, is_on_plan, or_no_memory};
+ghost use Rattle.a429_cli.specs.Plans.{IsNoReplyOnPlan, IsNoReplyToTable, IsNoPlanReply, IsReplyOnPlan, IsReplyToTable, IsPlanReply, is_on_plan, or_no_memory};
+ghost use Rattle.a429_cli.specs.PlanRows.{told_plan};
+ghost use Rattle.a429_cli.specs.Stamping.{IsStamped, stamp_line};
 ghost use Rattle.a429_cli.specs.WholeReplies.{Replies};
 
 use crate::drawings::{Picture, image_of};
 use crate::loads::load_of;
-use crate::proposals::propose_file;
+use crate::plan_rows::plan_sheet;
 use crate::replies::reply::Reply;
 use crate::slots::{SlotsForm, slots_of};
+use crate::stamping::stamped;
 use a429_arguments::forms::Verb;
 use a429_arguments::options::OptionName;
 use a429_arguments::requests::Asked;
 use a429_cert::plan_text;
 use a429_console::files::FileReader;
-use a429_console::planning::with_plan;
+use a429_console::files::reading::read_file;
+use a429_console::planning::{propose, with_plan};
 use a429_console::refusals::{CommandRefusal, Refused};
-use a429_documents::{buses_sheet, icd_sheet, margin_sheet};
+use a429_documents::{SOURCE, TableFile, buses_sheet, icd_sheet, margin_sheet, render_kept};
 use a429_slots::{OUTPUTS, Proposal};
 use a429_text::SheetForm;
 use std::alloc::{AllocError, Global};
@@ -38,26 +42,45 @@ fn or_no_memory(reply: Result<Reply, AllocError>) -> Result<Reply, Refused>
     }
 }
 
-/// The plan itself, with its bounds.
-fn plan_of(alloc: Global, proposal: &Proposal<OUTPUTS>) -> Result<Reply, AllocError>
-    ensures { IfOk result (λ reply.
-        (reply.bytes.items ≡ plan_text_of proposal.now.station proposal.now.plan) × (reply.status ≡ 0)) }
+/// The plan itself, with its bounds: its text, or its sheet with `--csv` or `--json`. Error: an allocation failed.
+fn told_plan(
+    alloc: Global,
+    proposal: &Proposal<OUTPUTS>,
+    form: SheetForm,
+) -> Result<Vec<u8>, AllocError>
+    ensures { IfOk result (λ text. text.items ≡ told_plan form proposal.now.station proposal.now.plan) }
 {
-    Ok(Reply::done(plan_text(alloc, proposal)?))
+    match form {
+        SheetForm::Columns => plan_text(alloc, proposal),
+        SheetForm::Csv | SheetForm::Json => plan_sheet(alloc, proposal).render(alloc, form),
+    }
+}
+
+/// The plan itself, with status 0.
+fn plan_of(
+    alloc: Global,
+    proposal: &Proposal<OUTPUTS>,
+    form: SheetForm,
+) -> Result<Reply, AllocError>
+    ensures { IfOk result (λ reply. (reply.bytes.items ≡ told_plan form proposal.now.station proposal.now.plan)
+        × (reply.status ≡ 0)) }
+{
+    Ok(Reply::done(told_plan(alloc, proposal, form)?))
 }
 
 /// The data of each output for an interface control document, and whether a spreadsheet is to keep the zeros of labels.
 fn icd_of(
     alloc: Global,
+    table: &[u8],
     proposal: &Proposal<OUTPUTS>,
     keeps_zeros: bool,
     form: SheetForm,
 ) -> Result<Reply, AllocError>
-    ensures { IfOk result (λ reply. (reply.bytes.items ≡ sheet_text form icd_columns
+    ensures { IfOk result (λ reply. (reply.bytes.items ≡ kept_sheet form (kept_texts table.now) icd_columns 2
         (icd_rows keeps_zeros proposal.now.station proposal.now.plan)) × (reply.status ≡ 0)) }
 {
-    let text = icd_sheet(alloc, proposal, keeps_zeros).render(alloc, form)?;
-    Ok(Reply::done(text))
+    let sheet = icd_sheet(alloc, proposal, keeps_zeros);
+    Ok(Reply::done(render_kept(alloc, form, table, &sheet, SOURCE)?))
 }
 
 /// What would save a bus in each group.
@@ -90,20 +113,28 @@ fn buses_of(
 fn reply_on_plan(
     alloc: Global,
     asked: &Asked,
+    file: TableFile<'_>,
     proposal: &Proposal<OUTPUTS>,
 ) -> Result<Reply, Refused>
     requires { is_on_plan asked.now.verb ≡ true }
-    ensures { Replies (IsReplyOnPlan asked.now.verb (asked_of asked.now).given proposal.now)
+    ensures { Replies (IsReplyOnPlan asked.now.verb (asked_of asked.now).given file.entry.bytes.now proposal.now)
         (IsNoReplyOnPlan asked.now.verb (asked_of asked.now).given proposal.now) result }
 {
     let form = asked.form();
     match asked.verb {
-        Verb::Plan => or_no_memory(plan_of(alloc, proposal)),
-        Verb::Icd => or_no_memory(icd_of(alloc, proposal, asked.has(OptionName::Text), form)),
+        Verb::Plan => or_no_memory(plan_of(alloc, proposal, form)),
+        Verb::Icd => or_no_memory(icd_of(
+            alloc,
+            file.bytes,
+            proposal,
+            asked.has(OptionName::Text),
+            form,
+        )),
         Verb::Margin => or_no_memory(margin_of(alloc, proposal, form)),
         Verb::Load => or_no_memory(load_of(alloc, proposal, asked.number(OptionName::Limit), form)),
         Verb::Slots => slots_of(
             alloc,
+            file.bytes,
             proposal,
             asked.text(OptionName::Group),
             SlotsForm::of(asked),
@@ -111,12 +142,44 @@ fn reply_on_plan(
         Verb::Buses => or_no_memory(buses_of(alloc, proposal, form)),
         Verb::Draw => image_of(
             alloc,
+            file,
             proposal,
             asked.text(OptionName::Group),
             Picture::of(asked),
         ),
         _ => unreachable!(),
     }
+}
+
+/// What a command writes about the plan of a table, and its status. Errors, in this order: the table has a fault; it has
+/// no plan; no group has the given name; an image is too high. `Memory` if an allocation fails.
+fn reply_to_table(alloc: Global, asked: &Asked, table: &[u8]) -> Result<Reply, Refused>
+    requires { is_on_plan asked.now.verb ≡ true }
+    ensures { Replies (IsReplyToTable asked.now.verb (asked_of asked.now).given table.now)
+        (IsNoReplyToTable asked.now.verb (asked_of asked.now).given table.now) result }
+{
+    let file = TableFile {
+        name: asked.first,
+        bytes: table,
+    };
+    let proposal = propose(alloc, table)?;
+    let reply = reply_on_plan(alloc, asked, file, &proposal);
+    with_plan(reply, proposal)
+}
+
+/// The same, with the line of the table's file above it if stamps are asked for.
+fn stamped_reply(alloc: Global, asked: &Asked, table: &[u8]) -> Result<Reply, Refused>
+    requires { is_on_plan asked.now.verb ≡ true }
+    ensures { Replies (IsStamped (asked_of asked.now).given (stamp_line (asked_of asked.now).first table.now)
+        (IsReplyToTable asked.now.verb (asked_of asked.now).given table.now))
+        (IsNoReplyToTable asked.now.verb (asked_of asked.now).given table.now) result }
+{
+    let reply = reply_to_table(alloc, asked, table)?;
+    let file = TableFile {
+        name: asked.first,
+        bytes: table,
+    };
+    Ok(stamped(alloc, asked, file, reply)?)
 }
 
 /// What a command writes about the plan of the table in a file, and its status. Errors, in this order: the file is
@@ -131,7 +194,6 @@ pub fn plan_reply<F: FileReader>(
     ensures { HasRead F.answers (λ file. Replies (IsPlanReply asked.now.verb file (asked_of asked.now))
         (IsNoPlanReply asked.now.verb file (asked_of asked.now)) result) files.old files.new }
 {
-    let proposal = propose_file(alloc, files, asked.first)?;
-    let reply = reply_on_plan(alloc, asked, &proposal);
-    with_plan(reply, proposal)
+    let table = read_file(alloc, files, asked.first)?;
+    stamped_reply(alloc, asked, &table)
 }

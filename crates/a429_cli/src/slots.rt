@@ -9,7 +9,7 @@ use crate::replies::reply::Reply;
 use a429_arguments::options::OptionName;
 use a429_arguments::requests::Asked;
 use a429_console::refusals::Refused;
-use a429_documents::{slot_board, slot_header, slot_sheet};
+use a429_documents::{SLOT_SOURCE, render_kept, slot_board, slot_header, slot_sheet};
 use a429_slots::{OUTPUTS, Proposal};
 use a429_text::SheetForm;
 use std::alloc::{AllocError, Global};
@@ -48,19 +48,21 @@ impl SlotsForm {
 /// The slot tables of a proposal's plan, of the group of this number or of all. Error: an allocation failed.
 fn slots_text(
     alloc: Global,
+    table: &[u8],
     proposal: &Proposal<OUTPUTS>,
     group: Option<usize>,
     form: SlotsForm,
 ) -> Result<Vec<u8>, AllocError>
     requires { IfSome group (λ group. group < length (groups_of proposal.now.plan)) }
-    ensures { IfOk result (λ text. text.items ≡ slots_text form proposal.now group) }
+    ensures { IfOk result (λ text. text.items ≡ slots_text form table.now proposal.now group) }
 {
     if form.code {
         slot_header(alloc, proposal, group).into_bytes()
     } else if form.board {
         slot_board(alloc, proposal, group).render(alloc, form.rows)
     } else {
-        slot_sheet(alloc, proposal, group, form.all).render(alloc, form.rows)
+        let sheet = slot_sheet(alloc, proposal, group, form.all);
+        render_kept(alloc, form.rows, table, &sheet, SLOT_SOURCE)
     }
 }
 
@@ -68,14 +70,15 @@ fn slots_text(
 /// name. `Memory` if an allocation fails.
 pub fn slots_of(
     alloc: Global,
+    table: &[u8],
     proposal: &Proposal<OUTPUTS>,
     group: Option<&str>,
     form: SlotsForm,
 ) -> Result<Reply, Refused>
-    ensures { GivesSlots form proposal.now (option_copied group.entry) result }
+    ensures { GivesSlots form table.now proposal.now (option_copied group.entry) result }
 {
     let _plan = proposal.plan();
     let number = group_asked(alloc, proposal.equipment().groups(), group)?;
-    let text = slots_text(alloc, proposal, number, form)?;
+    let text = slots_text(alloc, table, proposal, number, form)?;
     Ok(Reply::done(text))
 }

@@ -1,16 +1,19 @@
 //! The command `word`.
-ghost use Rattle.std.specs.Prelude.{OnOk};
+ghost use Rattle.std.specs.Prelude.{◌≡◌, IfOk, OnOk};
 ghost use Rattle.std.specs.List.{flat_map};
 ghost use Rattle.a429_word.specs.Bits.{bcd_of};
 ghost use Rattle.std.specs.Fmt.{decimal};
 ghost use Rattle.std.specs.Io.KnownBytes.{Appends};
 ghost use Rattle.a429_cli.specs.WordLines.{IsNoWord, IsWordOf, bcd_digits, bcd_line, bnr_line, data_text, fields_line, name_text, status_text, word_lines};
+ghost use Rattle.a429_cli.specs.WordRows.{told_word};
 ghost use Rattle.a429_cli.specs.WholeReplies.{Replies};
 
 use crate::replies::reply::Reply;
+use crate::word_rows::word_sheet;
 use a429_console::refusals::{CommandRefusal, Refused};
+use a429_text::SheetForm;
 use a429_word::{Label, Sdi, Ssm, Word, raw_word};
-use std::alloc::Global;
+use std::alloc::{AllocError, Global};
 use std::io;
 use std::io::Write;
 
@@ -93,10 +96,32 @@ fn write_word<W: Write>(out: &mut W, word: Word) -> io::Result<()>
     write_bcd(out, word)
 }
 
-/// What the word of eight hexadecimal digits says, in either case, with status 0. Errors, in this order: the text is not
-/// of this form (`word-text`), or the word has even parity (`parity`). `Memory` if an allocation fails.
-pub fn word_reply(alloc: Global, text: &str) -> Result<Reply, Refused>
-    ensures { Replies (IsWordOf text.now) (IsNoWord text.now) result }
+/// What a word says, in three lines. Error: an allocation failed.
+fn word_text(alloc: Global, word: Word) -> Result<Vec<u8>, AllocError>
+    ensures { IfOk result (λ text. text.items ≡ word_lines word) }
+{
+    let mut lines = Vec::new(alloc);
+    match write_word(&mut lines, word) {
+        Ok(()) => Ok(lines),
+        Err(_) => Err(AllocError),
+    }
+}
+
+/// What a word says: three lines, or a sheet with `--csv` or `--json`. Error: an allocation failed.
+fn told_word(alloc: Global, word: Word, form: SheetForm) -> Result<Vec<u8>, AllocError>
+    ensures { IfOk result (λ text. text.items ≡ told_word form (word_lines word) word) }
+{
+    match form {
+        SheetForm::Columns => word_text(alloc, word),
+        SheetForm::Csv | SheetForm::Json => word_sheet(alloc, word, form),
+    }
+}
+
+/// What the word of eight hexadecimal digits says, in either case, with status 0: three lines, or a sheet with `--csv` or
+/// `--json`. Errors, in this order: the text is not of this form (`word-text`), or the word has even parity (`parity`).
+/// `Memory` if an allocation fails.
+pub fn word_reply(alloc: Global, text: &str, form: SheetForm) -> Result<Reply, Refused>
+    ensures { Replies (IsWordOf text.now form) (IsNoWord text.now) result }
 {
     let Some(raw) = raw_word(text.as_bytes()) else {
         return Err(Refused::plain(CommandRefusal::WordText));
@@ -104,9 +129,5 @@ pub fn word_reply(alloc: Global, text: &str) -> Result<Reply, Refused>
     let Ok(word) = Word::from_raw(raw) else {
         return Err(Refused::plain(CommandRefusal::Parity));
     };
-    let mut lines = Vec::new(alloc);
-    match write_word(&mut lines, word) {
-        Ok(()) => Ok(Reply::done(lines)),
-        Err(_) => Err(Refused::plain(CommandRefusal::Memory)),
-    }
+    Ok(Reply::done(told_word(alloc, word, form)?))
 }

@@ -27,3 +27,5 @@ pub mod RoomsOfPlans
 pub mod SharesOfPlans
 pub mod BoardWords
 pub mod NamesApart
+mod KeptLines
+mod KeptSheets

@@ -13,3 +13,5 @@ pub mod Buses
 pub mod SlotBoard
 pub mod SlotNames
 pub mod SlotColumns
+pub mod KeptColumns
+pub mod Stamps

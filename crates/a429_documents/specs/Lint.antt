@@ -2,7 +2,7 @@
 use Rattle.std.specs.Prelude.{ℕ, ◌+◌, ◌-◌, ◌*◌, ◌/◌, ◌^◌, ◌≡◌, ◌==◌, ◌&&◌, Bool, true, false, List, [], ◌∷◌, Option, None, Some, codes, if◌then◌else◌, is_some, nat_le, nat_lt, length, slice_get, slice_index_or}
 use Rattle.std.specs.Int.{div_ceil}
 use Rattle.std.specs.List.{AllZip, flat_map, list_all, list_any, range_with_len}
-use Rattle.std.specs.Option.{option_map_or}
+use Rattle.std.specs.Option.{option_map, option_map_or}
 use Rattle.a429_text.specs.Fields.{Field, Text, Number, Tenths, Absent}
 use Rattle.a429_text.specs.Sheets.{field_of}
 use Rattle.a429_text.specs.declared.cells.Cell.{Cell}
@@ -178,6 +178,12 @@ has_quarter demands = list_any (λ d. nat_le (exponent_of d) 2) demands
 -- ARINC 429 Part 1 have intervals of ten milliseconds and more.
 abbrev pub may_be_millis : List OutputRow → List Demand → Bool
 may_be_millis rows demands = (are_fit demands && nat_le 4 (length rows)) && (are_brief rows && has_quarter demands)
+
+-- the group of this number has such intervals, or not, by the demands of its outputs
+abbrev pub IsMillisGroup : TableRecord → ℕ → Bool → Type 0
+IsMillisGroup e group found =
+    (rate : ℕ) × (demands : List Demand) × AllZip (IsAsked rate e.sources) (outputs_in e group) demands × (found ≡ may_be_millis (outputs_in e group) demands)
+    × (option_map (λ g. g.rate) (slice_get e.groups group) ≡ Some rate)
 
 abbrev pub millis_rows : List ℕ → List OutputRow → List Demand → List (List Field)
 millis_rows group rows demands = if may_be_millis rows demands then group_row (codes "milliseconds") group Absent Absent Absent ∷ [] else []

@@ -33,6 +33,9 @@ const COLUMNS: &[&str] = &[
     "latency_us",
 ];
 
+/// The place of the column `source`.
+pub const SOURCE: usize = 2;
+
 /// The cell of a number.
 pub fn number(value: u32) -> Cell<'static>
     ensures { field_of result ≡ Number value }

@@ -16,6 +16,7 @@ use crate::drawing::groups::put_groups;
 pub use crate::drawing::marks::Mark;
 use crate::drawing::marks::marks_of;
 use crate::drawing::places::{height_of, width_of};
+use crate::kept::{KeptText, kept_texts};
 use a429_slots::{OUTPUTS, Plan, Proposal};
 use a429_text::Text;
 use std::alloc::{AllocError, Global};
@@ -116,8 +117,8 @@ fn put_sheet(text: &mut Text, width: u64, height: u64) {
     );
 }
 
-/// Writes an image.
-pub(crate) fn put_image(text: &mut Text, drawing: &Drawing<'_>) {
+/// Writes an image of a table whose comments say this.
+pub(crate) fn put_image(text: &mut Text, drawing: &Drawing<'_>, texts: &[KeptText<'_>]) {
     let plan = drawing.proposal.plan();
     let (first, count) = group_range(plan, drawing.group);
     let height = height_of(plan, drawing.form, first, count);
@@ -125,6 +126,7 @@ pub(crate) fn put_image(text: &mut Text, drawing: &Drawing<'_>) {
     put_groups(
         text,
         drawing.proposal,
+        texts,
         drawing.form,
         first,
         count,
@@ -134,10 +136,15 @@ pub(crate) fn put_image(text: &mut Text, drawing: &Drawing<'_>) {
 }
 
 /// An image (SVG; profile: drawing). It has a row for each bus with its load in per cent, and a column for each slot. Each
-/// mark has the shape of its output, and a legend is in the order of labels. Times are in milliseconds. Error: an
-/// allocation failed.
-pub fn draw_text(alloc: Global, drawing: &Drawing<'_>) -> Result<Vec<u8>, AllocError> {
+/// mark has the shape of its output, and a legend is in the order of labels. Times are in milliseconds. What comments of
+/// the table say of a source is shown under the pointer. Error: an allocation failed.
+pub fn draw_text(
+    alloc: Global,
+    drawing: &Drawing<'_>,
+    table: &[u8],
+) -> Result<Vec<u8>, AllocError> {
+    let texts = kept_texts(alloc, table)?;
     let mut text = Text::new(alloc);
-    put_image(&mut text, drawing);
+    put_image(&mut text, drawing, &texts);
     text.into_bytes()
 }

@@ -11,6 +11,7 @@ mod sources;
 
 use crate::lint::demands::demands_of_groups;
 use crate::lint::groups::add_groups;
+pub use crate::lint::millis::is_millis_group;
 use crate::lint::receivers::add_receivers;
 use crate::lint::sources::add_sources;
 use a429_equipment::Equipment;

@@ -30,6 +30,9 @@ const COLUMNS: &[&str] = &[
     "period_slots",
 ];
 
+/// The place of the column `source`.
+pub const SLOT_SOURCE: usize = 6;
+
 /// When a slot of a group begins, from the start of the frame: in microseconds, rounded up.
 pub(crate) fn start_cell(group: &GroupRow, slot: u32) -> Cell<'static>
     requires { 1 ≤ group.now.rate }

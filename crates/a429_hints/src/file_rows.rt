@@ -1,8 +1,10 @@
 //! Rows of comma-separated values, as a person sees them.
 
+use crate::column_forms::{form_in, form_of_interval, thing_in, usual_rate, whole_label};
 use crate::hint::HintText;
 use a429_import::{
-    CsvLine, Heading, ImportColumn, RowNumbers, made_name, may_be_thousands, millis_in, row_numbers,
+    CsvLine, Heading, ImportColumn, IntervalForm, IntervalUnit, RowNumbers, made_name,
+    may_be_thousands, millis_in, row_numbers,
 };
 use a429_word::{Label, Sdi};
 
@@ -51,25 +53,36 @@ impl<'a> FileRows<'a> {
         }
     }
 
-    /// Whether a column is in milliseconds.
-    pub fn is_in_millis(self, column: ImportColumn) -> bool {
+    /// How the column of an interval states it. `None` for another column.
+    fn interval_form(self, column: ImportColumn) -> Option<IntervalForm> {
         match column {
-            ImportColumn::MinUs => self.heading.is_min_in_millis,
-            ImportColumn::MaxUs => self.heading.is_max_in_millis,
-            _ => false,
+            ImportColumn::MinUs => Some(self.heading.min_form),
+            ImportColumn::MaxUs => Some(self.heading.max_form),
+            _ => None,
+        }
+    }
+
+    /// Whether a column is of an interval, and has more than a number of microseconds.
+    fn is_of_other_form(self, column: ImportColumn) -> bool {
+        match self.interval_form(column) {
+            Some(form) => form.unit != IntervalUnit::Micros || form.has_both,
+            None => false,
+        }
+    }
+
+    /// Whether a column has rates in Hz.
+    fn is_in_hertz(self, column: ImportColumn) -> bool {
+        match self.interval_form(column) {
+            Some(form) => form.unit == IntervalUnit::Hertz,
+            None => false,
         }
     }
 
     /// What must be in a column.
     pub fn form_of(self, column: ImportColumn) -> &'static str {
-        match column {
-            ImportColumn::MinUs if self.is_in_millis(column) => {
-                "milliseconds from 0.001 to the maximum, with at most three decimals"
-            }
-            ImportColumn::MaxUs if self.is_in_millis(column) => {
-                "milliseconds from the minimum to 30000, with at most three decimals"
-            }
-            _ => form_in(column),
+        match self.interval_form(column) {
+            Some(form) => form_of_interval(column, form),
+            None => form_in(column),
         }
     }
 
@@ -92,20 +105,6 @@ impl<'a> FileRows<'a> {
     /// The field as a text; the empty text if it is not UTF-8.
     pub fn text(self, row: &'a CsvLine, column: ImportColumn) -> &'a str {
         str::from_utf8(self.field(row, column)).unwrap_or("")
-    }
-
-    /// The row on a line. `None` if there is none, or more than one.
-    pub fn row_on(self, line: u64) -> Option<&'a CsvLine> {
-        let mut found = None;
-        for row in self.rows {
-            if row.number == line {
-                if found.is_some() {
-                    return None;
-                }
-                found = Some(row);
-            }
-        }
-        found
     }
 
     /// Whether two rows have one source, receiver or group. If names are made, a source has a receiver, a label and an SDI
@@ -168,33 +167,6 @@ impl<'a> FileRows<'a> {
     }
 }
 
-/// What a column has, in two words.
-fn thing_in(column: ImportColumn) -> &'static str {
-    match column {
-        ImportColumn::Rate => "a bit rate",
-        ImportColumn::Label => "a label",
-        ImportColumn::Sdi => "an SDI",
-        ImportColumn::MinUs | ImportColumn::MaxUs => "a time",
-        ImportColumn::Hold => "a hold",
-        ImportColumn::Filters => "a filter",
-        _ => "a name",
-    }
-}
-
-/// What must be in a column.
-pub fn form_in(column: ImportColumn) -> &'static str {
-    match column {
-        ImportColumn::Rate => "HS (100000), LS (12500), or 12000 to 14500 bit/s",
-        ImportColumn::Label => "three octal digits, 000 to 377",
-        ImportColumn::Sdi => "0 to 3, or `any`",
-        ImportColumn::MinUs => "a whole number of microseconds, from 1 to the maximum",
-        ImportColumn::MaxUs => "a whole number of microseconds, from the minimum to 30000000",
-        ImportColumn::Hold => "a whole number from 1 to 1000000, or nothing for no limit",
-        ImportColumn::Filters => "LLL/MMM, label and mask, each three octal digits from 000 to 377",
-        _ => "1 to 16 characters of `a` to `z`, `0` to `9`, `-` and `_`",
-    }
-}
-
 /// Whether a column is about an output, and not about its source. Such a column has a whole number.
 pub fn is_of_output(column: ImportColumn) -> bool {
     matches!(
@@ -209,15 +181,6 @@ fn is_of_names(column: ImportColumn) -> bool {
         column,
         ImportColumn::Group | ImportColumn::Source | ImportColumn::Receiver
     )
-}
-
-/// The bit rate in bit/s, if a text is one of the two usual bit rates in kbit/s.
-fn kilobits(text: &str) -> Option<&'static str> {
-    match text {
-        "12.5" => Some("12500"),
-        "100" | "100.0" => Some("100000"),
-        _ => None,
-    }
 }
 
 /// What a row has in a column.
@@ -259,7 +222,7 @@ pub fn tell_field(field: FileField, text: &str, hint: &HintText) {
         return tell_empty(file, column, hint);
     }
     hint.say_one("{?}", text);
-    if !file.is_in_millis(column) {
+    if !file.is_of_other_form(column) {
         tell_text(field, text, hint);
     } else if may_be_thousands(row.separator, text.as_bytes()) {
         hint.end(
@@ -270,28 +233,35 @@ pub fn tell_field(field: FileField, text: &str, hint: &HintText) {
     }
 }
 
-/// Says what is wrong with the text of a column that is not in milliseconds.
+/// Says what is wrong with the text of a column that is no interval, or has a number of microseconds.
 fn tell_text(field: FileField, text: &str, hint: &HintText) {
     let column = field.column;
     if is_of_output(column) && text.len() > 1 && text.starts_with('0') {
         return hint.end_one(" begins with a zero; it must be {}", form_in(column));
     }
-    match kilobits(text) {
+    let proposed = match column {
+        ImportColumn::Rate => usual_rate(text),
+        ImportColumn::Label => whole_label(text),
+        _ => None,
+    };
+    match proposed {
         Some(rate) if column == ImportColumn::Rate => {
             hint.end_one("; the unit is bit/s: write {}", rate);
         }
-        _ => tell_other_form(field, text, hint),
+        Some(label) => hint.end_one("; write {}", label),
+        None => tell_other_form(field, text, hint),
     }
 }
 
 /// Says that a text does not have the form of its column.
 fn tell_other_form(field: FileField, text: &str, hint: &HintText) {
     let FileField { file, column, .. } = field;
-    hint.say_two(
-        " is not {}; it must be {}",
-        thing_in(column),
-        file.form_of(column),
-    );
+    let thing = if file.is_in_hertz(column) {
+        "a rate"
+    } else {
+        thing_in(column)
+    };
+    hint.say_two(" is not {}; it must be {}", thing, file.form_of(column));
     say_remedy(field, text, hint);
     hint.end("");
 }
@@ -305,7 +275,7 @@ fn say_remedy(field: FileField, text: &str, hint: &HintText) {
         };
     }
     let other = match field.column {
-        _ if field.file.is_in_millis(field.column) => return,
+        _ if field.file.is_of_other_form(field.column) => return,
         ImportColumn::MinUs => "min_ms",
         ImportColumn::MaxUs => "max_ms",
         _ => return,

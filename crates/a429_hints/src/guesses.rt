@@ -57,11 +57,48 @@ fn is_in_millis(title: &[u8]) -> bool {
     first_word(title, "ms msec millisecond milliseconds").is_some()
 }
 
-/// How likely a heading is meant by a column: 0 is the likeliest. `None` if it is not. No column has rates in Hz.
+/// Whether a heading is about rates in Hz.
+fn is_in_hertz(title: &[u8]) -> bool {
+    first_word(title, "hz hertz").is_some()
+}
+
+/// Whether a field has two numbers: `50/100`, `50-100`, or with an en dash.
+fn has_two_numbers(field: &[u8]) -> bool {
+    field
+        .iter()
+        .any(|byte| *byte == b'/' || *byte == b'-' || *byte == 0xE2)
+}
+
+/// Whether a heading may be meant by a column with both limits of an interval: the first field below it has two numbers.
+fn has_both(file: FileRows, place: usize) -> bool {
+    let title = file.titles.field(place);
+    let words = "hz hertz ms msec us usec interval intervals period time update";
+    match file.rows.first() {
+        Some(row) => has_two_numbers(row.field(place)) && first_word(title, words).is_some(),
+        None => false,
+    }
+}
+
+/// How likely a field of a heading is meant by a column: 0 is the likeliest. `None` if it is not. A field with both limits
+/// counts for the minimum. A rate is the least one, which gives the maximum, unless it says that it is the greatest.
+fn rank_at(file: FileRows, column: ImportColumn, place: usize) -> Option<usize> {
+    let title = file.titles.field(place);
+    let is_meant = if has_both(file, place) {
+        column == ImportColumn::MinUs
+    } else if !is_in_hertz(title) {
+        return rank_of(column, title);
+    } else if first_word(title, words_of(ImportColumn::MaxUs)).is_some() {
+        column == ImportColumn::MinUs
+    } else {
+        column == ImportColumn::MaxUs
+    };
+    if is_meant { Some(0) } else { None }
+}
+
+/// How likely a heading is meant by a column, without rates and without columns with both limits.
 fn rank_of(column: ImportColumn, title: &[u8]) -> Option<usize> {
     let is_limit = first_word(title, "min minimum shortest max maximum longest").is_some();
     match column {
-        _ if has_word(title, "hz") => None,
         ImportColumn::MinUs | ImportColumn::MaxUs => first_word(title, words_of(column)),
         ImportColumn::Rate if is_in_millis(title) => None,
         _ if is_limit => None,
@@ -70,7 +107,7 @@ fn rank_of(column: ImportColumn, title: &[u8]) -> Option<usize> {
 }
 
 /// Whether a field has octal digits: at most three, perhaps as `="203"`.
-fn is_octal(field: &[u8]) -> bool {
+pub fn is_octal(field: &[u8]) -> bool {
     field.starts_with(b"=")
         || field.len() <= 3 && field.iter().all(|byte| b'0' <= *byte && *byte <= b'7')
 }
@@ -99,17 +136,13 @@ fn may_all_be(file: FileRows, column: ImportColumn, place: usize) -> bool {
     true
 }
 
-/// Whether the first field below a heading has fewer than four digits before its point: such an interval in microseconds is
+/// Whether the first field below a heading has fewer than four digits at its beginning: such an interval in microseconds is
 /// rare.
 fn is_short(file: FileRows, place: usize) -> bool {
     let Some(row) = file.rows.first() else {
         return false;
     };
-    match row
-        .field(place)
-        .split(|byte| *byte == b'.' || *byte == b',')
-        .next()
-    {
+    match row.field(place).split(|byte| !byte.is_ascii_digit()).next() {
         Some(whole) => whole.len() < 4,
         None => false,
     }
@@ -120,10 +153,17 @@ fn name_of_limit(file: FileRows, column: ImportColumn, place: usize) -> &'static
     let title = file.titles.field(place);
     let is_min = column == ImportColumn::MinUs;
     let is_micros = first_word(title, "us usec microsecond microseconds").is_some();
-    if is_in_millis(title) || !is_micros && is_short(file, place) {
-        return if is_min { "min_ms" } else { "max_ms" };
+    let is_millis = is_in_millis(title) || !is_micros && is_short(file, place);
+    match (is_in_hertz(title), has_both(file, place)) {
+        (true, true) => "rate_hz",
+        (true, false) if is_min => "max_hz",
+        (true, false) => "min_hz",
+        (false, true) if is_millis => "interval_ms",
+        (false, true) => "interval_us",
+        (false, false) if is_millis && is_min => "min_ms",
+        (false, false) if is_millis => "max_ms",
+        (false, false) => column.name(),
     }
-    column.name()
 }
 
 /// The name that a field should have to be read as a column.
@@ -159,11 +199,10 @@ pub fn is_missing(file: FileRows, column: ImportColumn) -> bool {
 fn likeliest(file: FileRows, column: ImportColumn, guesses: &[Guess]) -> Option<usize> {
     let mut best: Option<(usize, usize)> = None;
     for place in 0..file.titles.len() {
-        let title = file.titles.field(place);
         if is_column(file.heading.line.field(place)) || is_taken(guesses, place) {
             continue;
         }
-        let Some(rank) = rank_of(column, title) else {
+        let Some(rank) = rank_at(file, column, place) else {
             continue;
         };
         let is_better = match best {
@@ -250,7 +289,7 @@ const ORDER: [ImportColumn; 8] = [
 /// Adds a guess for each missing column that has a likely field.
 fn add_likely(guesses: &mut Vec<Guess>, file: FileRows) -> Result<(), AllocError> {
     for column in ORDER.as_slice() {
-        if is_missing(file, *column) {
+        if is_missing(file, *column) && !is_in_other_guess(guesses, *column) {
             if let Some(place) = likeliest(file, *column, guesses) {
                 guesses.push(guess_of(file, *column, place))?;
             }
@@ -262,7 +301,10 @@ fn add_likely(guesses: &mut Vec<Guess>, file: FileRows) -> Result<(), AllocError
 /// Adds a guess for each missing column that has none and whose name is like a field.
 fn add_nearest(alloc: Global, guesses: &mut Vec<Guess>, file: FileRows) -> Result<(), AllocError> {
     for column in ORDER.as_slice() {
-        if is_missing(file, *column) && guess_for(guesses, *column).is_none() {
+        if is_missing(file, *column)
+            && guess_for(guesses, *column).is_none()
+            && !is_in_other_guess(guesses, *column)
+        {
             if let Some(place) = nearest(alloc, file, *column, guesses) {
                 guesses.push(guess_of(file, *column, place))?;
             }
@@ -309,6 +351,15 @@ fn guess_of(file: FileRows, column: ImportColumn, place: usize) -> Guess {
 /// The guess for a column. `None` if there is none.
 pub fn guess_for(guesses: &[Guess], column: ImportColumn) -> Option<Guess> {
     guesses.iter().copied().find(|guess| guess.column == column)
+}
+
+/// Whether a guess for the minimum has the maximum too: its column has both limits.
+pub fn is_in_other_guess(guesses: &[Guess], column: ImportColumn) -> bool {
+    column == ImportColumn::MaxUs
+        && guesses.iter().any(|guess| matches!(
+            guess.name,
+            "interval_us" | "interval_ms" | "rate_hz"
+        ))
 }
 
 /// The fields of a heading that are likely meant by the columns that it lacks. Error: an allocation failed.

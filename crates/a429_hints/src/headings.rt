@@ -1,11 +1,15 @@
 //! Hints about the heading of rows of comma-separated values that `import` refuses.
 
 use crate::file_rows::FileRows;
-use crate::guesses::{Guess, are_alike, guess_for, guesses_of, is_missing, text_of, times_in};
+use crate::guesses::{
+    Guess, are_alike, guess_for, guesses_of, is_in_other_guess, is_missing, text_of, times_in,
+};
 use crate::hint::HintText;
 use crate::lists::{LISTED, say_more};
 use crate::nearest::Nearest;
-use a429_import::{CsvLine, IMPORT_COLUMNS, ImportColumn, column_in, is_column, is_met};
+use a429_import::{
+    CsvLine, IMPORT_COLUMNS, ImportColumn, column_in, is_column, is_column_named, is_met,
+};
 use a429_text::renames::halves;
 use std::alloc::Global;
 use std::cmp::min;
@@ -32,7 +36,7 @@ fn tell_map(titles: &CsvLine, text: &str, hint: &HintText) {
     let column = column_in(text);
     if !is_column(column) {
         return hint.end_one(
-            ": there is no column {?}; the columns are group, rate, source, receiver, label, sdi, min_us or min_ms, max_us or max_ms, hold and filters",
+            ": there is no column {?}; the columns are group, rate, source, receiver, label, sdi, min_us, min_ms or max_hz, max_us, max_ms or min_hz, interval_us, interval_ms or rate_hz for both, hold and filters",
             text_of(column),
         );
     }
@@ -53,11 +57,7 @@ fn tell_columns(file: FileRows, maps: &[&str], hint: &HintText) {
     for column in IMPORT_COLUMNS.as_slice() {
         let times = times_in(&file.heading.line, *column);
         if times > 1 {
-            hint.line_two(
-                "the column {} is in the heading {} times; name it once",
-                column.name(),
-                times,
-            );
+            tell_twice(file, *column, times, hint);
         }
     }
     let Ok(guesses) = guesses_of(hint.alloc, file) else {
@@ -74,6 +74,25 @@ fn tell_columns(file: FileRows, maps: &[&str], hint: &HintText) {
     }
 }
 
+/// Says that several fields of the heading name a column. Limits of intervals have several names, so these are shown.
+fn tell_twice(file: FileRows, column: ImportColumn, times: usize, hint: &HintText) {
+    hint.begin(": ");
+    hint.say_two(
+        "the column {} is in the heading {} times",
+        column.name(),
+        times,
+    );
+    if matches!(column, ImportColumn::MinUs | ImportColumn::MaxUs) {
+        hint.say(", as");
+        for place in 0..file.titles.len() {
+            if is_column_named(column, file.heading.line.field(place)) {
+                hint.say_one(" {?}", text_of(file.titles.field(place)));
+            }
+        }
+    }
+    hint.end("; name it once");
+}
+
 /// How many columns the heading lacks that no field is like.
 fn unlike_columns(file: FileRows, guesses: &[Guess]) -> usize {
     let mut unlike: usize = 0;
@@ -87,7 +106,9 @@ fn unlike_columns(file: FileRows, guesses: &[Guess]) -> usize {
 
 /// Whether the heading lacks a column, and no field is like it.
 fn is_unlike(file: FileRows, guesses: &[Guess], column: ImportColumn) -> bool {
-    is_missing(file, column) && guess_for(guesses, column).is_none()
+    is_missing(file, column)
+        && guess_for(guesses, column).is_none()
+        && !is_in_other_guess(guesses, column)
 }
 
 /// Names the columns that the heading lacks and that no field is like, and the fields of the heading.

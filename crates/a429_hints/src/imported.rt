@@ -1,7 +1,8 @@
 //! Hints about the table that rows of comma-separated values describe.
 
+use crate::column_forms::form_in;
 use crate::faults::SAME_SOURCE;
-use crate::file_rows::{FileField, FileRows, form_in, tell_field};
+use crate::file_rows::{FileField, FileRows, tell_field};
 use crate::hint::HintText;
 use a429_equipment::{GROUPS, OUTPUTS, RECEIVERS, SOURCES};
 use a429_filter::FILTERS;

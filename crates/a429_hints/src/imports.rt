@@ -5,37 +5,23 @@ use crate::files::{REFUSED_OUTPUT, other_file};
 use crate::headings::tell_heading;
 use crate::hint::HintText;
 use crate::imported::tell_imported;
-use a429_arguments::options::OptionName;
-use a429_arguments::requests::Asked;
-use a429_console::refusals::evidence::RowsEvidence;
+use a429_console::refusals::rows::{RowEvidence, RowsEvidence};
 use a429_console::refusals::{CommandRefusal, CsvKind};
 use a429_filter::Filter;
 use a429_import::{
-    CsvLine, Heading, IMPORT_COLUMNS, ImportColumn, ImportOptions, column_in, csv_lines,
-    filled_line, form_fault, is_column_named, misquoted_line, named_by,
+    CsvLine, Heading, IMPORT_COLUMNS, ImportColumn, column_in, form_fault, is_column_named,
 };
 use std::alloc::{AllocError, Global};
-
-/// How many bytes of a file are read for a hint.
-const LARGEST_READ: usize = 1_048_576;
 
 /// How many faulty rows are shown.
 const FAULTY_ROWS: usize = 3;
 
-/// How the rows of `import` are read, by the options that are given.
-pub fn import_options(asked: &Asked) -> ImportOptions {
-    ImportOptions {
-        fills: asked.has(OptionName::Fill),
-        makes_names: asked.has(OptionName::Names),
-    }
-}
-
-/// Says what is wrong with the rows of a file. Their heading is read by these texts HEADING=COLUMN, and the options say how
-/// rows are read.
+/// Says what is wrong with the rows of a file. Their heading was read by these texts HEADING=COLUMN, and names were made if
+/// `makes_names` is set.
 pub fn tell_rows(
     refusal: &CommandRefusal,
     maps: &[&str],
-    options: ImportOptions,
+    makes_names: bool,
     evidence: &RowsEvidence,
     hint: &HintText,
 ) {
@@ -43,47 +29,69 @@ pub fn tell_rows(
         return hint.say_line(kind);
     }
     if let CommandRefusal::Csv { line, kind } = refusal {
-        if tell_text(*line, *kind, maps, evidence, hint) {
+        if tell_text(*line, *kind, evidence, hint) {
             return;
         }
     }
-    let Ok(lines) = csv_lines(hint.alloc, maps, first_lines(&evidence.bytes)) else {
-        return hint.give_up();
-    };
     hint.turn_to_line(1);
-    match lines.as_slice() {
-        [] => hint.say_line(
+    match &evidence.titles {
+        Some(titles) => tell_sheet(titles, refusal, maps, makes_names, evidence, hint),
+        None => hint.say_line(
             "the heading is missing; it must name the columns group, rate, source, receiver, label, sdi, min_us and max_us",
         ),
-        [titles, rows @ ..] => {
-            tell_lines(titles, rows, refusal, maps, options, evidence, hint);
+    }
+}
+
+/// Says what is wrong with a sheet that has a heading.
+fn tell_sheet(
+    titles: &RowEvidence,
+    refusal: &CommandRefusal,
+    maps: &[&str],
+    makes_names: bool,
+    evidence: &RowsEvidence,
+    hint: &HintText,
+) {
+    match &evidence.heading {
+        Some(heading) => {
+            let (Ok(titles), Ok(named)) = (line_of(titles), line_of(heading)) else {
+                return hint.give_up();
+            };
+            let heading = Heading::of(named);
+            tell_lines(
+                &titles,
+                &heading,
+                refusal,
+                maps,
+                makes_names,
+                evidence,
+                hint,
+            );
         }
+        None => tell_above(refusal, titles.number, hint),
     }
 }
 
 /// Says what is wrong with a heading or with the rows below it.
 fn tell_lines(
     titles: &CsvLine,
-    rows: &[CsvLine],
+    heading: &Heading,
     refusal: &CommandRefusal,
     maps: &[&str],
-    options: ImportOptions,
+    makes_names: bool,
     evidence: &RowsEvidence,
     hint: &HintText,
 ) {
-    let Ok(named) = named_by(hint.alloc, maps, titles) else {
-        return hint.give_up();
-    };
-    let heading = Heading::of(named);
-    let stated = without_notes(&heading, rows);
-    let Ok(filled) = filled_rows(hint.alloc, options.fills, &heading, stated) else {
+    let (Ok(rows), Ok(faulty)) = (
+        lines_of(hint.alloc, &evidence.rows),
+        lines_of(hint.alloc, &evidence.faulty),
+    ) else {
         return hint.give_up();
     };
     let file = FileRows {
-        heading: &heading,
+        heading,
         titles,
-        rows: if options.fills { &filled } else { stated },
-        makes_names: options.makes_names,
+        rows: &rows,
+        makes_names,
     };
     match refusal {
         CommandRefusal::Table(kind, place) => tell_imported(file, *kind, *place, hint),
@@ -91,72 +99,47 @@ fn tell_lines(
             kind: CsvKind::Column,
             ..
         } => tell_heading(file, maps, hint),
-        CommandRefusal::Csv { line, .. } if *line < titles.number => {
-            tell_above(*line, titles, hint);
-        }
-        CommandRefusal::Csv { line, kind } => tell_faulty_rows(file, *line, *kind, evidence, hint),
+        CommandRefusal::Csv { kind, .. } => tell_faulty_rows(file, &faulty, *kind, evidence, hint),
         _ => {}
     }
 }
 
-/// The rows above the notes: those up to the last one that has a label; all if none has.
-fn without_notes<'a>(heading: &Heading, rows: &'a [CsvLine]) -> &'a [CsvLine] {
-    for place in (0..rows.len()).rev() {
-        if !heading
-            .field_of(&rows[place], ImportColumn::Label)
-            .is_empty()
-        {
-            return &rows[..place + 1];
-        }
-    }
-    rows
+/// A row as a line. Error: an allocation failed.
+fn line_of(row: &RowEvidence) -> Result<CsvLine, AllocError> {
+    Ok(CsvLine {
+        number: row.number,
+        separator: row.separator,
+        fields: row.fields.clone()?,
+    })
 }
 
-/// Rows, each filled from the one above it; none if they are not filled. Error: an allocation failed.
-fn filled_rows(
-    alloc: Global,
-    fills: bool,
-    heading: &Heading,
-    rows: &[CsvLine],
-) -> Result<Vec<CsvLine>, AllocError> {
-    let mut filled: Vec<CsvLine> = Vec::new(alloc);
-    if !fills {
-        return Ok(filled);
-    }
+/// Rows as lines. Error: an allocation failed.
+fn lines_of(alloc: Global, rows: &[RowEvidence]) -> Result<Vec<CsvLine>, AllocError> {
+    let mut lines = Vec::new(alloc);
     for row in rows {
-        // nothing is above the first row: its empty fields are filled from itself
-        let line = match filled.last() {
-            Some(above) => filled_line(alloc, &heading.line.fields, &above.fields, row)?,
-            None => filled_line(alloc, &heading.line.fields, &row.fields, row)?,
-        };
-        filled.push(line)?;
+        lines.push(line_of(row)?)?;
     }
-    Ok(filled)
+    Ok(lines)
 }
 
 /// Says that a line above the heading is a row of data.
-fn tell_above(line: u64, titles: &CsvLine, hint: &HintText) {
-    hint.turn_to_line(line as usize);
-    hint.line_one(
-        "this is a row: it has a label, and as many fields as the heading, but that is below it, on line {}; move the heading above all rows, or delete this line",
-        titles.number,
-    );
+fn tell_above(refusal: &CommandRefusal, heading: u64, hint: &HintText) {
+    if let CommandRefusal::Csv { line, .. } = refusal {
+        hint.turn_to_line(*line as usize);
+        hint.line_one(
+            "this is a row: it has a label, and as many fields as the heading, but that is below it, on line {}; move the heading above all rows, or delete this line",
+            heading,
+        );
+    }
 }
 
-/// Says that a row has too many fields, or that the quotes of a field are wrong. No row is read for it. The answer is whether
-/// this is so.
-fn tell_text(
-    line: u64,
-    kind: CsvKind,
-    maps: &[&str],
-    evidence: &RowsEvidence,
-    hint: &HintText,
-) -> bool {
+/// Says that a row has too many fields, or that the quotes of a field are wrong. The answer is whether this is so.
+fn tell_text(line: u64, kind: CsvKind, evidence: &RowsEvidence, hint: &HintText) -> bool {
     let text = match kind {
         CsvKind::Wide => {
             "the row has more than 100000 fields; spreadsheet programs have at most 16384 columns"
         }
-        CsvKind::Form if misquoted_line(maps, &evidence.bytes).is_some() => {
+        CsvKind::Form if evidence.is_misquoted => {
             "a field begins with a quote; the quote that closes it is missing, or text follows it; write quotes inside it twice"
         }
         _ => return false,
@@ -164,20 +147,6 @@ fn tell_text(
     hint.turn_to_line(line as usize);
     hint.say_line(text);
     true
-}
-
-/// The lines of a file that are read for a hint: as many as 1 MiB has. Rows of a person have fewer bytes, and a hint needs
-/// more memory for a row than the command does.
-fn first_lines(bytes: &[u8]) -> &[u8] {
-    let Some(first) = bytes.get(..LARGEST_READ) else {
-        return bytes;
-    };
-    for end in (0..first.len()).rev() {
-        if first[end] == b'\n' {
-            return &first[..end];
-        }
-    }
-    first
 }
 
 /// What kind of file begins with these bytes, if it is none with rows.
@@ -205,12 +174,12 @@ fn column_of(evidence: &RowsEvidence) -> Option<ImportColumn> {
 /// Says what is wrong with the first faulty row, and with the next ones that are faulty by themselves.
 fn tell_faulty_rows(
     file: FileRows,
-    line: u64,
+    faulty: &[CsvLine],
     kind: CsvKind,
     evidence: &RowsEvidence,
     hint: &HintText,
 ) {
-    let Some(row) = file.row_on(line) else {
+    let [row, later @ ..] = faulty else {
         return;
     };
     match (column_of(evidence), kind) {
@@ -218,25 +187,13 @@ fn tell_faulty_rows(
         (Some(column), CsvKind::Differs) => tell_difference(FileField { file, row, column }, hint),
         (Some(column), _) => tell_form(FileField { file, row, column }, hint),
     }
-    tell_later_rows(file, line, hint);
-}
-
-/// Says what is wrong with rows after a line that are faulty by themselves.
-fn tell_later_rows(file: FileRows, line: u64, hint: &HintText) {
-    let mut faulty: usize = 1;
-    for row in file.rows {
-        if row.number <= line {
-            continue;
-        }
+    for row in later {
         if let Some(fault) = form_fault(file.heading, row) {
-            faulty = faulty.saturating_add(1);
-            if faulty <= FAULTY_ROWS {
-                tell_fault(file, row, fault, hint);
-            }
+            tell_fault(file, row, fault, hint);
         }
     }
-    if faulty > FAULTY_ROWS {
-        hint.end_one("a429: rows with such a fault: {}", faulty);
+    if evidence.count > FAULTY_ROWS {
+        hint.end_one("a429: rows with such a fault: {}", evidence.count);
     }
 }
 
@@ -332,6 +289,21 @@ pub fn tell_short_intervals(group: &str, maps: &[&str], hint: &HintText) {
         "the intervals of group {} are all below 1000 us, and none allows a period; if they are in ms, name the columns min_ms and max_ms, or give",
         group,
     );
+    say_maps_to_millis(maps, hint);
+}
+
+/// Says that the intervals of a group may be milliseconds, since an output takes a quarter of a bus.
+pub fn tell_millis_group(group: &str, maps: &[&str], hint: &HintText) {
+    hint.begin(": ");
+    hint.say_one(
+        "the intervals of group {} are all below 5000 us, and one label takes a quarter of a bus or more; if they are in ms, name the columns min_ms and max_ms, or give",
+        group,
+    );
+    say_maps_to_millis(maps, hint);
+}
+
+/// Says the options that read the columns of intervals as milliseconds.
+fn say_maps_to_millis(maps: &[&str], hint: &HintText) {
     hint.end_two(
         " --map \"{..}=min_ms\" --map \"{..}=max_ms\"",
         heading_for(maps, ImportColumn::MinUs),

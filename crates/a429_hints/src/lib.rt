@@ -11,6 +11,7 @@
 
 mod checks;
 mod clocks;
+mod column_forms;
 mod differences;
 mod faults;
 mod file_rows;

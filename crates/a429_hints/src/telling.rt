@@ -7,7 +7,7 @@ use crate::faults::tell_table_fault;
 use crate::files::{REFUSED_OUTPUT, UTF_16, tell_trouble};
 use crate::findings::{tell_changes, tell_findings};
 use crate::hint::HintText;
-use crate::imports::{import_options, tell_notes, tell_rows, tell_short_intervals};
+use crate::imports::{tell_millis_group, tell_notes, tell_rows, tell_short_intervals};
 use crate::logs::{tell_close_words, tell_log_line, tell_too_long};
 use crate::mistakes::{tell_habits, tell_nearest_word};
 use crate::plans::{tell_all_unfit, tell_fewer_buses, tell_groups, tell_half_period};
@@ -23,8 +23,9 @@ use a429_console::files::FileTrouble;
 use a429_console::hints::Hints;
 use a429_console::hints::warnings::{FurtherCause, FurtherFault, Warning};
 use a429_console::refusals::evidence::{
-    Evidence, LineEvidence, LogEvidence, RowsEvidence, TableEvidence, TableLook,
+    Evidence, LineEvidence, LogEvidence, TableEvidence, TableLook,
 };
+use a429_console::refusals::rows::RowsEvidence;
 use a429_console::refusals::{CommandRefusal, Refused};
 use a429_equipment::Equipment;
 use a429_table::FaultKind;
@@ -113,14 +114,14 @@ fn tell_warning(asked: &Asked, warning: &Warning, hint: &HintText) {
         Warning::Further(fault) => nth(&asked.more, fault.number),
         _ => text_name(asked),
     });
+    let maps = asked.texts(OptionName::Map);
     match warning {
         Warning::Further(fault) => tell_further_fault(asked, fault, hint),
         Warning::CloseWords(receiver) => {
             tell_close_words(receiver.as_str(), asked.unit(), hint);
         }
-        Warning::ShortIntervals(group) => {
-            tell_short_intervals(group.as_str(), asked.texts(OptionName::Map), hint);
-        }
+        Warning::ShortIntervals(group) => tell_short_intervals(group.as_str(), maps, hint),
+        Warning::MillisGroup(group) => tell_millis_group(group.as_str(), maps, hint),
         Warning::Notes(count) => tell_notes(*count, hint),
     }
 }
@@ -226,7 +227,7 @@ fn tell_of_rows(asked: &Asked, refusal: &CommandRefusal, rows: &RowsEvidence, hi
     tell_rows(
         refusal,
         asked.texts(OptionName::Map),
-        import_options(asked),
+        asked.has(OptionName::Names),
         rows,
         hint,
     );

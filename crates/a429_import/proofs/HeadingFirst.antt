@@ -1,5 +1,5 @@
 -- Nothing is above the heading of a text that begins with it.
-use Rattle.std.proofs.Common.{◌≡◌, ◌∙◌, ◌-◌, [], ℕ, false, Bool, List, ap, ap₂, arith, length, refl, take}
+use Rattle.std.proofs.Common.{◌≡◌, ◌∙◌, ◌-◌, [], ℕ, false, Bool, List, ap, ap₂, arith, length, map, refl, take}
 use Rattle.std.specs.Prelude.{◌||◌}
 use Rattle.std.specs.List.{list_any}
 use Rattle.csv.specs.Machine.{next_record}
@@ -9,6 +9,7 @@ use Rattle.a429_import.specs.ImportAbove.{first_row, has_data, is_data}
 use Rattle.a429_import.specs.ImportForms.{from_heading, separator_in}
 use Rattle.a429_import.specs.ImportMaps.{names_by}
 use Rattle.a429_import.specs.ImportQuotes.{text_before}
+use Rattle.a429_import.specs.ImportWords.{trimmed}
 use Rattle.a429_import.specs.Imports.{has_row_above, has_wide_row, is_wide, is_wide_text, separated}
 
 pub nothing_before : (text : List ℕ) → text_before text text ≡ []
@@ -30,7 +31,7 @@ module _ (maps : List (List ℕ)) (text : List ℕ) (first : from_heading maps t
   no_row_above =
       let cfg : Config = separated (separator_in maps text) in
       let heading : List (List ℕ) = names_by maps (first_row cfg (from_heading maps text)) in
-      ap (has_data cfg heading) nothing_above ∙ ap (list_any (is_data heading)) (no_records cfg)
+      ap (has_data cfg heading) nothing_above ∙ ap (list_any (λ (row : List (List ℕ)). is_data heading (map trimmed row))) (no_records cfg)
 
   pub no_wide_row_above : is_wide_text maps text ≡ has_wide_row (separator_in maps text) (strip_bom text)
   no_wide_row_above =

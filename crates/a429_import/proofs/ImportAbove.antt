@@ -1,5 +1,5 @@
 -- All records of a text are those that its reader gives.
-use Rattle.std.proofs.Common.{Bor, ◌≡◌, ◌∙◌, ◌∷◌, ◌++◌, ◌+◌, ◌-◌, ◌≤◌, [], ℕ, true, false, zero, suc, Bool, List, None, Option, Some, ap, ap₂, arith, length, map, refl, subst, sym}
+use Rattle.std.proofs.Common.{Bor, ◌≡◌, ◌∙◌, ◌∷◌, ◌++◌, ◌+◌, ◌-◌, ◌≤◌, [], ℕ, true, false, zero, suc, Bool, List, None, Option, Some, ap, ap₂, arith, get_or, length, map, refl, subst, sym}
 use Rattle.std.specs.Prelude.{◌||◌, if◌then◌else◌}
 use Rattle.std.specs.List.{list_any}
 use Rattle.std.specs.Option.{option_map_or}
@@ -18,6 +18,7 @@ use Rattle.a429_import.specs.declared.lines.CsvLine.{CsvLine}
 use Rattle.a429_import.specs.ImportAbove.{first_row, has_data, is_data}
 use Rattle.a429_import.specs.ImportReading.{HasRead}
 use Rattle.a429_import.specs.Imports.{separated}
+use Rattle.a429_import.specs.ImportWords.{trimmed}
 
 module _ (cfg : Config) where
   -- ---- what a record leaves
@@ -77,17 +78,29 @@ module _ (cfg : Config) where
 
 -- ---- the heading, and the rows above it
 
+-- the fields of the first of these rows
+first_of : (separator : ℕ) (text : List ℕ) (s : State) (ys : List ℕ) (rows : List (List (List ℕ))) (fields : List (List ℕ)) → Reached (separated separator) st.StartRecord (strip_bom text) rows s ys → fields ∷ [] ≡ map (map trimmed) rows
+    → fields ≡ first_row (separated separator) text
+unfolding Reached
+first_of separator text s ys [] fields reached same = absurd (omega (arith, ap length same))
+first_of separator text s ys (row ∷ rows) fields reached same =
+    ap (λ (zs : List (List (List ℕ))). get_or zs 0 []) same ∙ ap (map trimmed) (reached.2 ∙ sym (ap (λ (o : Option Read). option_map_or (λ (p : Read). p.0) o []) reached.1))
+
 -- the first line that is read has the fields of the first row
 pub first_is : (separator : ℕ) (text : List ℕ) (a : Reader (Bor (List ℕ))) (line : CsvLine) → HasRead separator text a (line ∷ []) → fields_of line.fields ≡ first_row (separated separator) text
+first_is separator text a line has = first_of separator text a.state has.rest has.rows (fields_of line.fields) has.reached has.fields
+
+none_first : (separator : ℕ) (text : List ℕ) (s : State) (ys : List ℕ) (rows : List (List (List ℕ))) → Reached (separated separator) st.StartRecord (strip_bom text) rows s ys → ◌≡◌ {A = List (List (List ℕ))} [] (map (map trimmed) rows)
+    → next_record (separated separator) s [] [] ys ≡ None → [] ≡ first_row (separated separator) text
 unfolding Reached
-first_is separator text a line has = has.reached.2 ∙ sym (ap (λ (o : Option Read). option_map_or (λ (p : Read). p.0) o []) has.reached.1)
+none_first separator text s ys [] reached same end =
+    let first : next_record (separated separator) st.StartRecord [] [] (strip_bom text) ≡ None = rw (reached.0, reached.1) end in
+    sym (ap (λ (o : Option Read). map trimmed (option_map_or (λ (p : Read). p.0) o [])) first)
+none_first separator text s ys (row ∷ rows) reached same end = absurd (omega (arith, ap length same))
 
 pub no_first : (separator : ℕ) (text : List ℕ) (a b : Reader (Bor (List ℕ))) → HasRead separator text a [] → ReadRecord (λ s. Some s.now) a b false [] → [] ≡ first_row (separated separator) text
-unfolding Reached
 no_first separator text a b has end =
-    let none = rows-end (λ (s : Bor (List ℕ)). Some s.now) a b [] (separated separator) has.rest has.config has.source end in
-    let first : next_record (separated separator) st.StartRecord [] [] (strip_bom text) ≡ None = rw (has.reached.0, has.reached.1) none in
-    sym (ap (λ (o : Option Read). option_map_or (λ (p : Read). p.0) o []) first)
+    none_first separator text a.state has.rest has.rows has.reached has.fields (rows-end (λ (s : Bor (List ℕ)). Some s.now) a b [] (separated separator) has.rest has.config has.source end)
 
 -- a row of data is among the lines that were read
 abbrev pub has_data_line : List (List ℕ) → List CsvLine → Bool
@@ -104,8 +117,13 @@ one_more heading lines line before after known found =
     ∙ sym (list_any-append (is_data heading) (map (λ (l : CsvLine). fields_of l.fields) lines) (fields_of line.fields ∷ []))
     ∙ sym (ap (list_any (is_data heading)) (map-append (λ (l : CsvLine). fields_of l.fields) lines (line ∷ [])))
 
+any_trimmed : (passes : List (List ℕ) → Bool) (rows : List (List (List ℕ))) → list_any passes (map (map trimmed) rows) ≡ list_any (λ row. passes (map trimmed row)) rows
+any_trimmed passes [] = refl
+any_trimmed passes (row ∷ rows) = ap (λ (b : Bool). passes (map trimmed row) || b) (any_trimmed passes rows)
+
 pub data_read : (separator : ℕ) (heading : List (List ℕ)) (text : List ℕ) (a b : Reader (Bor (List ℕ))) (lines : List CsvLine) → HasRead separator text a lines → ReadRecord (λ s. Some s.now) a b false []
     → has_data_line heading lines ≡ has_data (separated separator) heading text
 data_read separator heading text a b lines has end =
     let none = rows-end (λ (s : Bor (List ℕ)). Some s.now) a b [] (separated separator) has.rest has.config has.source end in
-    sym (ap (list_any (is_data heading)) (records_are (separated separator) (strip_bom text) (map (λ (l : CsvLine). fields_of l.fields) lines) (a.state, has.rest, has.reached, none)))
+    let same = records_are (separated separator) (strip_bom text) has.rows (a.state, has.rest, has.reached, none) in
+    ap (list_any (is_data heading)) has.fields ∙ any_trimmed (is_data heading) has.rows ∙ sym (ap (list_any (λ (row : List (List ℕ)). is_data heading (map trimmed row))) same)

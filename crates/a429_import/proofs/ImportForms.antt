@@ -1,5 +1,5 @@
 -- The lines of a text, from its heading on.
-use Rattle.std.proofs.Common.{Bor, ◌≡◌, ◌∙◌, ◌∷◌, ◌++◌, ◌+◌, ◌-◌, ◌<◌, ◌≤◌, [], ℕ, true, false, zero, suc, Bool, List, None, Option, Some, ap, arith, cond, drop, filter, inl, map, subst, take}
+use Rattle.std.proofs.Common.{Bor, ◌≡◌, ◌∙◌, ◌∷◌, ◌++◌, ◌+◌, ◌-◌, ◌<◌, ◌≤◌, [], ℕ, true, false, zero, suc, Bool, List, None, Option, Some, ap, ap₂, arith, cond, drop, filter, inl, map, subst, sym, take}
 use Rattle.std.specs.Prelude.{nat_lt, option_map, position}
 use Rattle.std.specs.List.{AllByRecursion, count_by, find, slice_split}
 use Rattle.std.specs.Option.{option_or}
@@ -16,6 +16,7 @@ use Rattle.a429_import.specs.declared.lines.CsvLine.{CsvLine}
 use Rattle.a429_import.specs.ImportForms.{first_line, from_heading, heading_among, is_heading, later_lines, separator_in, separators}
 use Rattle.a429_import.specs.ImportReading.{HasRead}
 use Rattle.a429_import.specs.Imports.{AreLines, has_text, separated}
+use Rattle.a429_import.specs.ImportWords.{trimmed}
 use Rattle.a429_import.proofs.PartsOfText.{parts_none, parts_some}
 
 one_more_separator : {separator : ℕ} (lines : List CsvLine) (line : CsvLine) → AllByRecursion (λ l. l.separator ≡ separator) lines → line.separator ≡ separator
@@ -24,17 +25,22 @@ one_more_separator [] line all here = (here, tt)
 one_more_separator (l ∷ lines) line all here = (all.0, one_more_separator lines line all.1 here)
 
 -- one more line is read
-pub read_more : (separator : ℕ) (text : List ℕ) (a b : Reader (Bor (List ℕ))) (lines : List CsvLine) (line : CsvLine) → HasRead separator text a lines → ReadRecord (λ s. Some s.now) a b true (fields_of line.fields) → b.first ≡ true
-    → line.separator ≡ separator → HasRead separator text b (lines ++ line ∷ [])
-read_more separator text a b lines line has next first own =
-    let m = rows-more (λ (s : Bor (List ℕ)). Some s.now) a b (fields_of line.fields) (separated separator) st.StartRecord (strip_bom text) has.rest (map (λ (l : CsvLine). fields_of l.fields) lines) has.config has.source has.reached next in
+pub read_more : (separator : ℕ) (text : List ℕ) (a b : Reader (Bor (List ℕ))) (lines : List CsvLine) (line : CsvLine) (row : List (List ℕ)) → HasRead separator text a lines → ReadRecord (λ s. Some s.now) a b true row → b.first ≡ true
+    → line.separator ≡ separator → fields_of line.fields ≡ map trimmed row → HasRead separator text b (lines ++ line ∷ [])
+read_more separator text a b lines line row has next first own same =
+    let m = rows-more (λ (s : Bor (List ℕ)). Some s.now) a b row (separated separator) st.StartRecord (strip_bom text) has.rest has.rows has.config has.source has.reached next in
     record {
       plain = next.3 ∙ has.plain;
       ready = inl first;
       config = next.2 ∙ has.config;
       rest = m.0;
       source = m.1;
-      reached = rw (map-append (λ (l : CsvLine). fields_of l.fields) lines (line ∷ [])) m.2;
+      rows = has.rows ++ row ∷ [];
+      reached = m.2;
+      fields =
+          map-append (λ (l : CsvLine). fields_of l.fields) lines (line ∷ [])
+          ∙ ap₂ (λ (xs ys : List (List (List ℕ))). xs ++ ys) has.fields (ap (λ (x : List (List ℕ)). x ∷ []) same)
+          ∙ sym (map-append (map trimmed) has.rows (row ∷ []));
       separators = one_more_separator lines line has.separators own;
     }
 
@@ -42,12 +48,14 @@ read_more separator text a b lines line has next first own =
 pub read_all : (maps : List (List ℕ)) (text : List ℕ) (form : Form) (a b : Reader (Bor (List ℕ))) (all lines : List CsvLine) → form.separator ≡ separator_in maps text → form.text.now ≡ from_heading maps text
     → HasRead form.separator form.text.now a all → ReadRecord (λ s. Some s.now) a b false [] → lines ≡ filter (λ l. has_text (fields_of l.fields)) all → AreLines maps text lines
 read_all maps text form a b all lines separator from has end filled =
-    let are : AreRecords (separated form.separator) st.StartRecord (strip_bom form.text.now) (map (λ (l : CsvLine). fields_of l.fields) all) =
+    let are : AreRecords (separated form.separator) st.StartRecord (strip_bom form.text.now) has.rows =
     (a.state, has.rest, has.reached, rows-end (λ (s : Bor (List ℕ)). Some s.now) a b [] (separated form.separator) has.rest has.config has.source end) in
-    let one = subst (λ (s : ℕ). AreRecords (separated s) st.StartRecord (strip_bom form.text.now) (map (λ l. fields_of l.fields) all)) separator are in
+    let one = subst (λ (s : ℕ). AreRecords (separated s) st.StartRecord (strip_bom form.text.now) has.rows) separator are in
     record {
       all = all;
-      records = subst (λ (xs : List ℕ). AreRecords (separated (separator_in maps text)) st.StartRecord (strip_bom xs) (map (λ l. fields_of l.fields) all)) from one;
+      rows = has.rows;
+      records = subst (λ (xs : List ℕ). AreRecords (separated (separator_in maps text)) st.StartRecord (strip_bom xs) has.rows) from one;
+      fields = has.fields;
       separators = subst (λ (s : ℕ). AllByRecursion (λ l. l.separator ≡ s) all) separator has.separators;
       filled = filled;
     }

@@ -1,10 +1,12 @@
 -- The numbers of rows that are imported are in their ranges.
-use Rattle.std.proofs.Common.{◌≡◌, ℕ, ◌^◌, ◌<◌, ◌≤◌, ◌-◌, ◌++◌, ◌∷◌, [], Bool, true, false, List, length, Option, None, Some, Result, Ok, Err, ap, refl, subst, arith, eqb-true, inl, inr, ◌+◌, ◌*◌, drop, take}
+use Rattle.std.proofs.Common.{◌≡◌, ℕ, ◌^◌, ◌<◌, ◌≤◌, ◌-◌, ◌++◌, ◌∷◌, [], Bool, true, false, List, length, Option, None, Some, Result, Ok, Err, ap, refl, subst, arith, eqb-true, inl, inr, ◌+◌, ◌*◌, ◌/◌, ◌%◌, zero, suc, drop, take}
 use Rattle.std.specs.Prelude.{IfSome, codes, if◌then◌else◌, nat_le, nat_lt, position, ◌==◌, ◌||◌, ◌&&◌}
 use Rattle.std.specs.Option.{ok_or, option_and_then, option_map, option_or}
 use Rattle.std.specs.Str.{bytes_eq}
 use Rattle.std.proofs.lemmas.Bool.{and_parts, leb-true, ltb-true}
-use Rattle.std.proofs.lemmas.Option.{cond_some}
+use Rattle.std.proofs.Math.Nat.{mul-le-mul}
+use Rattle.std.proofs.lemmas.Nat.{div-add-mod'}
+use Rattle.std.proofs.lemmas.Option.{cond_some, same_Some}
 use Rattle.csv.specs.Records.{fields_of}
 use Rattle.a429_word.specs.Decimal.{decimal_number}
 use Rattle.a429_word.proofs.LabelTexts.{written}
@@ -15,10 +17,14 @@ use Rattle.a429_import.specs.declared.lines.CsvLine.{CsvLine}
 use Rattle.a429_import.specs.declared.rows.ImportRow.{ImportRow}
 use Rattle.a429_import.specs.declared.rows.RowNumbers.{RowNumbers}
 use Rattle.a429_import.specs.declared.rows.RowTexts.{RowTexts}
-use Rattle.a429_import.specs.ImportFields.{if_group, in_32_bits, interval_in, micros_in, is_any, is_bit, is_high, is_low, is_mark, kilobits_in, may_be_thousands, label_in, millis_in, number_in, padded, parted_millis, rate_in, sdi_digits, sdi_in, hold_in, together, worded_rate}
+use Rattle.a429_import.specs.ImportFields.{if_group, in_32_bits, micros_in, is_any, is_bit, is_high, is_low, is_mark, kilobits_in, may_be_thousands, label_in, millis_in, number_in, padded, parted_millis, rate_in, sdi_digits, sdi_in, hold_in, together, worded_rate}
+use Rattle.a429_import.specs.declared.intervals.IntervalForm.{IntervalForm}
+use Rattle.a429_import.specs.declared.intervals.IntervalUnit.{IntervalUnit}
+use Rattle.a429_import.specs.declared.intervals.IntervalUnit.TheVariants.{Hertz, Micros, Millis}
+use Rattle.a429_import.specs.ImportIntervals.{both_in, interval_in, limit_in, limit_of_both, ordered, parted, is_divider, takes_second, value_in}
 use Rattle.a429_import.specs.ImportWords.{unwrapped}
 use Rattle.a429_import.specs.NumberRanges.{AreInRange, HaveRanges}
-use Rattle.a429_import.specs.ImportRows.{◌>>=◌, CsvFault, column_field, is_column_in_millis, names_group, numbers_of, texts_of, joined, row_of, first_clash, agreed, next_row, rows_after, unless_wrong, rows_stated, says_nothing, with_row, without_notes, wrong_column}
+use Rattle.a429_import.specs.ImportRows.{◌>>=◌, CsvFault, column_field, column_form, names_group, numbers_of, texts_of, joined, row_of, first_clash, agreed, next_row, rows_after, unless_wrong, rows_stated, says_nothing, with_row, without_notes, wrong_column}
 
 -- ---- fields
 
@@ -44,8 +50,8 @@ digit_in_range digit sdi h =
 
 bit_few : (digit : ℕ) → is_bit digit ≡ true → digit ≤ 49
 bit_few digit is = elim (or_parts (digit == 48) (digit == 49) is) [
-  | inl zero ↦ omega (arith, eqb-true digit 48 zero)
-  | inr one ↦ omega (arith, eqb-true digit 49 one)
+  | inl low ↦ omega (arith, eqb-true digit 48 low)
+  | inr high ↦ omega (arith, eqb-true digit 49 high)
 ]
 
 bits_in_range : (high low : ℕ) (sdi : Option ℕ) → (if is_bit high && is_bit low then Some (Some (2 * (high - 48) + (low - 48))) else None) ≡ Some sdi → IfSome sdi (λ k. k < 4)
@@ -110,9 +116,76 @@ rate_in_range field n h =
     either_in_range (number_in field) (option_or (worded_rate field) (kilobits_in field)) n (number_in_range field)
     (λ m. either_in_range (worded_rate field) (kilobits_in field) m (word_in_range (is_high field) (is_low field)) (kilobits_in_range _)) h
 
-interval_in_range : (in_millis : Bool) (separator : ℕ) (field : List ℕ) (n : ℕ) → interval_in in_millis separator field ≡ Some n → n < 2 ^ 32
-interval_in_range true separator field n h = millis_in_range separator field n h
-interval_in_range false separator field n h = number_in_range field n h
+value_in_range : (unit : IntervalUnit) (separator : ℕ) (field : List ℕ) (n : ℕ) → value_in unit separator field ≡ Some n → n < 2 ^ 32
+value_in_range Micros separator field n h = number_in_range field n h
+value_in_range Millis separator field n h = millis_in_range separator field n h
+value_in_range Hertz separator field n h = millis_in_range separator field n h
+
+quotient_in_range : (rate : ℕ) → 0 < rate → 10 ^ 9 / rate ≤ 10 ^ 9
+quotient_in_range rate some =
+    let parts : 10 ^ 9 / rate * rate + 10 ^ 9 % rate ≡ 10 ^ 9 = div-add-mod' (10 ^ 9) rate in
+    let few : 10 ^ 9 / rate * 1 ≤ 10 ^ 9 / rate * rate = mul-le-mul {n₁ = 10 ^ 9 / rate} {m₁ = 1} {n₂ = 10 ^ 9 / rate} {m₂ = rate} (omega arith) (omega (arith, some)) in
+    omega (arith, parts, few)
+
+up_by : (exact : Bool) (rate n : ℕ) → 10 ^ 9 / rate ≤ 10 ^ 9 → Some (10 ^ 9 / rate + (if exact then 0 else 1)) ≡ Some n → n < 2 ^ 32
+up_by true rate n few h = omega (arith, same_Some _ n h, few)
+up_by false rate n few h = omega (arith, same_Some _ n h, few)
+
+positive : (rate : ℕ) → (rate == 0) ≡ false → 0 < rate
+positive zero h = cc
+positive (suc k) h = omega arith
+
+up_if : (none exact : Bool) (rate n : ℕ) → (none ≡ false → 0 < rate) → (if none then None else Some (10 ^ 9 / rate + (if exact then 0 else 1))) ≡ Some n → n < 2 ^ 32
+up_if true exact rate n some h = cc
+up_if false exact rate n some h = up_by exact rate n (quotient_in_range rate (some refl)) h
+
+down_if : (none : Bool) (rate n : ℕ) → (none ≡ false → 0 < rate) → (if none then None else Some (10 ^ 9 / rate)) ≡ Some n → n < 2 ^ 32
+down_if true rate n some h = cc
+down_if false rate n some h = omega (arith, same_Some (10 ^ 9 / rate) n h, quotient_in_range rate (some refl))
+
+limit_in_range : (is_least : Bool) (unit : IntervalUnit) (value n : ℕ) → value < 2 ^ 32 → limit_in is_least unit value ≡ Some n → n < 2 ^ 32
+limit_in_range is_least Micros value n small h = subst (λ (k : ℕ). k < 2 ^ 32) (same_Some value n h) small
+limit_in_range is_least Millis value n small h = subst (λ (k : ℕ). k < 2 ^ 32) (same_Some value n h) small
+limit_in_range true Hertz value n small h = up_if (value == 0) (10 ^ 9 % value == 0) value n (positive value) h
+limit_in_range false Hertz value n small h = down_if (value == 0) value n (positive value) h
+
+one_in_range : (is_least : Bool) (unit : IntervalUnit) (value : Option ℕ) (n : ℕ) → ((k : ℕ) → value ≡ Some k → k < 2 ^ 32) → option_and_then (limit_in is_least unit) value ≡ Some n → n < 2 ^ 32
+one_in_range is_least unit None n each h = cc
+one_in_range is_least unit (Some value) n each h = limit_in_range is_least unit value n (each value refl) h
+
+abbrev AreSmall : ℕ × ℕ → Type 0
+AreSmall both = (both.0 < 2 ^ 32) × (both.1 < 2 ^ 32)
+
+pair_in_range : (fits : Bool) (a b : ℕ) (both : ℕ × ℕ) → a < 2 ^ 32 → b < 2 ^ 32 → (if fits then Some (a, b) else None) ≡ Some both → AreSmall both
+pair_in_range true a b both first second h = subst AreSmall (same_Some (a, b) both h) (first, second)
+pair_in_range false a b both first second h = cc
+
+ordered_in_range : (a b : Option ℕ) (both : ℕ × ℕ) → ((k : ℕ) → a ≡ Some k → k < 2 ^ 32) → ((k : ℕ) → b ≡ Some k → k < 2 ^ 32) → ordered a b ≡ Some both → AreSmall both
+ordered_in_range None b both first second h = cc
+ordered_in_range (Some a) None both first second h = cc
+ordered_in_range (Some a) (Some b) both first second h = pair_in_range (nat_le a b) a b both (first a refl) (second b refl) h
+
+both_in_range : (unit : IntervalUnit) (separator : ℕ) (field : List ℕ) (place : Option ℕ) (both : ℕ × ℕ) → option_and_then (parted unit separator field) place ≡ Some both → AreSmall both
+both_in_range unit separator field None both h = cc
+both_in_range unit separator field (Some place) both h = ordered_in_range _ _ both (value_in_range unit separator _) (value_in_range unit separator _) h
+
+either_is_small : (second : Bool) (both : ℕ × ℕ) → AreSmall both → (if second then both.1 else both.0) < 2 ^ 32
+either_is_small true both small = small.1
+either_is_small false both small = small.0
+
+of_both_in_range : (is_least : Bool) (unit : IntervalUnit) (both : Option (ℕ × ℕ)) (n : ℕ) → ((p : ℕ × ℕ) → both ≡ Some p → AreSmall p) → option_and_then (limit_of_both is_least unit) both ≡ Some n → n < 2 ^ 32
+of_both_in_range is_least unit None n each h = cc
+of_both_in_range is_least unit (Some both) n each h =
+    limit_in_range is_least unit (if takes_second is_least unit then both.1 else both.0) n (either_is_small (takes_second is_least unit) both (each both refl)) h
+
+by_form : (has_both is_least : Bool) (unit : IntervalUnit) (separator : ℕ) (field : List ℕ) (n : ℕ)
+    → (if has_both then option_and_then (limit_of_both is_least unit) (both_in unit separator field) else option_and_then (limit_in is_least unit) (value_in unit separator field)) ≡ Some n → n < 2 ^ 32
+by_form true is_least unit separator field n h = of_both_in_range is_least unit (both_in unit separator field) n (both_in_range unit separator field (position is_divider field)) h
+by_form false is_least unit separator field n h = one_in_range is_least unit (value_in unit separator field) n (value_in_range unit separator field) h
+
+interval_in_range : (is_least : Bool) (form : IntervalForm) (separator : ℕ) (field : List ℕ) (n : ℕ) → interval_in is_least form separator field ≡ Some n → n < 2 ^ 32
+unfolding interval_in
+interval_in_range is_least form separator field n h = by_form form.has_both is_least form.unit separator field n h
 
 stated_hold : (o : Option ℕ) (hold : Option ℕ) → ((n : ℕ) → o ≡ Some n → n < 2 ^ 32) → option_map (λ n. Some n) o ≡ Some hold → IfSome hold (λ k. k < 2 ^ 32)
 stated_hold None hold small h = cc
@@ -141,9 +214,9 @@ rate_if : (named : Bool) (field : List ℕ) (n : ℕ) → if_group named rate_in
 rate_if true field n h = rate_in_range field n h
 rate_if false field n h = zero_or (length field == 0) n h
 
-interval_if : (named in_millis : Bool) (separator : ℕ) (field : List ℕ) (n : ℕ) → if_group named (interval_in in_millis separator) 0 field ≡ Some n → n < 2 ^ 32
-interval_if true in_millis separator field n h = interval_in_range in_millis separator field n h
-interval_if false in_millis separator field n h = zero_or (length field == 0) n h
+interval_if : (named is_least : Bool) (form : IntervalForm) (separator : ℕ) (field : List ℕ) (n : ℕ) → if_group named (interval_in is_least form separator) 0 field ≡ Some n → n < 2 ^ 32
+interval_if true is_least form separator field n h = interval_in_range is_least form separator field n h
+interval_if false is_least form separator field n h = zero_or (length field == 0) n h
 
 hold_if : (named : Bool) (field : List ℕ) (hold : Option ℕ) → if_group named hold_in None field ≡ Some hold → IfSome hold (λ k. k < 2 ^ 32)
 hold_if true field hold h = hold_in_range field hold h
@@ -183,8 +256,8 @@ numbers_in_range separator heading fields n h =
       rate = rate_if (names_group heading fields) (at Rate) rate.value (found _ Rate rate.value rate.was);
       label = label_in_range (at Label) label.value (found _ Label label.value label.was);
       sdi = sdi_in_range (at Sdi) sdi.value (found _ Sdi sdi.value sdi.was);
-      least = interval_if (names_group heading fields) (is_column_in_millis heading MinUs) separator (at MinUs) least.value (found _ MinUs least.value least.was);
-      most = interval_if (names_group heading fields) (is_column_in_millis heading MaxUs) separator (at MaxUs) most.value (found _ MaxUs most.value most.was);
+      least = interval_if (names_group heading fields) true (column_form heading MinUs) separator (at MinUs) least.value (found _ MinUs least.value least.was);
+      most = interval_if (names_group heading fields) false (column_form heading MaxUs) separator (at MaxUs) most.value (found _ MaxUs most.value most.was);
       hold = hold_if (names_group heading fields) (at Hold) hold.value (found _ Hold hold.value hold.was);
     })
 

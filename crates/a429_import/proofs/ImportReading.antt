@@ -1,7 +1,7 @@
 -- What is known of lines, after one more line.
 use Rattle.std.proofs.Common.{◌≡◌, ◌∙◌, ◌+◌, ◌-◌, ℕ, List, [], ◌∷◌, ◌++◌, Option, None, Some, option_map, Result, Ok, Err, Bool, true, false, ap, append-nil, arith, length, refl, subst, sym}
 use Rattle.std.specs.Prelude.{filter, is_some, vec_len}
-use Rattle.std.specs.Result.{result_err, result_ok}
+use Rattle.std.specs.Result.{result_err}
 use Rattle.csv.specs.Records.{fields_of}
 use Rattle.a429_import.specs.declared.columns.Heading.{Heading}
 use Rattle.a429_import.specs.declared.fault.CsvFaultKind.TheVariants.{Column}
@@ -14,15 +14,15 @@ use Rattle.a429_import.specs.declared.notes.Notes.{Notes}
 use Rattle.a429_import.specs.declared.reading.LinesRead.{LinesRead}
 use Rattle.a429_import.specs.declared.reading.RowsRead.{RowsRead}
 use Rattle.a429_import.specs.declared.rows.ImportRow.{ImportRow}
-use Rattle.a429_import.specs.ImportReading.{AreBelow, AreRead, AreTaken, HasNoRow, HasRows, HaveFault, HaveRows, IsHeadingOf, IsHeld}
+use Rattle.a429_import.specs.ImportReading.{AreBelow, AreRead, AreTaken, HasNoRow, HasRows, HaveFault, HaveRows, IsHeadingOf, IsHeld, IsReadRow}
 use Rattle.a429_import.specs.ImportRows.{CsvFault, note_count, rows_after, rows_stated, unless_wrong, without_notes, wrong_column}
 use Rattle.a429_import.specs.Imports.{IsImportOf, States, has_text}
 use Rattle.a429_import.proofs.ImportNotes.{still_refused}
 
 -- a result that succeeds
-pub ok_is : {A E : Type 0} (r : Result A E) (a : A) → Some a ≡ result_ok r → r ≡ Ok a
-ok_is (Ok x) a h = let same : x ≡ a = cc in ap (λ y. Ok y) same
-ok_is (Err e) a h = cc
+pub row_is : {A E : Type 0} (P : A → Type 0) (r : Result A E) → IsReadRow P r → (a : A) × (r ≡ Ok a) × P a
+row_is P (Ok a) h = (a, refl, h)
+row_is P (Err e) h = absurd h
 
 -- ---- a fault stays
 

@@ -52,7 +52,7 @@ sdi_depth : (sdi : Option ℕ) → depth (sdi_data sdi) ≤ 0
 sdi_depth None = omega arith
 sdi_depth (Some n) = omega arith
 
-receiver_depth : (row : ImportRow) → depth (receiver_tree row) ≤ 2
+pub receiver_depth : (row : ImportRow) → depth (receiver_tree row) ≤ 2
 unfolding receiver_tree
 receiver_depth row =
     let rest : Members = member (codes "name") (string row.texts.receiver) no_members in
@@ -60,11 +60,11 @@ receiver_depth row =
     let inside : members_depth (with_filters (words row.texts.filters) rest) ≤ 1 = filters_depth (words row.texts.filters) rest few in
     omega arith
 
-source_depth : (row : ImportRow) → depth (source_tree row) ≤ 2
+pub source_depth : (row : ImportRow) → depth (source_tree row) ≤ 2
 unfolding source_tree
 source_depth row = let sdi = sdi_depth row.numbers.sdi in omega arith
 
-output_depth : (row : ImportRow) → depth (output_tree row) ≤ 2
+pub output_depth : (row : ImportRow) → depth (output_tree row) ≤ 2
 unfolding output_tree
 output_depth row =
     let rest : Members = member (codes "max_us") (number row.numbers.max_us) (member (codes "min_us") (number row.numbers.min_us) (member (codes "source") (string row.texts.source) no_members)) in
@@ -72,7 +72,7 @@ output_depth row =
     let inside : members_depth (with_hold row.numbers.hold rest) ≤ 1 = hold_depth row.numbers.hold rest few in
     omega arith
 
-group_depth : (rows : List ImportRow) (row : ImportRow) → depth (group_tree rows row) ≤ 4
+pub group_depth : (rows : List ImportRow) (row : ImportRow) → depth (group_tree rows row) ≤ 4
 unfolding group_tree
 group_depth rows row = let outputs = listed_depth output_tree 2 output_depth (rows_of_group rows row) in omega arith
 

@@ -32,7 +32,7 @@ use Rattle.a429_import.specs.ImportForms.{from_heading, separator_in}
 use Rattle.a429_import.specs.ImportQuotes.{has_wrong_quotes}
 use Rattle.a429_import.specs.ImportRows.{note_count, rows_stated}
 use Rattle.a429_import.specs.ImportTables.{record_stated, root_members}
-use Rattle.a429_import.specs.Imports.{AreNamedLines, IsFilledImport, IsImport, IsImportBy, IsImportFrom, IsImportIf, IsImportOf, IsTableBy, IsTableOf, IsTextFault, has_row_above, has_wide_rows, is_misquoted_text, is_wide_text, separated}
+use Rattle.a429_import.specs.Imports.{AreNamedLines, IsFilledImport, IsImport, IsImportBy, IsImportFrom, IsImportIf, IsImportOf, IsTableBy, IsTableOf, IsTextFault, has_row_above, has_wide_rows, table_made, is_misquoted_text, is_wide_text, separated}
 use Rattle.a429_import.specs.ImportReading.{HaveFault, StandsFor}
 use Rattle.a429_import.specs.NumberRanges.{HaveRanges}
 use Rattle.a429_import.specs.RenamedReading.{IsReadBy}
@@ -81,8 +81,8 @@ module _ (rows : List ImportRow) (ranges : HaveRanges rows) (bytes : List ℕ) (
 
 -- the table of the rows that lines state
 pub table_import : (makes_names : Bool) (lines : List CsvLine) (rows : List ImportRow) (imported : Imported) → rows_stated lines ≡ Ok rows → imported.notes ≡ note_count lines
-    → IsTableBy makes_names rows (Ok imported.text) → IsImportFrom makes_names lines (Ok imported)
-table_import false lines rows imported are count h = (rows, are, h, count)
+    → IsTableBy makes_names rows (Ok (table_made imported)) → IsImportFrom makes_names lines (Ok imported)
+table_import false lines rows imported are count h = (rows, are, h.0, count, h.1)
 table_import true lines rows imported are count h = (rows, are, h, count)
 
 -- the fault of that table

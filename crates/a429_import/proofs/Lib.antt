@@ -28,9 +28,10 @@ pub mod HeadingFirst
 pub mod WrittenQuotes
 mod PartsOfText
 mod ImportMaps
+pub mod Trimmed
 pub mod KeyedLines
 pub mod FilledLines
 pub mod ChosenNames
 mod NamesApart
 pub mod RenamedReading
-pub mod SameTables
+pub mod PrintedTables

@@ -1,5 +1,5 @@
 -- Rows of data above the heading. They would be passed over, as titles are (profile: import).
-use Rattle.std.specs.Prelude.{ℕ, ◌==◌, ◌&&◌, Bool, List, [], is_some, length}
+use Rattle.std.specs.Prelude.{ℕ, ◌==◌, ◌&&◌, Bool, List, [], is_some, length, map}
 use Rattle.std.specs.List.{list_any}
 use Rattle.std.specs.Option.{option_map_or}
 use Rattle.csv.specs.Machine.{next_record}
@@ -11,10 +11,11 @@ use Rattle.a429_import.specs.ImportFields.{label_in}
 use Rattle.a429_import.specs.ImportMaps.{names_by}
 use Rattle.a429_import.specs.ImportQuotes.{text_before}
 use Rattle.a429_import.specs.ImportRows.{column_field}
+use Rattle.a429_import.specs.ImportWords.{trimmed}
 
--- the fields of the first row of a text; none if it has no row
+-- the fields of the first row of a text, without blanks round them; none if it has no row
 abbrev pub first_row : Config → List ℕ → List (List ℕ)
-first_row cfg text = option_map_or (λ row. row.0) (next_record cfg st.StartRecord [] [] (strip_bom text)) []
+first_row cfg text = map trimmed (option_map_or (λ row. row.0) (next_record cfg st.StartRecord [] [] (strip_bom text)) [])
 
 -- fields are those of a row of data: the row has as many as the heading, and a label in the column `label`
 abbrev pub is_data : List (List ℕ) → List (List ℕ) → Bool
@@ -22,7 +23,7 @@ is_data heading fields = (length fields == length heading) && is_some (label_in 
 
 -- a text has such a row
 abbrev pub has_data : Config → List (List ℕ) → List ℕ → Bool
-has_data cfg heading text = list_any (is_data heading) (records cfg (strip_bom text))
+has_data cfg heading text = list_any (λ fields. is_data heading (map trimmed fields)) (records cfg (strip_bom text))
 
 -- such a row is above the heading: above the rest of a text, whose first row is the heading and has its names by texts HEADING=COLUMN
 abbrev pub has_data_above : Config → List (List ℕ) → List ℕ → List ℕ → Bool

@@ -2,14 +2,19 @@
 use Rattle.std.specs.Prelude.{◌≡◌, ℕ, Bool, codes, length, nat_lt, true, false, List, [], ◌∷◌, ◌++◌, None, Some, Ok, Err}
 use Rattle.a429_import.specs.declared.fault.ImportColumn.TheVariants.{MaxUs, MinUs, Rate}
 use Rattle.a429_import.specs.declared.firsts.Part.TheVariants.{Receivers, Sources, Groups}
+use Rattle.a429_import.specs.declared.intervals.IntervalForm.{IntervalForm}
+use Rattle.a429_import.specs.declared.intervals.IntervalUnit.{IntervalUnit}
+use Rattle.a429_import.specs.declared.intervals.IntervalUnit.TheVariants.{Hertz, Micros, Millis}
 use Rattle.a429_import.specs.declared.rows.ImportRow.{ImportRow}
 use Rattle.a429_import.specs.declared.rows.RowNumbers.{RowNumbers}
 use Rattle.a429_import.specs.FilledLines.{filled_from}
 use Rattle.a429_import.specs.ImportFields.{label_in, millis_in, rate_in, sdi_in}
 use Rattle.a429_import.specs.ImportForms.{heading_of}
+use Rattle.a429_import.specs.ImportIntervals.{interval_in}
 use Rattle.a429_import.specs.ImportMaps.{mapped, names_by}
 use Rattle.a429_import.specs.Imports.{has_row_above, is_misquoted_text}
-use Rattle.a429_import.specs.ImportRows.{is_in_millis, is_named, numbers_of, until_last_or_all}
+use Rattle.a429_import.specs.ImportRows.{is_named, numbers_of, until_last_or_all}
+use Rattle.a429_import.specs.ImportWords.{trimmed}
 use Rattle.a429_import.specs.KeyedLines.{end_in, key_end, keyed_fields}
 use Rattle.a429_import.specs.MadeNames.{in_room_or, label_end, made_name, numbered_name}
 use Rattle.a429_import.specs.Renamed.{names_in}
@@ -46,11 +51,41 @@ pub record ReadsMillis : Type 0 where
   pub small : millis_in 59 (codes "0.500") ≡ Some 500
   pub decimals : millis_in 59 (codes "31.25") ≡ Some 31250
 
+-- blanks round fields: spaces, tabs, line breaks, and no-break spaces (194 160 and 226 128 175)
+pub record ReadsBlanks : Type 0 where
+  pub spaces : trimmed (codes " \t203 \n") ≡ codes "203"
+  pub no_break : trimmed (194 ∷ 160 ∷ 50 ∷ 226 ∷ 128 ∷ 175 ∷ []) ≡ codes "2"
+  pub within : trimmed (codes "a b") ≡ codes "a b"
+  pub none : trimmed (codes "  ") ≡ []
+
+-- limits of intervals between commas, in microseconds: both in a field, and of rates in Hz, which are rounded into the interval
+abbrev pub of_one : IntervalUnit → IntervalForm
+of_one unit = record { unit = unit; has_both = false }
+
+abbrev pub of_both : IntervalUnit → IntervalForm
+of_both unit = record { unit = unit; has_both = true }
+
+pub record ReadsIntervals : Type 0 where
+  pub least : interval_in true (of_both Millis) 44 (codes "50/100") ≡ Some 50000
+  pub most : interval_in false (of_both Millis) 44 (codes "31.25 - 62.5") ≡ Some 62500
+  pub dash : interval_in false (of_both Micros) 44 (53 ∷ 226 ∷ 128 ∷ 147 ∷ 57 ∷ []) ≡ Some 9
+  pub order : interval_in true (of_both Millis) 44 (codes "100/50") ≡ None
+  pub one : interval_in true (of_both Millis) 44 (codes "50") ≡ None
+  pub up : interval_in true (of_one Hertz) 44 (codes "30") ≡ Some 33334
+  pub down : interval_in false (of_one Hertz) 44 (codes "30") ≡ Some 33333
+  pub decimals : interval_in false (of_one Hertz) 44 (codes "12.5") ≡ Some 80000
+  pub zero : interval_in false (of_one Hertz) 44 (codes "0") ≡ None
+  pub rates : interval_in true (of_both Hertz) 44 (codes "10-20") ≡ Some 50000
+  pub least_rate : interval_in false (of_both Hertz) 44 (codes "10-20") ≡ Some 100000
+
 -- names of columns, and a heading below a title
 pub record ReadsHeadings : Type 0 where
   pub any_case : is_named MinUs (codes "Min US") ≡ true
   pub millis : is_named MaxUs (codes "MAX_MS") ≡ true
-  pub unit : is_in_millis MaxUs (codes "MAX_MS") ≡ true
+  pub rate : is_named MaxUs (codes "Min Hz") ≡ true
+  pub least : is_named MinUs (codes "interval_ms") ≡ true
+  pub most : is_named MaxUs (codes "interval_ms") ≡ true
+  pub broken : is_named MinUs (codes "Min\r\n us") ≡ true
   pub other : is_named MinUs (codes "max us") ≡ false
   pub below : heading_of [] (codes "Outputs, of a box\r\n\r\n\"Group\";Rate") ≡ Some (59, codes "\"Group\";Rate")
   pub none : heading_of [] (codes "group\nrate") ≡ None

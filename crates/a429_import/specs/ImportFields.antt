@@ -21,7 +21,7 @@ in_32_bits n = if nat_lt n (2 ^ 32) then Some n else None
 unfoldable pub number_in : List ℕ → Option ℕ
 number_in field = option_and_then in_32_bits (decimal_number field)
 
--- ---- intervals
+-- ---- milliseconds
 
 -- what separates milliseconds from the digits below them: a point, and a comma if it does not separate fields
 abbrev pub is_mark : ℕ → ℕ → Bool
@@ -62,10 +62,6 @@ parted_millis field (Some place) = together (decimal_number (take place field)) 
 -- the microseconds in a number of milliseconds, unless it may be a thousand times as much
 unfoldable pub millis_in : ℕ → List ℕ → Option ℕ
 millis_in separator field = if may_be_thousands separator field then None else parted_millis field (position (is_mark separator) field)
-
--- an interval in microseconds, from a column in milliseconds or in microseconds
-abbrev pub interval_in : Bool → ℕ → List ℕ → Option ℕ
-interval_in in_millis separator field = if in_millis then millis_in separator field else number_in field
 
 -- ---- bit rates
 

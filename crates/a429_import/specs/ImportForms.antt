@@ -4,7 +4,7 @@ use Rattle.std.specs.List.{count_by, find, slice_split}
 use Rattle.std.specs.Option.{option_map, option_map_or, option_or}
 use Rattle.a429_import.specs.ImportMaps.{mapped}
 use Rattle.a429_import.specs.ImportRows.{is_column}
-use Rattle.a429_import.specs.ImportWords.{unquoted}
+use Rattle.a429_import.specs.ImportWords.{trimmed, unquoted}
 
 -- a byte order mark (UTF-8) may come first
 abbrev pub without_byte_order_mark : List ℕ → List ℕ
@@ -33,7 +33,7 @@ later_lines text = from_line (drop (count_before ends_line text) text)
 
 -- a field of a line names a column, by itself or by a text HEADING=COLUMN
 abbrev pub names_column : List (List ℕ) → List ℕ → Bool
-names_column maps field = is_column (mapped maps (unquoted field))
+names_column maps field = is_column (mapped maps (trimmed (unquoted field)))
 
 -- two fields or more of a line name columns, if this separates its fields
 abbrev pub is_heading : List (List ℕ) → List ℕ → ℕ → Bool

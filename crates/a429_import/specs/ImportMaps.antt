@@ -1,30 +1,17 @@
 -- The heading of rows, by texts HEADING=COLUMN: such a text says that a heading is the name of a column (profile: import).
 use Rattle.std.specs.Borrow.{Bor}
-use Rattle.std.specs.Prelude.{◌≡◌, ℕ, ◌==◌, ◌&&◌, Bool, true, false, List, [], ◌∷◌, Option, None, Some, if◌then◌else◌, map}
-use Rattle.std.specs.Char.{to_ascii_lowercase}
+use Rattle.std.specs.Prelude.{◌≡◌, ℕ, ◌&&◌, Bool, true, false, List, [], ◌∷◌, Option, None, Some, if◌then◌else◌, map}
 use Rattle.std.specs.List.{find, list_all, list_any}
 use Rattle.std.specs.Option.{option_map_or}
 use Rattle.csv.specs.Records.{fields_of}
 use Rattle.a429_text.specs.Renames.{halves}
-use Rattle.a429_equipment.specs.SameStation.{all_agree}
 use Rattle.a429_import.specs.declared.lines.CsvLine.{CsvLine}
 use Rattle.a429_import.specs.ImportRows.{is_column}
+use Rattle.a429_import.specs.ImportWords.{same_heading}
 
 -- the bytes of texts
 abbrev pub given_texts : List (Bor (List ℕ)) → List (List ℕ)
 given_texts maps = map (λ text. text.now) maps
-
--- ---- headings
-
--- a byte of a heading: in any case, and a space for an underline
-abbrev pub plain : ℕ → ℕ
-plain b = if b == 95 then 32 else to_ascii_lowercase b
-
-abbrev pub same_byte : ℕ → ℕ → Bool
-same_byte a b = plain a == plain b
-
-abbrev pub same_heading : List ℕ → List ℕ → Bool
-same_heading a b = all_agree same_byte a b
 
 -- ---- one field of a heading
 

@@ -21,17 +21,25 @@ use Rattle.a429_import.specs.ImportClashes.{Agree}
 use Rattle.a429_import.specs.ImportMaps.{AreNamedBy}
 use Rattle.a429_import.specs.ImportRows.{◌>>=◌, CsvFault, has_label, next_row, rows_after, rows_stated, with_row, without_notes, wrong_column}
 use Rattle.a429_import.specs.Imports.{States, separated}
+use Rattle.a429_import.specs.ImportWords.{trimmed}
 use Rattle.a429_import.specs.Known.{Knows, are_full}
 
--- the library `csv` has read these lines of a text whose fields this separates
+-- the library `csv` has read these lines of a text whose fields this separates; the lines have no blanks round fields
 pub record HasRead (separator : ℕ) (text : List ℕ) (reader : Reader (Bor (List ℕ))) (lines : List CsvLine) : Type 0 where
   pub plain : reader.trim ≡ trim.None
   pub ready : Ready reader
   pub config : reader.config ≡ separated separator
   pub rest : List ℕ
   pub source : source_of (λ s. Some s.now) reader ≡ Some rest
-  pub reached : Reached (separated separator) st.StartRecord (strip_bom text) (map (λ l. fields_of l.fields) lines) reader.state rest
+  pub rows : List (List (List ℕ))
+  pub reached : Reached (separated separator) st.StartRecord (strip_bom text) rows reader.state rest
+  pub fields : map (λ l. fields_of l.fields) lines ≡ map (map trimmed) rows
   pub separators : AllByRecursion (λ l. l.separator ≡ separator) lines
+
+-- a row was read, and this is so of it
+abbrev pub IsReadRow : {A E : Type 0} → (A → Type 0) → Result A E → Type 0
+IsReadRow P (Ok row) = P row
+IsReadRow P (Err e) = ⊥
 
 -- the fault of a heading that lacks a column or has it twice
 abbrev pub heading_fault : CsvLine → Option ImportFault

@@ -13,10 +13,12 @@ use Rattle.a429_import.specs.declared.lines.CsvLine.{CsvLine}
 use Rattle.a429_import.specs.declared.rows.ImportRow.{ImportRow}
 use Rattle.a429_import.specs.declared.rows.RowNumbers.{RowNumbers}
 use Rattle.a429_import.specs.declared.rows.RowTexts.{RowTexts}
-use Rattle.a429_import.specs.ImportFields.{field_in, if_group, rate_in, interval_in, label_in, sdi_in, hold_in, text_in, filters_in}
+use Rattle.a429_import.specs.ImportFields.{field_in, if_group, rate_in, label_in, sdi_in, hold_in, text_in, filters_in}
+use Rattle.a429_import.specs.declared.intervals.IntervalForm.{IntervalForm}
+use Rattle.a429_import.specs.ImportIntervals.{form_named, in_micros, interval_in, states_interval}
 use Rattle.a429_import.specs.declared.firsts.Part.TheVariants.{Sources}
 use Rattle.a429_import.specs.ImportTables.{has_group, is_known}
-use Rattle.a429_import.specs.ImportWords.{is_text}
+use Rattle.a429_import.specs.ImportWords.{same_heading}
 
 -- ---- columns
 
@@ -43,21 +45,9 @@ is_needed _ = true
 abbrev pub import_columns : List ImportColumn
 import_columns = Group ∷ Rate ∷ Source ∷ Receiver ∷ Label ∷ Sdi ∷ MinUs ∷ MaxUs ∷ Hold ∷ Filters ∷ []
 
--- the two names of an interval in milliseconds
-abbrev pub is_in_millis : ImportColumn → List ℕ → Bool
-is_in_millis MinUs field = is_text (codes "min_ms") field || is_text (codes "min ms") field
-is_in_millis MaxUs field = is_text (codes "max_ms") field || is_text (codes "max ms") field
-is_in_millis _ field = false
-
--- a name with a space for its underline
-abbrev pub is_spaced : ImportColumn → List ℕ → Bool
-is_spaced MinUs field = is_text (codes "min us") field
-is_spaced MaxUs field = is_text (codes "max us") field
-is_spaced _ field = false
-
 -- a field of the heading is a name of a column, in any case
 unfoldable pub is_named : ImportColumn → List ℕ → Bool
-is_named column field = is_text (column_name column) field || (is_spaced column field || is_in_millis column field)
+is_named column field = same_heading (column_name column) field || states_interval column field
 
 -- a name is that of a column
 abbrev pub is_column : List ℕ → Bool
@@ -79,9 +69,9 @@ wrong_column heading = find (is_wrong heading) import_columns
 unfoldable pub column_field : List (List ℕ) → List (List ℕ) → ImportColumn → List ℕ
 column_field heading fields column = option_map_or (λ place. field_in place fields) (position (is_named column) heading) []
 
--- the column of an interval is in milliseconds
-unfoldable pub is_column_in_millis : List (List ℕ) → ImportColumn → Bool
-is_column_in_millis heading column = option_map_or (λ place. is_in_millis column (field_in place heading)) (position (is_named column) heading) false
+-- how the column of an interval states it
+unfoldable pub column_form : List (List ℕ) → ImportColumn → IntervalForm
+column_form heading column = option_map_or (λ place. form_named column (field_in place heading)) (position (is_named column) heading) in_micros
 
 -- ---- a row by itself
 
@@ -102,9 +92,14 @@ names_group heading fields = not (length (column_field heading fields Group) == 
 abbrev pub output_at : {A : Type 0} → (List ℕ → Option A) → A → List (List ℕ) → List (List ℕ) → ImportColumn → Result A ImportColumn
 output_at read nothing heading fields column = stated_at (if_group (names_group heading fields) read nothing) heading fields column
 
--- an interval, in the unit of its column
+-- the minimum of an interval
+abbrev pub is_least : ImportColumn → Bool
+is_least MinUs = true
+is_least _ = false
+
+-- a limit of an interval, in the form of its column
 abbrev pub interval_at : ℕ → List (List ℕ) → List (List ℕ) → ImportColumn → Result ℕ ImportColumn
-interval_at separator heading fields column = output_at (interval_in (is_column_in_millis heading column) separator) 0 heading fields column
+interval_at separator heading fields column = output_at (interval_in (is_least column) (column_form heading column) separator) 0 heading fields column
 
 -- the numbers of a row, or the first column with a wrong form; those of an output are 0 if the row names no group
 unfoldable pub numbers_of : ℕ → List (List ℕ) → List (List ℕ) → Result RowNumbers ImportColumn

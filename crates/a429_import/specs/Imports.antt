@@ -1,7 +1,6 @@
 -- What is imported from a text of comma-separated values: a table, or why there is none (profile: import).
-use Rattle.std.specs.Prelude.{◌≡◌, ◌==◌, ◌||◌, ℕ, Bool, true, false, not, List, filter, if◌then◌else◌, is_some, length, map, nat_lt, Option, None, Some, Result, Ok, Err, Vec}
+use Rattle.std.specs.Prelude.{◌≡◌, ◌==◌, ◌||◌, ℕ, Bool, true, false, not, List, filter, if◌then◌else◌, is_some, length, map, nat_lt, Option, None, Some, Result, Ok, Err}
 use Rattle.std.specs.List.{AllByRecursion, list_any}
-use Rattle.std.specs.declared.alloc.Global.{Global}
 use Rattle.csv.specs.Reading.{AreRecords, default_config, records, strip_bom}
 use Rattle.csv.specs.Records.{fields_of}
 use Rattle.csv.specs.declared.parser.Config.{Config}
@@ -12,6 +11,7 @@ use Rattle.a429_table.specs.Faults.{faults, first}
 use Rattle.a429_table.specs.Reading.{reading}
 use Rattle.a429_import.specs.declared.fault.CsvFaultKind.TheVariants.{Form}
 use Rattle.a429_import.specs.declared.import.Imported.{Imported}
+use Rattle.a429_import.specs.declared.import.MadeTable.{MadeTable}
 use Rattle.a429_import.specs.declared.import.ImportOptions.{ImportOptions}
 use Rattle.a429_import.specs.declared.fault.ImportFault.{ImportFault}
 use Rattle.a429_import.specs.declared.fault.ImportFault.TheVariants.{NoMemory, Csv, Wide, Table}
@@ -23,6 +23,7 @@ use Rattle.a429_import.specs.ImportMaps.{AreNamedBy}
 use Rattle.a429_import.specs.ImportQuotes.{has_wrong_quotes, text_before}
 use Rattle.a429_import.specs.ImportRows.{CsvFault, note_count, rows_stated}
 use Rattle.a429_import.specs.ImportTables.{root_members, record_stated}
+use Rattle.a429_import.specs.ImportWords.{trimmed}
 use Rattle.a429_import.specs.ImportLimits.{limit_fault}
 use Rattle.a429_import.specs.FilledLines.{AreFilledBelow}
 use Rattle.a429_import.specs.KeyedLines.{AreKeyed}
@@ -48,11 +49,13 @@ is_filled field = not (length field == 0)
 abbrev pub has_text : List (List ℕ) → Bool
 has_text fields = list_any is_filled fields
 
--- the rows of a text from its heading on, as the library `csv` reads them, each with its line and its separator; without the rows whose fields
--- are all empty
+-- the rows of a text from its heading on, as the library `csv` reads them, each with its line and its separator; without blanks round fields, and
+-- without the rows whose fields are all empty
 pub record AreLines (maps : List (List ℕ)) (text : List ℕ) (lines : List CsvLine) : Type 0 where
   pub all : List CsvLine
-  pub records : AreRecords (separated (separator_in maps text)) st.StartRecord (strip_bom (from_heading maps text)) (map (λ l. fields_of l.fields) all)
+  pub rows : List (List (List ℕ))
+  pub records : AreRecords (separated (separator_in maps text)) st.StartRecord (strip_bom (from_heading maps text)) rows
+  pub fields : map (λ l. fields_of l.fields) all ≡ map (map trimmed) rows
   pub separators : AllByRecursion (λ l. l.separator ≡ separator_in maps text) all
   pub filled : lines ≡ filter (λ l. has_text (fields_of l.fields)) all
 
@@ -84,10 +87,15 @@ is_misquoted_text maps text = has_wrong_quotes (separated (separator_in maps tex
 abbrev pub has_row_above : List (List ℕ) → List ℕ → Bool
 has_row_above maps text = has_data_above (separated (separator_in maps text)) maps (from_heading maps text) text
 
+-- the table that is imported
+abbrev pub table_made : Imported → MadeTable
+table_made imported = record { text = imported.text; equipment = imported.equipment }
+
 -- the import of lines: the text is read as the record of the rows, and the notes are counted; a table is refused for its first fault
 abbrev pub IsImportOf : List CsvLine → Result Imported ImportFault → Type 0
 IsImportOf lines (Ok imported) =
     (rows : List ImportRow) × (rows_stated lines ≡ Ok rows) × (reading imported.text.items ≡ Ok (record_stated rows)) × (imported.notes ≡ note_count lines)
+    × (imported.equipment ≡ record_stated rows)
 IsImportOf lines (Err NoMemory) = Unit {0}
 IsImportOf lines (Err (Csv line kind column)) = rows_stated lines ≡ Err (line, kind, column)
 IsImportOf lines (Err (Wide line)) = ⊥
@@ -96,8 +104,8 @@ IsImportOf lines (Err (Table (fault.At kind place))) =
     (rows : List ImportRow) × (rows_stated lines ≡ Ok rows) × (first (faults (table (root_members rows))) ≡ Some (kind, place))
 
 -- a table is read as the record of rows; it is refused for its first fault
-abbrev pub IsTableOf : List ImportRow → Result (Vec ℕ Global) ImportFault → Type 0
-IsTableOf rows (Ok text) = reading text.items ≡ Ok (record_stated rows)
+abbrev pub IsTableOf : List ImportRow → Result MadeTable ImportFault → Type 0
+IsTableOf rows (Ok made) = (reading made.text.items ≡ Ok (record_stated rows)) × (made.equipment ≡ record_stated rows)
 IsTableOf rows (Err NoMemory) = Unit {0}
 IsTableOf rows (Err (Table (fault.At kind place))) = first (faults (table (root_members rows))) ≡ Some (kind, place)
 IsTableOf rows (Err _) = ⊥
@@ -108,13 +116,13 @@ rows_by false rows = rows
 rows_by true rows = if is_some (limit_fault rows) then rows else all_renamed rows
 
 -- the table of rows, with names if the flag is set
-abbrev pub IsTableBy : Bool → List ImportRow → Result (Vec ℕ Global) ImportFault → Type 0
+abbrev pub IsTableBy : Bool → List ImportRow → Result MadeTable ImportFault → Type 0
 IsTableBy makes_names rows result = IsTableOf (rows_by makes_names rows) result
 
 -- the same, of the rows that lines state
 abbrev pub IsNamedImport : List CsvLine → Result Imported ImportFault → Type 0
 IsNamedImport lines (Ok imported) =
-    (rows : List ImportRow) × (rows_stated lines ≡ Ok rows) × IsTableBy true rows (Ok imported.text) × (imported.notes ≡ note_count lines)
+    (rows : List ImportRow) × (rows_stated lines ≡ Ok rows) × IsTableBy true rows (Ok (table_made imported)) × (imported.notes ≡ note_count lines)
 IsNamedImport lines (Err NoMemory) = Unit {0}
 IsNamedImport lines (Err (Csv line kind column)) = rows_stated lines ≡ Err (line, kind, column)
 IsNamedImport lines (Err (Wide line)) = ⊥

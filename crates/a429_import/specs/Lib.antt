@@ -1,5 +1,6 @@
 pub mod ImportWords
 pub mod ImportFields
+pub mod ImportIntervals
 pub mod ImportRows
 pub mod ImportMaps
 pub mod ImportForms
@@ -16,6 +17,7 @@ pub mod FilledLines
 pub mod KeyedLines
 pub mod Renamed
 pub mod NumberRanges
+pub mod PrintedTables
 pub mod Imports
 pub mod ImportWidths
 pub mod ImportedRows
@@ -25,6 +27,5 @@ pub mod ImportLimits
 pub mod ImportReading
 pub mod RenamedReading
 pub mod FilledReading
-pub mod SameTables
 pub mod Names
 pub mod Known

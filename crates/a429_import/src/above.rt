@@ -29,7 +29,7 @@ fn first_line(
 {
     match rows.next() {
         Some(row) => {
-            let line = line_of(form, &mut LineCount::new(), row)?;
+            let line = line_of(alloc, form, &mut LineCount::new(), row)?;
             Ok(line)
         }
         None => Ok(CsvLine {
@@ -74,6 +74,7 @@ fn found_at(found: Option<u64>, heading: &Heading, row: &CsvLine) -> Option<u64>
 
 /// The line on which the first row of data of a text begins. Error: an allocation failed.
 fn data_line(
+    alloc: Global,
     heading: &Heading,
     form: Form<'_>,
     rows: &mut ByteRecordsIntoIter<&[u8]>,
@@ -86,7 +87,7 @@ fn data_line(
     let mut count = LineCount::new();
     let mut found = None;
     for row in rows {
-        let line = line_of(form, &mut count, row)?;
+        let line = line_of(alloc, form, &mut count, row)?;
         found = found_at(found, heading, &line);
     }
     Ok(found)
@@ -109,7 +110,7 @@ pub fn line_above(
         text: text_before(form.text, text),
     };
     let mut rows = rows_of(alloc, above);
-    let line = data_line(&heading, above, &mut rows);
+    let line = data_line(alloc, &heading, above, &mut rows);
     // One call each, instead of a drop of each of its parts.
     std::mem::drop(rows);
     std::mem::drop(heading);

@@ -6,11 +6,12 @@ ghost use Rattle.a429_import.specs.declared.fault.ImportColumn.{ImportColumn};
 ghost use Rattle.a429_import.specs.declared.fault.ImportColumn.TheVariants.{MaxUs, MinUs};
 ghost use Rattle.a429_import.specs.ImportFields.{field_in};
 ghost use Rattle.a429_import.specs.ImportColumns.{place_in};
-ghost use Rattle.a429_import.specs.ImportRows.{column_field, is_column, is_column_in_millis, is_in_millis, is_named, is_spaced, is_wrong, times, wrong_column};
+ghost use Rattle.a429_import.specs.ImportRows.{column_field, column_form, is_column, is_named, is_wrong, times, wrong_column};
 
 use crate::fault::ImportColumn;
+use crate::intervals::{IntervalForm, IntervalUnit, form_named, states_interval};
 use crate::lines::CsvLine;
-use crate::plain::is_text;
+use crate::plain::same_heading;
 
 /// All columns, in the order in which they are looked for.
 pub const COLUMNS: [ImportColumn; 10] = [
@@ -26,35 +27,13 @@ pub const COLUMNS: [ImportColumn; 10] = [
     ImportColumn::Filters,
 ];
 
-/// Whether a name is one for an interval in milliseconds.
-pub fn is_in_millis(column: ImportColumn, name: &[u8]) -> bool
-    ensures { result ≡ is_in_millis column name.now }
-{
-    match column {
-        ImportColumn::MinUs => is_text("min_ms", name) || is_text("min ms", name),
-        ImportColumn::MaxUs => is_text("max_ms", name) || is_text("max ms", name),
-        _ => false,
-    }
-}
-
-/// Whether a name has a space for its underline.
-fn is_spaced(column: ImportColumn, name: &[u8]) -> bool
-    ensures { result ≡ is_spaced column name.now }
-{
-    match column {
-        ImportColumn::MinUs => is_text("min us", name),
-        ImportColumn::MaxUs => is_text("max us", name),
-        _ => false,
-    }
-}
-
-/// Whether a name is one of a column: in any case, with spaces for underlines, and for an interval in milliseconds or in
-/// microseconds.
+/// Whether a name is one of a column: in any case, with blanks and line breaks for underlines. An interval has several
+/// names, by its unit. Those of both limits name the columns of both.
 #[tactic(auto, unfolding(crate::specs::ImportRows::is_named))]
 pub fn is_named(column: ImportColumn, name: &[u8]) -> bool
     ensures { result ≡ is_named column name.now }
 {
-    is_text(column.name(), name) || is_spaced(column, name) || is_in_millis(column, name)
+    same_heading(column.name().as_bytes(), name) || states_interval(column, name)
 }
 
 /// Whether one of these columns has a name.
@@ -128,14 +107,17 @@ fn place_of(heading: &CsvLine, column: ImportColumn) -> Option<usize>
     None
 }
 
-/// Whether the column of an interval is in milliseconds.
-#[tactic(auto, unfolding(crate::specs::ImportRows::is_column_in_millis))]
-fn has_millis(heading: &CsvLine, column: ImportColumn) -> bool
-    ensures { result ≡ is_column_in_millis (fields_of heading.now.fields) column }
+/// How the column of an interval states it; in microseconds if the heading lacks it.
+#[tactic(auto, unfolding(crate::specs::ImportRows::column_form))]
+fn column_form(heading: &CsvLine, column: ImportColumn) -> IntervalForm
+    ensures { result ≡ column_form (fields_of heading.now.fields) column }
 {
     match place_of(heading, column) {
-        Some(place) => is_in_millis(column, heading.field(place)),
-        None => false,
+        Some(place) => form_named(column, heading.field(place)),
+        None => IntervalForm {
+            unit: IntervalUnit::Micros,
+            has_both: false,
+        },
     }
 }
 
@@ -197,11 +179,11 @@ fn places_of(heading: &CsvLine) -> Places
 pub struct Heading {
     pub line: CsvLine,
     places: Places,
-    pub is_min_in_millis: bool,
-    pub is_max_in_millis: bool,
+    pub min_form: IntervalForm,
+    pub max_form: IntervalForm,
     ghost of_places: { (column : ImportColumn) → place_in places column ≡ position (is_named column) (fields_of line.fields) },
-    ghost of_min: { is_min_in_millis ≡ is_column_in_millis (fields_of line.fields) MinUs },
-    ghost of_max: { is_max_in_millis ≡ is_column_in_millis (fields_of line.fields) MaxUs },
+    ghost of_min: { min_form ≡ column_form (fields_of line.fields) MinUs },
+    ghost of_max: { max_form ≡ column_form (fields_of line.fields) MaxUs },
 }
 
 impl Heading {
@@ -210,13 +192,13 @@ impl Heading {
         ensures { result.line ≡ line }
     {
         let places = places_of(&line);
-        let is_min_in_millis = has_millis(&line, ImportColumn::MinUs);
-        let is_max_in_millis = has_millis(&line, ImportColumn::MaxUs);
+        let min_form = column_form(&line, ImportColumn::MinUs);
+        let max_form = column_form(&line, ImportColumn::MaxUs);
         Heading {
             line,
             places,
-            is_min_in_millis,
-            is_max_in_millis,
+            min_form,
+            max_form,
         }
     }
 

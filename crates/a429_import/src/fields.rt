@@ -3,7 +3,7 @@ ghost use Rattle.std.specs.Prelude.{◌≡◌, ◌∷◌, [], ◌<◌, ◌==◌,
 ghost use Rattle.std.specs.Char.{is_ascii_digit};
 ghost use Rattle.std.specs.List.{list_all};
 ghost use Rattle.a429_filter.specs.FilterTexts.{filter_read};
-ghost use Rattle.a429_import.specs.ImportFields.{are_filters, are_micros, digit_of, filters_in, has_thousands, hold_in, if_group, interval_in, is_any, is_bit, is_mark, label_in, may_be_thousands, micros_in, millis_in, number_in, padded, sdi_digits, sdi_in, sdi_or_any, text_in, together, utf8_in};
+ghost use Rattle.a429_import.specs.ImportFields.{are_filters, are_micros, digit_of, filters_in, has_thousands, hold_in, if_group, is_any, is_bit, is_mark, label_in, may_be_thousands, micros_in, millis_in, number_in, padded, sdi_digits, sdi_in, sdi_or_any, text_in, together, utf8_in};
 ghost use Rattle.a429_word.specs.Texts.{label_value};
 
 use crate::plain::{is_text, unwrapped};
@@ -133,17 +133,6 @@ pub fn millis_in(separator: u8, field: &[u8]) -> Option<u32>
                 micros_in(&field[mark + 1..]),
             )
         }
-    }
-}
-
-/// The interval in a field, in microseconds. The column may be in milliseconds. `None` for a field of another form.
-fn interval_in(in_millis: bool, separator: u8, field: &[u8]) -> Option<u32>
-    ensures { result ≡ interval_in in_millis separator field.now }
-{
-    if in_millis {
-        millis_in(separator, field)
-    } else {
-        number_in(field)
     }
 }
 
@@ -298,20 +287,6 @@ pub fn filters_in(field: &[u8]) -> Option<&str>
 {
     let text = text_in(field)?;
     if are_filters(text) { Some(text) } else { None }
-}
-
-/// An interval of a row, in microseconds. Of a row without a group it is 0. `None` if the field states no interval, or is
-/// not empty in a row without a group.
-pub fn interval_of(names_group: bool, in_millis: bool, separator: u8, field: &[u8]) -> Option<u32>
-    ensures { result ≡ if_group names_group (interval_in in_millis separator) 0 field.now }
-{
-    if names_group {
-        interval_in(in_millis, separator, field)
-    } else if field.is_empty() {
-        Some(0)
-    } else {
-        None
-    }
 }
 
 /// The hold of a row. `Some(Some(n))`: the row has a group, and its field is the number n. `Some(None)`: there is no

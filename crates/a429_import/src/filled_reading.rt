@@ -4,12 +4,14 @@ ghost use Rattle.csv.specs.Records.{fields_of};
 ghost use Rattle.a429_import.specs.declared.import.ImportOptions.{ImportOptions};
 ghost use Rattle.a429_import.specs.declared.lines.CsvLine.{CsvLine};
 ghost use Rattle.a429_import.specs.FilledReading.{FilledBelow, HasFilled, IsReadFilled};
+ghost use Rattle.a429_import.specs.RenamedReading.{IsReadBy};
 
 use crate::filled_lines::filled_line;
 use crate::import::ImportOptions;
 use crate::keyed_reading::take_by;
 use crate::lines::CsvLine;
 use crate::reading::LinesRead;
+use crate::refused::{RefusedRows, before_line, copy_of_line};
 use csv::ByteRecord;
 use std::alloc::{AllocError, Global};
 
@@ -27,6 +29,8 @@ pub struct Filler {
 pub struct SheetRead {
     pub filler: Filler,
     pub lines: LinesRead,
+    /// What a hint needs if the sheet is refused.
+    pub refused: RefusedRows,
 }
 
 impl Filler {
@@ -50,8 +54,27 @@ impl SheetRead {
         Ok(SheetRead {
             filler: Filler::new(alloc),
             lines: LinesRead::new(alloc, chains)?,
+            refused: RefusedRows::new(alloc),
         })
     }
+}
+
+/// Takes one more line, and notes it for a person. Error: an allocation failed.
+fn take_noted(
+    alloc: Global,
+    makes_names: bool,
+    read: &mut LinesRead,
+    refused: &mut RefusedRows,
+    line: CsvLine,
+) -> Result<(), AllocError>
+    requires { (lines : List CsvLine) × IsReadBy makes_names read.old lines }
+    ensures { OnOk result ((all : List CsvLine) → IsReadBy makes_names read.old all → IsReadBy makes_names read.new (all ++ line ∷ [])) }
+{
+    let before = before_line(read);
+    let copy = copy_of_line(&line)?;
+    take_by(alloc, makes_names, read, line)?;
+    refused.note(read, before, copy)?;
+    Ok(())
 }
 
 /// Takes one more line below the heading, filled from the line above it. Error: an allocation failed.
@@ -61,6 +84,7 @@ fn take_below(
     above: &mut ByteRecord,
     makes_names: bool,
     read: &mut LinesRead,
+    refused: &mut RefusedRows,
     line: &CsvLine,
 ) -> Result<(), AllocError>
     requires { (lines : List CsvLine) × FilledBelow (fields_of heading.now) (fields_of above.old) makes_names read.old lines }
@@ -70,7 +94,7 @@ fn take_below(
     let filled = filled_line(alloc, heading, above, line)?;
     let fields = filled.fields.clone()?;
     *above = fields;
-    take_by(alloc, makes_names, read, filled)?;
+    take_noted(alloc, makes_names, read, refused, filled)?;
     Ok(())
 }
 
@@ -80,6 +104,7 @@ fn take_filled(
     filler: &mut Filler,
     makes_names: bool,
     read: &mut LinesRead,
+    refused: &mut RefusedRows,
     line: CsvLine,
 ) -> Result<(), AllocError>
     requires { (lines : List CsvLine) × HasFilled filler.old.heading (fields_of filler.old.above) makes_names read.old lines }
@@ -90,11 +115,19 @@ fn take_filled(
         None => {
             let heading = line.fields.clone()?;
             filler.heading = Some(heading);
-            take_by(alloc, makes_names, read, line)?;
+            take_noted(alloc, makes_names, read, refused, line)?;
             Ok(())
         }
         Some(heading) => {
-            take_below(alloc, heading, &mut filler.above, makes_names, read, &line)?;
+            take_below(
+                alloc,
+                heading,
+                &mut filler.above,
+                makes_names,
+                read,
+                refused,
+                &line,
+            )?;
             Ok(())
         }
     }
@@ -116,8 +149,15 @@ pub fn take_filled_by(
             &mut read.filler,
             options.makes_names,
             &mut read.lines,
+            &mut read.refused,
             line,
         );
     }
-    take_by(alloc, options.makes_names, &mut read.lines, line)
+    take_noted(
+        alloc,
+        options.makes_names,
+        &mut read.lines,
+        &mut read.refused,
+        line,
+    )
 }

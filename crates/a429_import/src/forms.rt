@@ -5,6 +5,7 @@ ghost use Rattle.a429_import.specs.ImportForms.{count_before, ends_line, first_l
 ghost use Rattle.a429_import.specs.ImportMaps.{given_texts};
 ghost use Rattle.a429_import.specs.ImportQuotes.{text_before};
 
+use crate::blanks::trimmed;
 use crate::maps::names_column_by;
 use crate::plain::unquoted;
 
@@ -57,7 +58,7 @@ fn ends_len(text: &[u8]) -> usize
 }
 
 /// The bytes from a place on; none if there are fewer.
-fn from_place(text: &[u8], place: usize) -> &[u8]
+pub fn from_place(text: &[u8], place: usize) -> &[u8]
     ensures { result.now ≡ drop place text.now }
 {
     if place <= text.len() {
@@ -97,7 +98,7 @@ fn later_lines(text: &[u8]) -> &[u8]
 fn names_column(maps: &[&str], field: &[u8]) -> bool
     ensures { result ≡ names_column (given_texts maps.now) field.now }
 {
-    names_column_by(maps, unquoted(field))
+    names_column_by(maps, trimmed(unquoted(field)))
 }
 
 /// The place of the first such byte.

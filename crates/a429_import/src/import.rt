@@ -12,10 +12,9 @@ ghost use Rattle.a429_import.specs.Imports.{IsImport, IsImportFrom, IsTableBy, I
 ghost use Rattle.a429_import.specs.Known.{Knows};
 ghost use Rattle.a429_import.specs.NumberRanges.{HaveRanges};
 ghost use Rattle.a429_import.specs.Renamed.{all_renamed};
-ghost use Rattle.a429_import.specs.RenamedReading.{AreWhole};
 
 use crate::above::line_above;
-use crate::comments::{MadeOf, with_texts};
+use crate::comments::{Comments, MadeOf};
 use crate::fault::{CsvFaultKind, ImportColumn, ImportFault};
 use crate::filled_reading::SheetRead;
 use crate::forms::{Form, form_of};
@@ -23,11 +22,13 @@ use crate::known::Known;
 use crate::limits::limit_fault;
 use crate::quotes::misquoted_line_of;
 use crate::reading::{LinesRead, RowsRead, wrong_heading};
+use crate::refused::{RefusedRows, misquoted_rows, titled_rows};
 use crate::renamed::{all_names, all_renamed};
 use crate::rows::ImportRow;
 use crate::tables::table_text;
 use crate::text_reading::read_lines;
 use crate::widths::wide_line;
+use a429_equipment::Equipment;
 use a429_table::{TableFault, read_equipment};
 use std::alloc::{AllocError, Global};
 
@@ -45,12 +46,26 @@ pub struct ImportOptions {
 pub struct Imported {
     /// The table as TOML of version 2.
     pub text: Vec<u8>,
+    /// The equipment that the text states.
+    pub equipment: Equipment,
     /// The number of rows that are notes: those below the last one that has a label.
     pub notes: usize,
 }
 
-/// The table that rows describe.
-fn table_of_rows(alloc: Global, read: &RowsRead) -> Result<Vec<u8>, ImportFault>
+/// An equipment table.
+#[derive(Drop)]
+struct MadeTable {
+    text: Vec<u8>,
+    /// What the text states.
+    equipment: Equipment,
+}
+
+/// The table that rows describe, with comments.
+fn table_of_rows(
+    alloc: Global,
+    comments: Comments<'_>,
+    read: &RowsRead,
+) -> Result<MadeTable, ImportFault>
     requires { (rows : List ImportRow) × HasRows read.now rows }
     ensures { (rows : List ImportRow) → HasRows read.now rows → HaveRanges rows → IsTableOf rows result }
 {
@@ -58,25 +73,13 @@ fn table_of_rows(alloc: Global, read: &RowsRead) -> Result<Vec<u8>, ImportFault>
         Some((kind, place)) => return Err(ImportFault::Table(TableFault::At(kind, place))),
         None => {}
     }
-    let text = table_text(alloc, &read.known, &read.kept)?;
+    let text = table_text(alloc, comments, &read.known, &read.kept)?;
     match read_equipment(alloc, text.as_str().as_bytes()) {
-        Ok(_) => Ok(text.into_bytes()),
+        Ok(equipment) => Ok(MadeTable {
+            text: text.into_bytes(),
+            equipment,
+        }),
         Err(fault) => Err(ImportFault::from(fault)),
-    }
-}
-
-/// The table that rows describe, with the texts that their names are made of as comments.
-fn commented_table(alloc: Global, made: MadeOf<'_>, read: &RowsRead) -> Result<Vec<u8>, ImportFault>
-    requires names { AreWhole made.names.now }
-    requires rows { (rows : List ImportRow) × HasRows read.now rows }
-    ensures { (rows : List ImportRow) → HasRows read.now rows → HaveRanges rows → IsTableOf rows result }
-{
-    match table_of_rows(alloc, read) {
-        Ok(text) => match with_texts(alloc, made, text) {
-            Ok(table) => Ok(table),
-            Err(_) => Err(ImportFault::NoMemory),
-        },
-        Err(fault) => Err(fault),
     }
 }
 
@@ -85,22 +88,20 @@ fn table_with_names(
     alloc: Global,
     known: &Known,
     rows: &[ImportRow],
-) -> Result<Vec<u8>, ImportFault>
+) -> Result<MadeTable, ImportFault>
     requires { Knows known.now rows.now }
     ensures { HaveRanges rows.now → IsTableOf (all_renamed rows.now) result }
 {
     let names = all_names(alloc, known, rows)?;
     let read = all_renamed(alloc, known, &names, rows)?;
-    let made = MadeOf {
-        names: &names,
-        known,
-        rows,
+    let comments = Comments {
+        made_of: Some(MadeOf { known, rows }),
     };
-    commented_table(alloc, made, &read)
+    table_of_rows(alloc, comments, &read)
 }
 
 /// The table that rows describe with names, unless it has too much of something.
-fn named_table(alloc: Global, read: &RowsRead) -> Result<Vec<u8>, ImportFault>
+fn named_table(alloc: Global, read: &RowsRead) -> Result<MadeTable, ImportFault>
     requires { (rows : List ImportRow) × HasRows read.now rows }
     ensures { (rows : List ImportRow) → HasRows read.now rows → HaveRanges rows → IsTableBy true rows result }
 {
@@ -111,14 +112,14 @@ fn named_table(alloc: Global, read: &RowsRead) -> Result<Vec<u8>, ImportFault>
 }
 
 /// The table that rows describe, with names if the flag is set.
-fn table_by(alloc: Global, makes_names: bool, read: &RowsRead) -> Result<Vec<u8>, ImportFault>
+fn table_by(alloc: Global, makes_names: bool, read: &RowsRead) -> Result<MadeTable, ImportFault>
     requires { (rows : List ImportRow) × HasRows read.now rows }
     ensures { (rows : List ImportRow) → HasRows read.now rows → HaveRanges rows → IsTableBy makes_names rows result }
 {
     if makes_names {
         named_table(alloc, read)
     } else {
-        table_of_rows(alloc, read)
+        table_of_rows(alloc, Comments { made_of: None }, read)
     }
 }
 
@@ -134,8 +135,9 @@ fn table_below_heading(
     match &read.heading {
         None => Err(wrong_heading(1, ImportColumn::Group)),
         Some(_heading) => match table_by(alloc, makes_names, &read.rows) {
-            Ok(text) => Ok(Imported {
+            Ok(MadeTable { text, equipment }) => Ok(Imported {
                 text,
+                equipment,
                 notes: read.notes.len(),
             }),
             Err(fault) => Err(fault),
@@ -176,13 +178,26 @@ fn read_table(
     table_of_lines(alloc, options.makes_names, &mut read.lines)
 }
 
-/// The table that a text of this form describes, if no fault comes before those of its rows.
+/// Keeps what a hint needs of a refused sheet.
+fn keep_refused(refused: &mut Option<RefusedRows>, read: SheetRead) {
+    let SheetRead {
+        lines,
+        refused: rows,
+        ..
+    } = read;
+    let LinesRead { heading, .. } = lines;
+    *refused = Some(rows.ended(heading));
+}
+
+/// The table that a text of this form describes, if no fault comes before those of its rows. If the rows are refused,
+/// `refused` gets them.
 fn table_of_text(
     alloc: Global,
     maps: &[&str],
     options: ImportOptions,
     text: &[u8],
     form: Form<'_>,
+    refused: &mut Option<RefusedRows>,
 ) -> Result<Imported, ImportFault>
     requires separator { form.separator ≡ separator_in (given_texts maps.now) text.now }
     requires text { form.text.now ≡ from_heading (given_texts maps.now) text.now }
@@ -191,8 +206,7 @@ fn table_of_text(
     // A row with a new name has 11 bytes. So a chain has 12 names on average at most.
     let mut read = SheetRead::new(alloc, text.len() / 128)?;
     let table = read_table(alloc, maps, options, text, form, &mut read);
-    // One call, instead of a drop of each of its parts.
-    std::mem::drop(read);
+    keep_refused(refused, read);
     table
 }
 
@@ -214,13 +228,24 @@ fn unfit_line(
     maps: &[&str],
     text: &[u8],
     form: Form<'_>,
+    refused: &mut Option<RefusedRows>,
 ) -> Result<Option<u64>, AllocError>
     ensures { IfOk result (λ line. is_some line ≡ (has_wrong_quotes (separated form.entry.separator) form.entry.text.now text.now
         || has_data_above (separated form.entry.separator) (given_texts maps.now) form.entry.text.now text.now)) }
 {
     match misquoted_line_of(text, form) {
-        Some(line) => Ok(Some(line)),
-        None => line_above(alloc, maps, text, form),
+        Some(line) => {
+            *refused = Some(misquoted_rows(alloc));
+            Ok(Some(line))
+        }
+        None => {
+            let above = line_above(alloc, maps, text, form)?;
+            if above.is_some() {
+                let rows = titled_rows(alloc, text, form)?;
+                *refused = Some(rows);
+            }
+            Ok(above)
+        }
     }
 }
 
@@ -230,6 +255,7 @@ fn text_fault(
     maps: &[&str],
     text: &[u8],
     form: Form<'_>,
+    refused: &mut Option<RefusedRows>,
 ) -> Result<Option<ImportFault>, AllocError>
     requires separator { form.separator ≡ separator_in (given_texts maps.now) text.now }
     requires text { form.text.now ≡ from_heading (given_texts maps.now) text.now }
@@ -237,7 +263,7 @@ fn text_fault(
 {
     match wide_line(text, form) {
         Some(line) => Ok(Some(ImportFault::Wide { line })),
-        None => match unfit_line(alloc, maps, text, form)? {
+        None => match unfit_line(alloc, maps, text, form, refused)? {
             Some(line) => Ok(Some(wrong_form(line))),
             None => Ok(None),
         },
@@ -269,9 +295,24 @@ pub fn import_table(
 ) -> Result<Imported, ImportFault>
     ensures { IsImport (given_texts maps.now) options bytes.now result }
 {
+    let mut unused = None;
+    import_or_keep(alloc, maps, options, bytes, &mut unused)
+}
+
+/// The table of `import_table`. If the rows are refused, `refused` gets those that a hint needs. Error: that of
+/// `import_table`.
+pub fn import_or_keep(
+    alloc: Global,
+    maps: &[&str],
+    options: ImportOptions,
+    bytes: &[u8],
+    refused: &mut Option<RefusedRows>,
+) -> Result<Imported, ImportFault>
+    ensures { IsImport (given_texts maps.now) options bytes.now result }
+{
     let form = form_of(maps, bytes);
-    match text_fault(alloc, maps, bytes, form)? {
+    match text_fault(alloc, maps, bytes, form, refused)? {
         Some(fault) => Err(fault),
-        None => table_of_text(alloc, maps, options, bytes, form),
+        None => table_of_text(alloc, maps, options, bytes, form, refused),
     }
 }

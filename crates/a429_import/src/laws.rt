@@ -1,5 +1,5 @@
 //! What is true of the definitions that the contracts cite.
-ghost use Rattle.a429_import.specs.ImportExamples.{ChoosesNames, FillsFields, MakesNames, PassesNotes, ReadsAbove, ReadsAlone, ReadsFields, ReadsHeadings, ReadsMaps, ReadsMillis, ReadsQuotes, TellsApart};
+ghost use Rattle.a429_import.specs.ImportExamples.{ChoosesNames, FillsFields, MakesNames, PassesNotes, ReadsAbove, ReadsAlone, ReadsFields, ReadsBlanks, ReadsHeadings, ReadsIntervals, ReadsMaps, ReadsMillis, ReadsQuotes, TellsApart};
 ghost use Rattle.a429_import.specs.ImportedRows.{RowsAreInRecord};
 ghost use Rattle.a429_import.specs.Renamed.{NamesAreApart};
 
@@ -10,11 +10,13 @@ pub fn imported_rows_are_in_record()
     ensures { RowsAreInRecord }
 {}
 
-/// What some fields state, some headings, rows with and without a group, made names, wrong quotes, rows above the heading,
-/// notes and fields that are filled: the definitions, by examples.
+/// The definitions, by examples: fields, blanks round them, intervals, headings, rows with and without a group, made names,
+/// wrong quotes, rows above the heading, notes and fields that are filled.
 pub fn forms_are_read_as_written()
     ensures fields { ReadsFields }
     ensures millis { ReadsMillis }
+    ensures intervals { ReadsIntervals }
+    ensures blanks { ReadsBlanks }
     ensures headings { ReadsHeadings }
     ensures maps { ReadsMaps }
     ensures alone { ReadsAlone }

@@ -1,8 +1,9 @@
 //! An equipment table from rows of comma-separated values, as a spreadsheet writes them.
 //!
 //! `import_table` takes a heading with the names of columns, and below it a row for each output, or for a source that no
-//! group sends. It gives an equipment table as TOML. `csv_lines` gives the rows with their lines, and `IMPORT_COLUMNS`
-//! the columns that are read. `made_name` makes a name of a text: `import_table` does so if it is asked to.
+//! group sends. It gives an equipment table as TOML, and the equipment. `import_or_keep` also keeps the rows that a hint is
+//! about. `IMPORT_COLUMNS` has the columns that are read. `made_name` makes a name of a text: `import_table` does so if it
+//! is asked to.
 //!
 //! Errors: an allocation failed, or the rows or their table have a fault. `ImportFault` has the first fault of the rows,
 //! with its line and its column; otherwise the first fault of the table.
@@ -21,6 +22,7 @@
 #![tactic(auto)]
 
 mod above;
+mod blanks;
 mod building;
 mod clashes;
 mod columns;
@@ -32,6 +34,7 @@ mod filled_reading;
 mod firsts;
 mod forms;
 mod import;
+mod intervals;
 mod keyed_lines;
 mod keyed_reading;
 mod known;
@@ -47,9 +50,9 @@ mod plain;
 mod quotes;
 mod rates;
 mod reading;
+mod refused;
 mod renamed;
 mod rows;
-mod same_tables;
 mod short_numbers;
 mod tables;
 mod text_reading;
@@ -60,10 +63,10 @@ mod words;
 pub use columns::{COLUMNS as IMPORT_COLUMNS, Heading, is_column, is_named as is_column_named};
 pub use fault::{CsvFaultKind, ImportColumn, ImportFault};
 pub use fields::{may_be_thousands, millis_in};
-pub use filled_lines::filled_line;
-pub use import::{ImportOptions, Imported, import_table};
-pub use lines::{CsvLine, csv_lines};
+pub use import::{ImportOptions, Imported, import_or_keep, import_table};
+pub use intervals::{IntervalForm, IntervalUnit};
+pub use lines::CsvLine;
 pub use made_names::made_name;
-pub use maps::{column_in, is_met, named_by};
-pub use quotes::misquoted_line;
+pub use maps::{column_in, is_met};
+pub use refused::RefusedRows;
 pub use rows::{RowNumbers, form_fault, row_numbers};

@@ -1,15 +1,14 @@
 //! The rows of a text of comma-separated values.
-ghost use Rattle.std.specs.Prelude.{◌≡◌, ◌++◌, ◌∷◌, ◌<◌, [], filter, IfOk, List, ℕ, OnOk, length, option_map};
-ghost use Rattle.std.specs.Result.{result_ok};
+ghost use Rattle.std.specs.Prelude.{◌≡◌, ◌<◌, [], IfOk, length, map};
 ghost use Rattle.csv.specs.Reading.{owned_rows_left, owned_rows_reader};
 ghost use Rattle.csv.specs.Records.{fields_of};
 ghost use Rattle.a429_import.specs.ImportFields.{field_in};
-ghost use Rattle.a429_import.specs.ImportForms.{from_heading, separator_in};
-ghost use Rattle.a429_import.specs.ImportMaps.{given_texts};
-ghost use Rattle.a429_import.specs.ImportReading.{HasRead};
-ghost use Rattle.a429_import.specs.Imports.{AreLines, has_text, is_filled};
+ghost use Rattle.a429_import.specs.ImportReading.{HasRead, IsReadRow};
+ghost use Rattle.a429_import.specs.Imports.{has_text, is_filled};
+ghost use Rattle.a429_import.specs.ImportWords.{trimmed};
 
-use crate::forms::{Form, form_of, without_mark};
+use crate::blanks::trimmed_row;
+use crate::forms::{Form, without_mark};
 use csv::{ByteRecord, ByteRecordsIntoIter, Error, ReaderBuilder};
 use std::alloc::{AllocError, Global};
 
@@ -151,68 +150,38 @@ pub fn rows_of<'a>(alloc: Global, form: Form<'a>) -> ByteRecordsIntoIter<&'a [u8
     reader.into_byte_records()
 }
 
-/// A line, from what the library `csv` reads. The library refuses no row, so its only error is that an allocation failed.
+/// A line of fields, without blanks round them. Error: an allocation failed.
+fn line_with(
+    alloc: Global,
+    form: Form<'_>,
+    count: &mut LineCount,
+    fields: ByteRecord,
+) -> Result<CsvLine, AllocError>
+    ensures fields { IfOk result (λ line. fields_of line.fields ≡ map trimmed (fields_of fields)) }
+    ensures separator { IfOk result (λ line. line.separator ≡ form.entry.separator) }
+{
+    let number = count.line_of_row(form.text, &fields);
+    let fields = trimmed_row(alloc, fields)?;
+    Ok(CsvLine {
+        number,
+        separator: form.separator,
+        fields,
+    })
+}
+
+/// A line, from what the library `csv` reads, without blanks round its fields. The library refuses no row, so its only error is
+/// that an allocation failed.
 pub fn line_of(
+    alloc: Global,
     form: Form<'_>,
     count: &mut LineCount,
     row: Result<ByteRecord, Error>,
 ) -> Result<CsvLine, AllocError>
-    ensures fields { option_map (λ line. line.fields) (result_ok result) ≡ result_ok row }
+    ensures fields { IfOk result (λ line. IsReadRow (λ fields. fields_of line.fields ≡ map trimmed (fields_of fields)) row) }
     ensures separator { IfOk result (λ line. line.separator ≡ form.entry.separator) }
 {
     match row {
-        Ok(fields) => Ok(CsvLine {
-            number: count.line_of_row(form.text, &fields),
-            separator: form.separator,
-            fields,
-        }),
+        Ok(fields) => line_with(alloc, form, count, fields),
         Err(_) => Err(AllocError),
     }
-}
-
-/// A line after others, unless its fields are all empty. Error: an allocation failed.
-fn push_line(lines: &mut Vec<CsvLine>, line: CsvLine) -> Result<(), AllocError>
-    ensures { OnOk result (lines.new.items ≡ lines.old.items ++ filter (λ l. has_text (fields_of l.fields)) (line ∷ [])) }
-{
-    if line.has_text() {
-        lines.push(line)?;
-    }
-    Ok(())
-}
-
-/// Adds the lines of all rows of a text of this form. Error: an allocation failed.
-fn push_lines(
-    lines: &mut Vec<CsvLine>,
-    text: &[u8],
-    form: Form<'_>,
-    rows: &mut ByteRecordsIntoIter<&[u8]>,
-) -> Result<(), AllocError>
-    requires none { lines.old.items ≡ [] }
-    requires before { HasRead form.separator form.text.now (owned_rows_reader rows.old) [] }
-    requires left { 0 < owned_rows_left rows.old }
-    ensures { OnOk result ((maps : List (List ℕ)) → form.entry.separator ≡ separator_in maps text.now
-        → form.entry.text.now ≡ from_heading maps text.now → AreLines maps text.now lines.new.items) }
-{
-    let mut count = count_before(text, form.text);
-    for row in rows {
-        let line = line_of(form, &mut count, row)?;
-        push_line(lines, line)?;
-    }
-    Ok(())
-}
-
-/// The rows of a text from its heading on, as the library `csv` reads them. A byte order mark, lines above the heading,
-/// empty lines and rows of empty fields are skipped. A carriage return may come before a line feed, and fields may have
-/// quotes. A heading of one of the texts HEADING=COLUMN is the name of a column. Error: an allocation failed.
-pub fn csv_lines(alloc: Global, maps: &[&str], text: &[u8]) -> Result<Vec<CsvLine>, AllocError>
-    ensures { IfOk result (λ lines. AreLines (given_texts maps.now) text.now lines.items) }
-{
-    let form = form_of(maps, text);
-    let mut rows = rows_of(alloc, form);
-    let mut lines = Vec::new(alloc);
-    let done = push_lines(&mut lines, text, form, &mut rows);
-    // One call, instead of a drop of each of its parts.
-    std::mem::drop(rows);
-    done?;
-    Ok(lines)
 }

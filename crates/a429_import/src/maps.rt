@@ -4,31 +4,14 @@ ghost use Rattle.std.specs.List.{find, list_all, list_any};
 ghost use Rattle.csv.specs.Records.{fields_of, partial_of};
 ghost use Rattle.a429_import.specs.declared.lines.CsvLine.{CsvLine};
 ghost use Rattle.a429_import.specs.ImportRows.{is_column};
-ghost use Rattle.a429_import.specs.ImportMaps.{AreNamedBy, IsNamedBy, column_in, is_about, is_met, mapped, names_by, plain, same_heading, given_texts};
+ghost use Rattle.a429_import.specs.ImportMaps.{AreNamedBy, IsNamedBy, column_in, is_about, is_met, mapped, names_by, given_texts};
 
 use crate::columns::is_column;
 use crate::lines::CsvLine;
+use crate::plain::same_heading;
 use a429_text::renames::halves;
 use csv::ByteRecord;
 use std::alloc::{AllocError, Global};
-
-/// A byte of a heading: in any case, and a space for an underline.
-fn plain(byte: u8) -> u8
-    ensures { result ≡ plain byte }
-{
-    if byte == b'_' {
-        b' '
-    } else {
-        byte.to_ascii_lowercase()
-    }
-}
-
-/// Whether two headings are the same: in any case, and with spaces for underlines.
-pub fn same_heading(a: &[u8], b: &[u8]) -> bool
-    ensures { result ≡ same_heading a.now b.now }
-{
-    a.len() == b.len() && a.iter().zip(b).all(|(a, b)| plain(*a) == plain(*b))
-}
 
 /// Whether the HEADING of a text is this field.
 pub fn is_about(field: &[u8], text: &str) -> bool

@@ -5,10 +5,9 @@ ghost use Rattle.csv.specs.Reading.{strip_bom};
 ghost use Rattle.csv.specs.declared.parser.State.TheVariants as st;
 ghost use Rattle.a429_import.specs.ImportQuotes.{breaks_quotes, has_wrong_quotes, is_after_quote, is_in_text, is_inside_quotes, is_misquoted, is_misquoted_from, text_before};
 ghost use Rattle.a429_import.specs.ImportWidths.{state_of};
-ghost use Rattle.a429_import.specs.Imports.{is_misquoted_text, separated};
-ghost use Rattle.a429_import.specs.ImportMaps.{given_texts};
+ghost use Rattle.a429_import.specs.Imports.{separated};
 
-use crate::forms::{Form, form_of, text_before, without_mark};
+use crate::forms::{Form, text_before, without_mark};
 use crate::lines::line_at;
 use crate::widths::{Ended, Part, pass};
 
@@ -114,13 +113,4 @@ pub fn misquoted_line_of(text: &[u8], form: Form<'_>) -> Option<u64>
         Some(line) => Some(line),
         None => line_of_rows(text, form),
     }
-}
-
-/// The line on which the first field begins whose quotes are wrong, counted from 1: the field is not closed, or text follows
-/// the quote that closes it. Above the heading, whose names are read by texts HEADING=COLUMN, the first alone counts. `None`
-/// if there is no such field.
-pub fn misquoted_line(maps: &[&str], text: &[u8]) -> Option<u64>
-    ensures { is_some result ≡ is_misquoted_text (given_texts maps.now) text.now }
-{
-    misquoted_line_of(text, form_of(maps, text))
 }

@@ -31,7 +31,7 @@ const MOST_TEXTS: usize = 256;
 const NUMBERS: u64 = 1000;
 
 /// The text of a row's receiver, source or group; a source has its key.
-fn name_in(part: Part, row: &ImportRow) -> &str
+pub fn name_in(part: Part, row: &ImportRow) -> &str
     ensures { result.now ≡ name_in part row.now }
 {
     match part {

@@ -8,7 +8,8 @@ ghost use Rattle.a429_import.specs.ImportTexts.{row_view, text_view, texts_view}
 
 use crate::columns::Heading;
 use crate::fault::{CsvFaultKind, ImportColumn};
-use crate::fields::{filters_in, hold_of, interval_of, label_in, sdi_in, text_in};
+use crate::fields::{filters_in, hold_of, label_in, sdi_in, text_in};
+use crate::intervals::interval_of;
 use crate::lines::CsvLine;
 use crate::rates::rate_of;
 use a429_word::{Label, Sdi};
@@ -116,20 +117,30 @@ fn least_at(heading: &Heading, line: &CsvLine) -> Result<u32, ImportColumn>
     ensures { result ≡ interval_at line.now.separator (fields_of heading.now.line.fields) (fields_of line.now.fields) ImportColumn.MinUs }
 {
     let field = heading.field_of(line, ImportColumn::MinUs);
-    let in_millis = heading.is_min_in_millis;
-    interval_of(names_group(heading, line), in_millis, line.separator, field).ok_or(
-        ImportColumn::MinUs,
+    let column = ImportColumn::MinUs;
+    interval_of(
+        names_group(heading, line),
+        true,
+        heading.min_form,
+        line.separator,
+        field,
     )
+    .ok_or(column)
 }
 
 fn most_at(heading: &Heading, line: &CsvLine) -> Result<u32, ImportColumn>
     ensures { result ≡ interval_at line.now.separator (fields_of heading.now.line.fields) (fields_of line.now.fields) ImportColumn.MaxUs }
 {
     let field = heading.field_of(line, ImportColumn::MaxUs);
-    let in_millis = heading.is_max_in_millis;
-    interval_of(names_group(heading, line), in_millis, line.separator, field).ok_or(
-        ImportColumn::MaxUs,
+    let column = ImportColumn::MaxUs;
+    interval_of(
+        names_group(heading, line),
+        false,
+        heading.max_form,
+        line.separator,
+        field,
     )
+    .ok_or(column)
 }
 
 fn label_at(heading: &Heading, line: &CsvLine) -> Result<Label, ImportColumn>

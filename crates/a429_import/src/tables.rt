@@ -1,15 +1,18 @@
 //! The equipment table that rows describe, as TOML.
-ghost use Rattle.std.specs.Prelude.{◌≡◌, IfOk, [], ◌∷◌, Some, codes, filter, if◌then◌else◌, map, string_bytes};
+ghost use Rattle.std.specs.Prelude.{◌≡◌, IfOk, List, OnOk, [], ◌∷◌, Some, codes, filter, if◌then◌else◌, map, string_bytes};
 ghost use Rattle.toml.specs.Data.{string};
 ghost use Rattle.toml.specs.View.{table_view, view};
 ghost use Rattle.a429_word.specs.Texts.{octal};
 ghost use Rattle.a429_word.specs.Written.{Gains};
 ghost use Rattle.toml.specs.Parse.{parse_document};
 ghost use Rattle.a429_import.specs.ImportBuilding.{GainsTables, Puts, PutsFilters, PutsHold};
-ghost use Rattle.a429_import.specs.ImportTables.{group_tree, is_stated, is_word, listed, output_tree, part_tree, part_trees, receiver_tree, root_members, rows_of_group, sdi_data, source_tree, words};
+ghost use Rattle.a429_import.specs.declared.rows.ImportRow.{ImportRow};
+ghost use Rattle.a429_import.specs.PrintedTables.{GainsDocument, IsWithTables, PutsEmpty, alone, head_members};
+ghost use Rattle.a429_import.specs.ImportTables.{group_tree, is_stated, is_word, output_tree, part_tree, part_trees, receiver_tree, root_members, rows_of_group, sdi_data, source_tree, words};
 ghost use Rattle.a429_import.specs.Known.{Knows, KnowsFirsts};
 
 use crate::building::{put, put_number, put_text};
+use crate::comments::{Comments, put_above};
 use crate::firsts::Part;
 use crate::known::Known;
 use crate::named_rows::NamedRows;
@@ -194,98 +197,168 @@ fn is_stated(part: Part, row: &ImportRow) -> bool
     }
 }
 
-/// Adds the table of the receiver, the source or the group of a row, if the row states one.
-fn push_stated(
+/// A document with one table at a key. Error: an allocation failed.
+fn table_alone(alloc: Global, key: &str, value: Value) -> Result<Table, AllocError>
+    ensures { IfOk result (λ table. table_view table ≡ alone key.now (view value)) }
+{
+    let mut tables = Vec::new(alloc);
+    tables.push(value)?;
+    let mut table = Table::new(alloc);
+    put(alloc, &mut table, key, Value::Array(tables))?;
+    Ok(table)
+}
+
+/// Writes a document at the end of a text. Error: an allocation failed.
+fn put_document(alloc: Global, shown: &mut String, table: &Table) -> Result<(), AllocError>
+    ensures { GainsDocument result (string_bytes shown.old) (string_bytes shown.new) (table_view table.now) }
+{
+    match toml::table_to_string(alloc, table) {
+        Ok(text) => shown.push_str(text.as_str()),
+        Err(_) => Err(AllocError),
+    }
+}
+
+/// Writes the table of the receiver, the source or the group at a place, below its comments. Error: an allocation failed.
+fn put_table(
     alloc: Global,
-    tables: &mut Vec<Value>,
-    part: Part,
-    rows: &[ImportRow],
+    shown: &mut String,
+    comments: Comments<'_>,
+    named: NamedPart<'_>,
+    place: usize,
     row: &ImportRow,
 ) -> Result<(), AllocError>
-    ensures { GainsTables result tables.old tables.new (map (part_tree part rows.now) (filter (is_stated part) (row.now ∷ []))) }
+    ensures { OnOk result (IsWithTables (string_bytes shown.old) (string_bytes shown.new) named.entry.key.now
+        (part_tree named.entry.part named.entry.rows.now row.now ∷ [])) }
 {
-    if is_stated(part, row) {
-        tables.push(part_table(alloc, part, rows, row)?)?;
+    let value = part_table(alloc, named.part, named.rows, row)?;
+    let table = table_alone(alloc, named.key, value)?;
+    put_above(alloc, shown, comments, named.part, place, row)?;
+    put_document(alloc, shown, &table)
+}
+
+/// The same, if the row states a receiver, a source or a group.
+fn put_stated(
+    alloc: Global,
+    shown: &mut String,
+    comments: Comments<'_>,
+    named: NamedPart<'_>,
+    place: usize,
+    row: &ImportRow,
+) -> Result<(), AllocError>
+    ensures { OnOk result (IsWithTables (string_bytes shown.old) (string_bytes shown.new) named.entry.key.now
+        (map (part_tree named.entry.part named.entry.rows.now) (filter (is_stated named.entry.part) (row.now ∷ [])))) }
+{
+    if is_stated(named.part, row) {
+        put_table(alloc, shown, comments, named, place, row)
+    } else {
+        Ok(())
+    }
+}
+
+/// The receivers, the sources or the groups of rows, and their key in a table.
+#[derive(Clone, Copy)]
+struct NamedPart<'a> {
+    key: &'static str,
+    part: Part,
+    named: &'a NamedRows,
+    rows: &'a [ImportRow],
+}
+
+/// Writes the tables of the receivers, the sources or the groups, in the order of their first rows, each below its comments.
+/// Error: an allocation failed.
+fn put_tables(
+    alloc: Global,
+    shown: &mut String,
+    comments: Comments<'_>,
+    named: NamedPart<'_>,
+) -> Result<(), AllocError>
+    requires { KnowsFirsts named.part named.named.now named.rows.now }
+    ensures { OnOk result (IsWithTables (string_bytes shown.old) (string_bytes shown.new) named.entry.key.now
+        (part_trees named.entry.part named.entry.rows.now)) }
+{
+    let names = named.named;
+    let rows = named.rows;
+    for place in 0..names.len() {
+        put_stated(
+            alloc,
+            shown,
+            comments,
+            named,
+            place,
+            &rows[names.first_at(place)],
+        )?;
     }
     Ok(())
 }
 
-/// The tables of the receivers, the sources or the groups, in the order of their first rows.
-fn part_tables(
-    alloc: Global,
-    part: Part,
-    named: &NamedRows,
-    rows: &[ImportRow],
-) -> Result<Vec<Value>, AllocError>
-    requires { KnowsFirsts part named.now rows.now }
-    ensures { IfOk result (λ values. map view values.items ≡ part_trees part rows.now) }
+/// Puts an array without tables at a key that comes before those of the table, if it has none. Error: an allocation failed.
+fn put_empty(alloc: Global, table: &mut Table, key: &str, count: usize) -> Result<(), AllocError>
+    ensures { PutsEmpty result (table_view table.old) (table_view table.new) key.now count }
 {
-    let mut tables = Vec::new(alloc);
-    for place in 0..named.len() {
-        push_stated(alloc, &mut tables, part, rows, &rows[named.first_at(place)])?;
+    if count == 0 {
+        put(alloc, table, key, Value::Array(Vec::new(alloc)))
+    } else {
+        Ok(())
     }
-    Ok(tables)
 }
 
-/// Puts the receivers, the sources or the groups at a key that comes before those of the table.
-fn put_part(
+/// The pairs above all tables: the arrays that have none, and the version. Error: an allocation failed.
+fn head_table(alloc: Global, known: &Known) -> Result<Table, AllocError>
+    ensures { IfOk result (λ table. (rows : List ImportRow) → Knows known.now rows → table_view table ≡ head_members rows) }
+{
+    let mut table = Table::new(alloc);
+    put_number(alloc, &mut table, "version", 2)?;
+    put_empty(alloc, &mut table, "source", known.sources.named.len())?;
+    put_empty(alloc, &mut table, "receiver", known.receivers.named.len())?;
+    put_empty(alloc, &mut table, "group", known.groups.len())?;
+    Ok(table)
+}
+
+/// The equipment table that these known rows describe, as TOML of version 2, with comments. Error: an allocation failed.
+pub fn table_text(
     alloc: Global,
-    table: &mut Table,
-    key: &str,
-    part: Part,
-    named: &NamedRows,
+    comments: Comments<'_>,
+    known: &Known,
     rows: &[ImportRow],
-) -> Result<(), AllocError>
-    requires { KnowsFirsts part named.now rows.now }
-    ensures { Puts result (table_view table.old) (table_view table.new) key.now (listed (part_trees part rows.now)) }
-{
-    let tables = part_tables(alloc, part, named, rows)?;
-    put(alloc, table, key, Value::Array(tables))
-}
-
-/// The root table.
-#[tactic(auto, unfolding(crate::specs::ImportTables::root_members))]
-fn root_table(alloc: Global, known: &Known, rows: &[ImportRow]) -> Result<Table, AllocError>
-    requires { Knows known.now rows.now }
-    ensures { IfOk result (λ root. table_view root ≡ root_members rows.now) }
-{
-    let mut root = Table::new(alloc);
-    put_number(alloc, &mut root, "version", 2)?;
-    put_part(
-        alloc,
-        &mut root,
-        "source",
-        Part::Sources,
-        &known.sources.named,
-        rows,
-    )?;
-    put_part(
-        alloc,
-        &mut root,
-        "receiver",
-        Part::Receivers,
-        &known.receivers.named,
-        rows,
-    )?;
-    put_part(
-        alloc,
-        &mut root,
-        "group",
-        Part::Groups,
-        &known.groups.named,
-        rows,
-    )?;
-    Ok(root)
-}
-
-/// The equipment table that these known rows describe, as TOML of version 2. Error: an allocation failed.
-pub fn table_text(alloc: Global, known: &Known, rows: &[ImportRow]) -> Result<String, AllocError>
+) -> Result<String, AllocError>
     requires { Knows known.now rows.now }
     ensures { IfOk result (λ text. parse_document (string_bytes text) ≡ Some (root_members rows.now)) }
 {
-    let root = root_table(alloc, known, rows)?;
-    match toml::table_to_string(alloc, &root) {
-        Ok(text) => Ok(text),
-        Err(_) => Err(AllocError),
-    }
+    let head = head_table(alloc, known)?;
+    let mut shown = String::new(alloc);
+    put_document(alloc, &mut shown, &head)?;
+    put_tables(
+        alloc,
+        &mut shown,
+        comments,
+        NamedPart {
+            key: "group",
+            part: Part::Groups,
+            named: &known.groups.named,
+            rows,
+        },
+    )?;
+    put_tables(
+        alloc,
+        &mut shown,
+        comments,
+        NamedPart {
+            key: "receiver",
+            part: Part::Receivers,
+            named: &known.receivers.named,
+            rows,
+        },
+    )?;
+    put_tables(
+        alloc,
+        &mut shown,
+        comments,
+        NamedPart {
+            key: "source",
+            part: Part::Sources,
+            named: &known.sources.named,
+            rows,
+        },
+    )?;
+    Ok(shown)
 }

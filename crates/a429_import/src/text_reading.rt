@@ -31,6 +31,7 @@ fn take_named(
     ensures { IfOk result (λ below. (lines : List CsvLine) → IsOfNamed (given_texts maps.now) is_below (IsReadFilled options read.old) lines
         → IsOfNamed (given_texts maps.now) below (IsReadFilled options read.new) (lines ++ line ∷ [])) }
 {
+    read.refused.note_titles(is_below, &line)?;
     match named_line(alloc, maps, is_below, line) {
         Ok(named) => {
             take_filled_by(alloc, options, read, named)?;
@@ -81,7 +82,7 @@ fn read_rows(
     let mut count = count_before(text, form.text);
     let mut is_below = false;
     for row in rows {
-        let line = line_of(form, &mut count, row)?;
+        let line = line_of(alloc, form, &mut count, row)?;
         is_below = take_filled(alloc, maps, options, is_below, read, line)?;
     }
     Ok(())

@@ -1,5 +1,5 @@
 -- The Gregorian calendar (ISO 8601): its years, and their months and days.
-use Rattle.std.specs.Prelude.{◌≡◌, ◌==◌, ◌&&◌, ◌||◌, ◌+◌, ◌-◌, ◌*◌, ◌%◌, ◌∷◌, [], ℕ, Bool, true, false, List, get_or, if◌then◌else◌, not, suc, sum, zero}
+use Rattle.std.specs.Prelude.{◌≡◌, ◌==◌, ◌&&◌, ◌||◌, ◌+◌, ◌-◌, ◌*◌, ◌%◌, ◌∷◌, [], ℕ, Bool, true, false, List, get_or, if◌then◌else◌, not, suc, zero}
 
 -- 4 divides a leap year; if 100 does, so does 400
 abbrev pub is_leap : ℕ → Bool

@@ -5,3 +5,4 @@ pub mod Playing
 pub mod Replaying
 pub mod Opened
 pub mod AnswerLines
+pub mod Views

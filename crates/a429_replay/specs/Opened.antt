@@ -1,5 +1,5 @@
 -- A station that is open for a script, and what a replay makes of the bytes that it was given (vocabulary of contracts).
-use Rattle.std.specs.Prelude.{◌≡◌, ◌∷◌, [], ℕ, List, Option, Result, MatchResult, length}
+use Rattle.std.specs.Prelude.{◌≡◌, ◌∷◌, [], ℕ, List, Option, Some, Result, MatchResult, length}
 use Rattle.std.specs.declared.vec.Vec.{Vec}
 use Rattle.std.specs.declared.alloc.Global.{Global}
 use Rattle.a429_equipment.specs.Limits.{count_bits}
@@ -10,6 +10,7 @@ use Rattle.a429_console.specs.Names.{naming_of}
 use Rattle.a429_console.specs.Outputs.{IsPut}
 use Rattle.a429_console.specs.RefusalText.{OrMemory}
 use Rattle.a429_replay.specs.Kept.{TakesAllTables, events_of}
+use Rattle.a429_replay.specs.Views.{AskedView, heading, view_of}
 use Rattle.a429_replay.specs.Replaying.{IsInput, IsOutcome, IsStart, ReplayInput}
 use Rattle.a429_console.specs.Tables.{IsProposedBy}
 use Rattle.a429_console.specs.declared.refusals.CommandRefusal.{CommandRefusal}
@@ -46,11 +47,18 @@ abbrev pub IsInputReading : (List ℕ → Option (List ℕ)) → List ℕ → Li
 IsInputReading file table script further result =
     MatchResult result (λ i. IsInput file table script further (input_of i)) (OrMemory (IsFirstUnread file (table ∷ script ∷ further)))
 
--- the station, just opened, from which a replay of these bytes starts, and the events of the script, which has no faulty line
-abbrev pub IsPreparedFor : ReplayInput → PreparedReplay → Type 0
-IsPreparedFor i p = (q : Proposed) × IsStart i q (events_of p.events.items) × IsOpened q p.station × TakesAllTables (length i.further) p.events.items
+-- the station, just opened, from which a replay of these bytes starts, what is printed of it, and the events of the script, which has no faulty line
+pub record IsPrepared (i : ReplayInput) (asked : AskedView) (p : PreparedReplay) (q : Proposed) : Type 0 where
+  pub view : view_of (naming_of q.station) asked ≡ Some p.view
+  pub start : IsStart i q (events_of p.events.items)
+  pub opened : IsOpened q p.station
+  pub lines : p.lines.text.items ≡ heading p.view
 
--- of a station just opened: the outcome of the events was put
+abbrev pub IsPreparedFor : ReplayInput → AskedView → PreparedReplay → Type 0
+IsPreparedFor i asked p = (q : Proposed) × IsPrepared i asked p q × TakesAllTables (length i.further) p.events.items
+
+-- of a station just opened, with the lines before the answers: the outcome of the events was put
 abbrev pub IsOutcomePut : ReplayInput → PreparedReplay → Option (List ℕ) → Option (List ℕ) → ℕ → Type 0
 IsOutcomePut i p old new status =
-    (q : Proposed) → IsStart i q (events_of p.events.items) → IsOpened q p.station → IsPut (IsOutcome i q (events_of p.events.items)) old new status
+    (q : Proposed) → IsStart i q (events_of p.events.items) → IsOpened q p.station → p.lines.text.items ≡ heading p.view
+    → IsPut (IsOutcome i p.view q (events_of p.events.items)) old new status

@@ -8,13 +8,14 @@ use Rattle.a429_slots.specs.Proposed.{Proposed}
 use Rattle.a429_slots.specs.History.{Opening}
 use Rattle.a429_slots.specs.Answers.{answer}
 use Rattle.a429_core.specs.MachineStates.{MachineState, StandsForHistory}
-use Rattle.a429_replay.specs.AnswerLines.{answer_line}
+use Rattle.a429_replay.specs.Views.{told_answer, told_refusal}
 use Rattle.a429_console.specs.Outputs.{AppendsPending}
-use Rattle.a429_console.specs.RefusalText.{refusal_line}
+use Rattle.a429_console.specs.Names.{Naming}
 use Rattle.a429_console.specs.Tables.{IsProposedBy, IsTableRefusal}
 use Rattle.a429_console.specs.declared.refusals.CommandRefusal.{CommandRefusal}
 use Rattle.a429_replay.specs.declared.pending.Pending.{Pending}
 use Rattle.a429_replay.specs.declared.script.ScriptEvent.{ScriptEvent}
+use Rattle.a429_replay.specs.declared.views.View.{View}
 use Rattle.a429_replay.specs.declared.script.ScriptEvent.TheVariants.{Arrive, Cell, Frame, Publish}
 
 -- a table that is published is one of this number
@@ -35,35 +36,35 @@ IsUnread further (Publish n) refusal = (table : List ℕ) × (slice_get further 
 IsUnread further _ refusal = ⊥
 
 -- after the history E of a station an event of a script happens: the history goes on to E', and a line is printed
-abbrev pub Happens : Opening → List (List ℕ) → List (List ℕ) → List Event → ScriptEvent → List Event → List ℕ → Type 0
-Happens o names further E event E' line =
-    ((e : Event) × IsEventOf further event e × (E' ≡ E ++ e ∷ []) × (line ≡ answer_line names (answer count_bits o E e)))
-    ⊎ ((refusal : CommandRefusal) × IsUnread further event refusal × (E' ≡ E) × (line ≡ refusal_line refusal ++ 10 ∷ []))
+abbrev pub Happens : Opening → View → Naming → List (List ℕ) → List Event → ScriptEvent → List Event → List ℕ → Type 0
+Happens o view names further E event E' line =
+    ((e : Event) × IsEventOf further event e × (E' ≡ E ++ e ∷ []) × (line ≡ told_answer view names event (answer count_bits o E e)))
+    ⊎ ((refusal : CommandRefusal) × IsUnread further event refusal × (E' ≡ E) × (line ≡ told_refusal view refusal))
 
 -- events of a script happen one after another, from the history E to E', and these bytes are printed
-abbrev pub Played : Opening → List (List ℕ) → List (List ℕ) → List Event → List ScriptEvent → List Event → List ℕ → Type 0
-Played o names further E [] E' bytes = (E' ≡ E) × (bytes ≡ [])
-Played o names further E (event ∷ events) E' bytes =
-    (M : List Event) × (line : List ℕ) × (rest : List ℕ) × Happens o names further E event M line × Played o names further M events E' rest × (bytes ≡ line ++ rest)
+abbrev pub Played : Opening → View → Naming → List (List ℕ) → List Event → List ScriptEvent → List Event → List ℕ → Type 0
+Played o view names further E [] E' bytes = (E' ≡ E) × (bytes ≡ [])
+Played o view names further E (event ∷ events) E' bytes =
+    (M : List Event) × (line : List ℕ) × (rest : List ℕ) × Happens o view names further E event M line × Played o view names further M events E' rest × (bytes ≡ line ++ rest)
 
 -- an event of a script happens to a state, whatever history the state stands for, and the line that is printed is appended to a text
-abbrev pub PlaysOne : List (List ℕ) → List (List ℕ) → ScriptEvent → MachineState → MachineState → List ℕ → List ℕ → Type 0
-PlaysOne names further event old new before after =
+abbrev pub PlaysOne : View → Naming → List (List ℕ) → ScriptEvent → MachineState → MachineState → List ℕ → List ℕ → Type 0
+PlaysOne view names further event old new before after =
     (o : Opening) (E : List Event) → StandsForHistory count_bits o E old
-    → (E' : List Event) × (line : List ℕ) × Happens o names further E event E' line × StandsForHistory count_bits o E' new × (after ≡ before ++ line)
+    → (E' : List Event) × (line : List ℕ) × Happens o view names further E event E' line × StandsForHistory count_bits o E' new × (after ≡ before ++ line)
 
 -- a table is published on a state, whatever history the state stands for, and the line that is printed is appended to a text
-abbrev pub PlaysTable : List (List ℕ) → List ℕ → MachineState → MachineState → List ℕ → List ℕ → Type 0
-PlaysTable names table = PlaysOne names (table ∷ []) (Publish 1)
+abbrev pub PlaysTable : View → Naming → List ℕ → MachineState → MachineState → List ℕ → List ℕ → Type 0
+PlaysTable view names table = PlaysOne view names (table ∷ []) (Publish 1)
 
 -- the first of these events happen to a state, whatever history the state stands for, and the bytes that are printed are put as Puts says; if memory
 -- sufficed, all of them happen
-abbrev pub PlaysEvents : List (List ℕ) → List (List ℕ) → List ScriptEvent → MachineState → (List ℕ → Type 0) → Bool → Type 0
-PlaysEvents names further events old Puts sufficed =
+abbrev pub PlaysEvents : View → Naming → List (List ℕ) → List ScriptEvent → MachineState → (List ℕ → Type 0) → Bool → Type 0
+PlaysEvents view names further events old Puts sufficed =
     (o : Opening) (E : List Event) → StandsForHistory count_bits o E old
-    → (n : ℕ) × (E' : List Event) × (bytes : List ℕ) × Played o names further E (take n events) E' bytes × Puts bytes × (IsTrue sufficed → n ≡ length events)
+    → (n : ℕ) × (E' : List Event) × (bytes : List ℕ) × Played o view names further E (take n events) E' bytes × Puts bytes × (IsTrue sufficed → n ≡ length events)
 
 -- the same of the lines that are printed: they are put out, or appended to those that are yet to be; the answer says whether memory sufficed for all
-abbrev pub PlaysAll : {X E : Type 0} → (X → Option (List ℕ)) → List (List ℕ) → List (List ℕ) → List ScriptEvent → MachineState → X → X → Pending → Pending → Result Bool E → Type 0
-PlaysAll contents names further events old out out' lines lines' result =
-    IfOk result (PlaysEvents names further events old (AppendsPending (contents out) lines.text.items (contents out') lines'.text.items))
+abbrev pub PlaysAll : {X E : Type 0} → (X → Option (List ℕ)) → View → Naming → List (List ℕ) → List ScriptEvent → MachineState → X → X → Pending → Pending → Result Bool E → Type 0
+PlaysAll contents view names further events old out out' lines lines' result =
+    IfOk result (PlaysEvents view names further events old (AppendsPending (contents out) lines.text.items (contents out') lines'.text.items))

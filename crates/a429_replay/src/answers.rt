@@ -3,7 +3,7 @@ ghost use Rattle.std.specs.Prelude.{◌≡◌, ◌≤◌, ◌+◌, ◌++◌, [],
 ghost use Rattle.std.specs.Fmt.{decimal};
 ghost use Rattle.a429_word.specs.Written.{Gains};
 ghost use Rattle.a429_slots.specs.declared.answers.Answer.TheVariants.{Sent, Refused};
-ghost use Rattle.a429_replay.specs.AnswerLines.{answer_line, cell_text};
+ghost use Rattle.a429_replay.specs.AnswerLines.{answer_line, cell_text, refusal_text};
 
 use crate::names::Names;
 use crate::slots::SlotTexts;
@@ -26,6 +26,24 @@ fn refusal_line(refusal: Refusal) -> &'static [u8]
         Refusal::MidFrame => b"refused mid-frame\n",
         Refusal::SlotsSpent => b"refused slots-spent\n",
         Refusal::StationDiffers => b"refused station-differs\n",
+    }
+}
+
+/// The name of the reason for which an event is refused.
+pub fn refusal_reason(refusal: Refusal) -> &'static [u8]
+    ensures name { result.now ≡ refusal_text refusal }
+    ensures short { length result.now ≤ 16 }
+{
+    match refusal {
+        Refusal::NoSuch => b"no-such",
+        Refusal::Parity => b"parity",
+        Refusal::Filtered => b"filtered",
+        Refusal::NoSource => b"no-source",
+        Refusal::CountSpent => b"count-spent",
+        Refusal::FrameEnd => b"frame-end",
+        Refusal::MidFrame => b"mid-frame",
+        Refusal::SlotsSpent => b"slots-spent",
+        Refusal::StationDiffers => b"station-differs",
     }
 }
 

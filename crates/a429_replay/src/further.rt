@@ -3,13 +3,15 @@ ghost use Rattle.std.specs.Prelude.{◌≡◌, ◌≢◌, ◌++◌, ◌∷◌, [
 ghost use Rattle.a429_equipment.specs.SameStation.{same_station};
 ghost use Rattle.std.specs.List.{AllByRecursion};
 ghost use Rattle.a429_console.specs.Files.{bytes_of};
-ghost use Rattle.a429_console.specs.RefusalText.{refusal_line};
 ghost use Rattle.a429_console.specs.declared.refusals.CommandRefusal.TheVariants.{Memory};
 ghost use Rattle.a429_console.specs.Tables.{IsProposedBy, IsProposing, IsTakenBy};
 ghost use Rattle.a429_replay.specs.Playing.{PlaysTable};
+ghost use Rattle.a429_replay.specs.Views.{told_refusal};
 
 use crate::names::Names;
 use crate::pending::Pending;
+use crate::script::ScriptEvent;
+use crate::views::View;
 use a429_console::hints::warnings::{FurtherCause, Warning};
 use a429_console::planning::propose;
 use a429_console::refusals::evidence::TableEvidence;
@@ -94,22 +96,23 @@ impl FurtherTable {
         }
     }
 
-    /// Publishes it on a station, and appends the line of the answer, or of the refusal of the table or of its plan.
+    /// Publishes it on a station, and appends what is printed of the answer, or of the refusal of the table or of its plan.
     /// Error: an allocation failed; then nothing is appended.
     pub fn publish(
         &mut self,
         alloc: Global,
         state: &mut StationState,
+        view: View,
         names: &Names,
         lines: &mut Pending,
     ) -> Result<(), AllocError>
-        ensures played { OnOk result (PlaysTable names.now.sources self.old
+        ensures played { OnOk result (PlaysTable view names.now self.old
             state.old state.new lines.old.text.items lines.new.text.items) }
         ensures kept { OnErr result (lines.new.text.items ≡ lines.old.text.items) }
         ensures same { self.new ≡ self.old }
     {
         let planned = planned_or_propose(alloc, self.planned.take(), &self.bytes);
-        let played = publish_or_refuse(alloc, state, names, &planned, lines);
+        let played = publish_or_refuse(alloc, state, view, names, &planned, lines);
         self.planned = Some(planned);
         played
     }
@@ -139,30 +142,31 @@ impl FurtherTable {
 fn publish_or_refuse(
     alloc: Global,
     state: &mut StationState,
+    view: View,
     names: &Names,
     proposal: &Result<Proposal<OUTPUTS>, Refused>,
     lines: &mut Pending,
 ) -> Result<(), AllocError>
-    ensures played { (table : List ℕ) → IsProposing table proposal.now → OnOk result (PlaysTable names.now.sources table
+    ensures played { (table : List ℕ) → IsProposing table proposal.now → OnOk result (PlaysTable view names.now table
         state.old state.new lines.old.text.items lines.new.text.items) }
     ensures kept { OnErr result (lines.new.text.items ≡ lines.old.text.items) }
 {
     match proposal {
-        Ok(proposal) => publish_plan(alloc, state, names, proposal, lines),
-        Err(refusal) => refuse_table(refusal, lines),
+        Ok(proposal) => publish_plan(alloc, state, view, names, proposal, lines),
+        Err(refusal) => refuse_table(view, refusal, lines),
     }
 }
 
-/// Appends the line of the refusal of a table. If an allocation failed when the table was planned, or fails now, nothing is
+/// Appends what is printed of the refusal of a table. If an allocation failed when the table was planned, or fails now, nothing is
 /// appended.
-fn refuse_table(refusal: &Refused, lines: &mut Pending) -> Result<(), AllocError>
+fn refuse_table(view: View, refusal: &Refused, lines: &mut Pending) -> Result<(), AllocError>
     ensures other { OnOk result (refusal.now ≢ Memory) }
-    ensures line { OnOk result (lines.new.text.items ≡ lines.old.text.items ++ (refusal_line refusal.now ++ 10 ∷ [])) }
+    ensures line { OnOk result (lines.new.text.items ≡ lines.old.text.items ++ told_refusal view refusal.now) }
     ensures kept { OnErr result (lines.new.text.items ≡ lines.old.text.items) }
 {
     match refusal.refusal() {
         CommandRefusal::Memory => Err(AllocError),
-        refusal => lines.push_refusal(refusal),
+        refusal => lines.push_refusal(view, refusal),
     }
 }
 
@@ -170,11 +174,12 @@ fn refuse_table(refusal: &Refused, lines: &mut Pending) -> Result<(), AllocError
 fn publish_plan(
     alloc: Global,
     state: &mut StationState,
+    view: View,
     names: &Names,
     proposal: &Proposal<OUTPUTS>,
     lines: &mut Pending,
 ) -> Result<(), AllocError>
-    ensures played { (table : List ℕ) → IsProposedBy table proposal.now → OnOk result (PlaysTable names.now.sources table
+    ensures played { (table : List ℕ) → IsProposedBy table proposal.now → OnOk result (PlaysTable view names.now table
         state.old state.new lines.old.text.items lines.new.text.items) }
     ensures kept { OnErr result (lines.new.text.items ≡ lines.old.text.items) }
 {
@@ -182,7 +187,7 @@ fn publish_plan(
         return Err(AllocError);
     };
     match state.step(Event::Publish { proposal }) {
-        Ok(answer) => lines.push_answer(names, answer),
+        Ok(answer) => lines.push_answer(view, names, ScriptEvent::Publish(1), answer),
         Err(error) => Err(error),
     }
 }

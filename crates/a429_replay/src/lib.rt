@@ -8,7 +8,10 @@
 //! ```text
 //! match asked.verb {
 //!     ..
-//!     Verb::Replay => replay(alloc, files, first, second, more, warnings, out),
+//!     Verb::Replay => {
+//!         let form = ReplayForm::of(asked);
+//!         replay(alloc, files, first, second, more, &form, warnings, out)
+//!     }
 //!     ..
 //! }
 //! ```
@@ -26,7 +29,9 @@ pub mod replay;
 mod script;
 mod slots;
 mod station;
+pub mod views;
 
+pub use answers::refusal_reason;
 pub use names::Names;
 pub use opening::open_machine;
 pub use pending::put_if_full;

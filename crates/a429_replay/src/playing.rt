@@ -10,41 +10,44 @@ use crate::kept::KeptEvent;
 use crate::names::Names;
 use crate::pending::{Pending, put_if_full};
 use crate::script::ScriptEvent;
+use crate::views::View;
 use a429_console::output::{Output, OutputFault};
 use a429_core::StationState;
 use a429_core::laws::calls_are_answered;
 use std::alloc::{AllocError, Global};
 
-/// Publishes the further table of a number, and appends its line. If an allocation fails, nothing is appended.
+/// Publishes the further table of a number, and appends what is printed of its answer. If an allocation fails, nothing is appended.
 fn play_publication(
     alloc: Global,
     state: &mut StationState,
+    view: View,
     names: &Names,
     further: &mut [FurtherTable],
     number: usize,
     lines: &mut Pending,
 ) -> Result<(), AllocError>
     requires { HasTable (length further.old) (Publish number) }
-    ensures played { OnOk result (PlaysOne names.now.sources further.old (Publish number)
+    ensures played { OnOk result (PlaysOne view names.now further.old (Publish number)
         state.old state.new lines.old.text.items lines.new.text.items) }
     ensures kept { OnErr result (lines.new.text.items ≡ lines.old.text.items) }
     ensures same { further.new ≡ further.old }
 {
-    further[number - 1].publish(alloc, state, names, lines)
+    further[number - 1].publish(alloc, state, view, names, lines)
 }
 
-/// Plays an event of a script, and appends its line. If an allocation fails, nothing is appended.
+/// Plays an event of a script, and appends what is printed of its answer. If an allocation fails, nothing is appended.
 #[inline(always)]
 fn play(
     alloc: Global,
     state: &mut StationState,
+    view: View,
     names: &Names,
     further: &mut [FurtherTable],
     event: ScriptEvent,
     lines: &mut Pending,
 ) -> Result<(), AllocError>
     requires { HasTable (length further.old) event }
-    ensures played { OnOk result (PlaysOne names.now.sources further.old event
+    ensures played { OnOk result (PlaysOne view names.now further.old event
         state.old state.new lines.old.text.items lines.new.text.items) }
     ensures kept { OnErr result (lines.new.text.items ≡ lines.old.text.items) }
     ensures same { further.new ≡ further.old }
@@ -53,18 +56,18 @@ fn play(
     match event {
         ScriptEvent::Arrive(receiver, raw) => {
             let answer = state.arrive(usize::from(receiver), raw);
-            lines.push_answer(names, answer)
+            lines.push_answer(view, names, event, answer)
         }
         ScriptEvent::Cell(group) => {
             let answer = state.cell(usize::from(group));
-            lines.push_answer(names, answer)
+            lines.push_answer(view, names, event, answer)
         }
         ScriptEvent::Frame(group) => {
             let answer = state.frame(usize::from(group));
-            lines.push_answer(names, answer)
+            lines.push_answer(view, names, event, answer)
         }
         ScriptEvent::Publish(number) => {
-            play_publication(alloc, state, names, further, number, lines)
+            play_publication(alloc, state, view, names, further, number, lines)
         }
     }
 }
@@ -74,6 +77,7 @@ fn play(
 pub fn play_all<O: Output>(
     alloc: Global,
     state: &mut StationState,
+    view: View,
     names: &Names,
     further: &mut [FurtherTable],
     events: &[KeptEvent],
@@ -81,7 +85,7 @@ pub fn play_all<O: Output>(
     out: &mut O,
 ) -> Result<bool, OutputFault>
     requires { TakesAllTables (length further.old) events.now }
-    ensures played { PlaysAll O.contents names.now.sources further.old (events_of events.now) state.old
+    ensures played { PlaysAll O.contents view names.now further.old (events_of events.now) state.old
         out.old out.new lines.old lines.new result }
     ensures few { OnOk result (length lines.old.text.items < 65536 → length lines.new.text.items < 65536) }
     ensures faults { CountsFault result (O.failures out.old) (O.failures out.new) }
@@ -89,7 +93,7 @@ pub fn play_all<O: Output>(
 {
     for kept in events {
         let event = kept.event();
-        let Ok(()) = play(alloc, state, names, further, event, lines) else {
+        let Ok(()) = play(alloc, state, view, names, further, event, lines) else {
             return Ok(false);
         };
         put_if_full(&mut lines.text, out)?;

@@ -7,6 +7,7 @@ ghost use Rattle.a429_console.specs.RefusalText.{OrMemory};
 ghost use Rattle.a429_replay.specs.Kept.{TakesAllTables};
 ghost use Rattle.a429_replay.specs.Replaying.{HasReplayed, IsNoStart, TakesFurther};
 ghost use Rattle.a429_replay.specs.Opened.{AreTablesRead, IsInputReading, IsOutcomePut, IsPreparedFor, input_of};
+ghost use Rattle.a429_replay.specs.Views.{asked_view};
 
 use crate::further::{FurtherTable, further_tables, note_faults};
 use crate::kept::KeptEvent;
@@ -14,6 +15,7 @@ use crate::pending::Pending;
 use crate::playing::play_all;
 use crate::script::{ScriptForm, read_script};
 use crate::station::ReplayStation;
+use crate::views::{ReplayForm, View, view_of};
 use a429_console::answered::{Answered, plain_answer};
 use a429_console::files::FileReader;
 use a429_console::files::reading::{read_file, read_files};
@@ -63,25 +65,35 @@ fn read_input<F: FileReader>(
     })
 }
 
-/// A station, and the events that are to happen to it.
+/// A station, the events that are to happen to it, what is printed of their answers, and the lines before these.
 #[derive(Drop)]
 struct PreparedReplay {
     station: ReplayStation,
+    view: View,
     events: Vec<KeptEvent>,
+    lines: Pending,
 }
 
-/// The station that is given, with the events of the script, if that is one of it. Error: the table, its plan, or the
-/// script is refused.
-fn prepare(alloc: Global, input: &Input) -> Result<PreparedReplay, Refused>
-    ensures { MatchResult result (IsPreparedFor (input_of input.now)) (OrMemory (IsNoStart (input_of input.now))) }
+/// The station that is given, with the events of the script, if that is one of it. Error: the table, its plan, the group
+/// whose answers are asked for, or the script is refused.
+fn prepare(alloc: Global, input: &Input, asked: &ReplayForm<'_>) -> Result<PreparedReplay, Refused>
+    ensures { MatchResult result (IsPreparedFor (input_of input.now) (asked_view asked.now))
+        (OrMemory (IsNoStart (input_of input.now) (asked_view asked.now))) }
 {
     let station = ReplayStation::open(alloc, &input.table)?;
+    let view = view_of(alloc, &station.names, asked)?;
     let form = ScriptForm {
         names: &station.names,
         further: input.further.len(),
     };
     let events = read_script(alloc, &form, &input.script)?;
-    Ok(PreparedReplay { station, events })
+    let lines = Pending::open(alloc, view)?;
+    Ok(PreparedReplay {
+        station,
+        view,
+        events,
+        lines,
+    })
 }
 
 /// Plays events on the station, and puts their lines. If an allocation fails before the end, these lines end with
@@ -100,45 +112,48 @@ fn play_prepared<O: Output>(
     ensures flushed { OnOk result (IsTrue (O.is_flushed out.new)) }
     ensures faults { CountsFault result (O.failures out.old) (O.failures out.new) }
 {
-    let mut lines = Pending::new(alloc);
     let further = &mut input.further;
     let station = &mut prepared.station;
+    let lines = &mut prepared.lines;
     let sufficed = play_all(
         alloc,
         &mut station.state,
+        prepared.view,
         &station.names,
         further,
         &prepared.events,
-        &mut lines,
+        lines,
         out,
     )?;
     finish(&lines.text, sufficed, out)
 }
 
-/// Plays a script on the station of a table, and puts one line for each event. A refusal is one line instead. The status
-/// is 0, or 1 after a refusal, or if an allocation fails after the first lines. The further tables that were published,
-/// and that the station did not take, are noted. Error: the output failed.
+/// Plays a script on the station of a table, and puts of the answer to each event what is asked for: its line or its row,
+/// or nothing. A refusal is one line instead. The status is 0, or 1 after a refusal, or if an allocation fails after the
+/// first lines. The further tables that were published, and that the station did not take, are noted. Error: the output
+/// failed.
 pub fn replay<F: FileReader, O: Output>(
     alloc: Global,
     files: &mut F,
     table: &str,
     script: &str,
-    further: &[&str],
+    more: &[&str],
+    asked: &ReplayForm<'_>,
     warnings: &mut Vec<Warning>,
     out: &mut O,
 ) -> Result<Answered, OutputFault>
-    ensures replayed { HasReplayed F.answers O.contents table.now script.now further.now files.old files.new out.old out.new result }
-    ensures taken { HasRead F.answers (λ file. TakesFurther file table.now script.now (texts_of further.now)
+    ensures replayed { HasReplayed F.answers O.contents asked.now table.now script.now more.now files.old files.new out.old out.new result }
+    ensures taken { HasRead F.answers (λ file. TakesFurther file table.now script.now (texts_of more.now)
         → warnings.new.items ≡ warnings.old.items) files.old files.new }
     ensures status { IfOk result (λ status. status ≤ 1) }
     ensures flushed { OnOk result (IsTrue (O.is_flushed out.new)) }
     ensures faults { CountsFault result (O.failures out.old) (O.failures out.new) }
 {
-    let mut input = match read_input(alloc, files, table, script, further) {
+    let mut input = match read_input(alloc, files, table, script, more) {
         Ok(input) => input,
         Err(refusal) => return refuse(alloc, refusal, out),
     };
-    match prepare(alloc, &input) {
+    match prepare(alloc, &input, asked) {
         Ok(mut prepared) => {
             let status = play_prepared(alloc, &mut prepared, &mut input, out);
             note_faults(alloc, &prepared.station.equipment, input.further, warnings);

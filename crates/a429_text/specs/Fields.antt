@@ -1,12 +1,14 @@
 -- What a cell of a sheet holds, and how it is written (profile: docs/FORMATS.md, Sheets).
-use Rattle.std.specs.Prelude.{ℕ, ◌+◌, ◌/◌, ◌%◌, ◌==◌, ◌||◌, List, [], ◌∷◌, ◌++◌, codes, if◌then◌else◌, map, nat_lt}
-use Rattle.std.specs.Fmt.{decimal}
+use Rattle.std.specs.Prelude.{ℕ, ℤ, ◌+◌, ◌/◌, ◌%◌, ◌==◌, ◌||◌, List, [], ◌∷◌, ◌++◌, codes, if◌then◌else◌, map, nat_lt}
+use Rattle.std.specs.Fmt.{decimal, signed_decimal}
 use Rattle.std.specs.List.{flat_map}
 use Rattle.a429_text.specs.Texts.{tenths}
 
 pub data Field : Type 0 where
   Text : List ℕ → Field
   Number : ℕ → Field
+  -- a number that may be below 0
+  Signed : ℤ → Field
   -- a number of tenths
   Tenths : ℕ → Field
   -- nothing is said
@@ -16,6 +18,7 @@ pub data Field : Type 0 where
 abbrev pub field_text : List ℕ → Field → List ℕ
 field_text absent (Text text) = text
 field_text absent (Number number) = decimal number
+field_text absent (Signed number) = signed_decimal number
 field_text absent (Tenths number) = tenths number
 field_text absent Absent = absent
 
@@ -42,6 +45,7 @@ quoted text = codes "\"" ++ (flat_map escaped text ++ codes "\"")
 abbrev pub field_json : Field → List ℕ
 field_json (Text text) = quoted text
 field_json (Number number) = decimal number
+field_json (Signed number) = signed_decimal number
 field_json (Tenths number) = tenths number
 field_json Absent = codes "null"
 

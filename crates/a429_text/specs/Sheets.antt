@@ -8,7 +8,7 @@ use Rattle.a429_text.specs.declared.cells.KeptCell.{KeptCell}
 use Rattle.a429_text.specs.declared.cells.KeptCell.TheVariants as kept
 use Rattle.a429_text.specs.declared.sheets.SheetForm.{SheetForm}
 use Rattle.a429_text.specs.declared.sheets.SheetForm.TheVariants.{Columns, Csv, Json}
-use Rattle.a429_text.specs.Fields.{Field, Text, Number, Tenths, Absent, texts_of, json_text}
+use Rattle.a429_text.specs.Fields.{Field, Text, Number, Signed, Tenths, Absent, texts_of, json_text}
 use Rattle.a429_text.specs.Aligned.{aligned_text}
 use Rattle.a429_text.specs.Texts.{formula, octal}
 use Rattle.a429_word.specs.Hexadecimal.{hex}
@@ -17,6 +17,7 @@ use Rattle.a429_word.specs.Hexadecimal.{hex}
 abbrev pub field_of : Cell → Field
 field_of (given.Text words) = Text words.now
 field_of (given.Number number) = Number number
+field_of (given.Signed number) = Signed number
 field_of (given.Tenths number) = Tenths number
 field_of (given.Hex raw) = Text (hex raw)
 field_of (given.Octal value) = Text (octal value)
@@ -27,6 +28,7 @@ field_of given.Absent = Absent
 abbrev pub kept_field : KeptCell → Field
 kept_field (kept.Text text) = Text text
 kept_field (kept.Number number) = Number number
+kept_field (kept.Signed number) = Signed number
 kept_field (kept.Tenths number) = Tenths number
 kept_field kept.Absent = Absent
 

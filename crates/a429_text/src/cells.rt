@@ -13,6 +13,8 @@ use std::marker::Model;
 pub enum Cell<'a> {
     Text(&'a str),
     Number(u64),
+    /// A number that may be below 0.
+    Signed(i32),
     /// A number of tenths, as a number with one decimal: 37 is `3.7`.
     Tenths(u64),
     /// A raw word as eight hexadecimal digits: a text.
@@ -40,6 +42,7 @@ fn put_formula(text: &mut Text, value: u8)
 pub enum KeptCell {
     Text(Text),
     Number(u64),
+    Signed(i32),
     Tenths(u64),
     Absent,
 }
@@ -55,6 +58,7 @@ impl KeptCell {
                 KeptCell::Text(text)
             }
             Cell::Number(number) => KeptCell::Number(*number),
+            Cell::Signed(number) => KeptCell::Signed(*number),
             Cell::Tenths(tenths) => KeptCell::Tenths(*tenths),
             Cell::Hex(raw) => {
                 let mut text = Text::new(alloc);
@@ -72,6 +76,23 @@ impl KeptCell {
                 KeptCell::Text(text)
             }
             Cell::Absent => KeptCell::Absent,
+        }
+    }
+
+    /// The same cell. Error: an allocation failed for its text.
+    fn copied(&self, alloc: Global) -> Result<KeptCell, AllocError>
+        ensures { IfOk result (λ cell. kept_field cell ≡ kept_field self.now) }
+    {
+        match self {
+            KeptCell::Text(text) => {
+                let mut copy = Text::new(alloc);
+                copy.put_bytes(text.as_bytes()?);
+                Ok(KeptCell::Text(copy))
+            }
+            KeptCell::Number(number) => Ok(KeptCell::Number(*number)),
+            KeptCell::Tenths(tenths) => Ok(KeptCell::Tenths(*tenths)),
+            KeptCell::Signed(number) => Ok(KeptCell::Signed(*number)),
+            KeptCell::Absent => Ok(KeptCell::Absent),
         }
     }
 }
@@ -97,11 +118,42 @@ impl Row {
     pub fn of(alloc: Global, cells: &[Cell<'_>]) -> Row
         ensures { result ≡ map field_of cells.now }
     {
-        let mut kept = Gathered::new(alloc);
+        let mut row = Row {
+            cells: Gathered::new(alloc),
+        };
+        row.add(alloc, cells);
+        row
+    }
+
+    /// Adds cells at the end.
+    fn add(&mut self, alloc: Global, cells: &[Cell<'_>])
+        ensures { self.new ≡ self.old ++ map field_of cells.now }
+    {
         for cell in cells {
-            kept.push(KeptCell::of(alloc, cell));
+            self.cells.push(KeptCell::of(alloc, cell));
         }
-        Row { cells: kept }
+    }
+
+    /// The same row. Error: an allocation failed for a cell.
+    fn copied(&self, alloc: Global) -> Result<Row, AllocError>
+        ensures { IfOk result (λ row. row ≡ self.now) }
+    {
+        let mut copy = Row {
+            cells: Gathered::new(alloc),
+        };
+        for cell in self.cells()? {
+            copy.cells.push(cell.copied(alloc)?);
+        }
+        Ok(copy)
+    }
+
+    /// The same row with further cells at its end. Error: an allocation failed for a cell of the row.
+    pub fn wider(&self, alloc: Global, more: &[Cell<'_>]) -> Result<Row, AllocError>
+        ensures { IfOk result (λ row. row ≡ self.now ++ map field_of more.now) }
+    {
+        let mut row = self.copied(alloc)?;
+        row.add(alloc, more);
+        Ok(row)
     }
 
     /// The text in a column; `None` for an absent cell and after the last cell. Error: an allocation failed for a cell.

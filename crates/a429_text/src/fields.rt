@@ -1,6 +1,6 @@
 //! Rows as texts.
 ghost use Rattle.std.specs.Prelude.{◌≡◌, length, map, IfOk, OnOk};
-ghost use Rattle.std.specs.Fmt.{decimal};
+ghost use Rattle.std.specs.Fmt.{decimal, signed_decimal};
 ghost use Rattle.csv.specs.Records.{fields_of};
 ghost use Rattle.a429_text.specs.Aligned.{field_in};
 ghost use Rattle.a429_text.specs.CsvLines.{HasGained, IsWhole};
@@ -74,6 +74,15 @@ fn push_number(fields: &mut ByteRecord, number: u64) -> Result<(), AllocError>
     push(fields, room.format(number).as_bytes())
 }
 
+/// Adds a number that may be below 0 in decimal.
+fn push_signed(fields: &mut ByteRecord, number: i32) -> Result<(), AllocError>
+    requires { IsWhole fields.old }
+    ensures { OnOk result (HasGained fields.old fields.new (signed_decimal number)) }
+{
+    let mut room = Buffer::new();
+    push(fields, room.format(number).as_bytes())
+}
+
 /// Adds a number of tenths in decimal, with one digit after the point.
 fn push_tenths(alloc: Global, fields: &mut ByteRecord, number: u64) -> Result<(), AllocError>
     requires { IsWhole fields.old }
@@ -97,6 +106,7 @@ fn push_cell(
     match cell {
         KeptCell::Text(text) => push(fields, text.as_bytes()?),
         KeptCell::Number(number) => push_number(fields, *number),
+        KeptCell::Signed(number) => push_signed(fields, *number),
         KeptCell::Tenths(number) => push_tenths(alloc, fields, *number),
         KeptCell::Absent => push(fields, absent.as_bytes()),
     }

@@ -60,6 +60,7 @@ fn put_cell(text: &mut Text, cell: &KeptCell) -> Result<(), AllocError>
     match cell {
         KeptCell::Text(words) => put_quoted(text, words.as_bytes()?),
         KeptCell::Number(number) => text.put_number(*number),
+        KeptCell::Signed(number) => text.put_signed(*number),
         KeptCell::Tenths(number) => text.put_tenths(*number),
         KeptCell::Absent => text.put("null"),
     }

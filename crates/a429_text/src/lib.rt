@@ -44,8 +44,8 @@ mod said;
 mod sheets;
 mod text;
 
-pub use cells::Cell;
+pub use cells::{Cell, Row};
 pub use gathered::Gathered;
 pub use rows::Rows;
-pub use sheets::{Sheet, SheetForm};
+pub use sheets::{Sheet, SheetForm, render_rows};
 pub use text::Text;

@@ -1,5 +1,5 @@
 //! Rows of cells.
-ghost use Rattle.std.specs.Prelude.{◌≡◌, ◌==◌, ◌++◌, ◌∷◌, [], length, map, option_map, IfOk};
+ghost use Rattle.std.specs.Prelude.{◌≡◌, ◌==◌, ◌++◌, ◌∷◌, [], length, map, option_map, IfOk, OnOk};
 ghost use Rattle.a429_text.specs.Sheets.{field_of, text_at};
 
 use crate::cells::{Cell, Row};
@@ -40,6 +40,14 @@ impl Rows {
         ensures { self.new ≡ self.old ++ map field_of cells.now ∷ [] }
     {
         self.rows.push(Row::of(self.alloc, cells));
+    }
+
+    /// Adds a row with further cells at its end. Error: an allocation failed for a cell of the row.
+    pub fn add_wider(&mut self, row: &Row, more: &[Cell<'_>]) -> Result<(), AllocError>
+        ensures { OnOk result (self.new ≡ self.old ++ (row.now ++ map field_of more.now) ∷ []) }
+    {
+        self.rows.push(row.wider(self.alloc, more)?);
+        Ok(())
     }
 
     /// Whether there is no row. Error: an allocation failed for a row.

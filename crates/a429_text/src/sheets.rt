@@ -27,19 +27,29 @@ pub struct Sheet {
     pub rows: Rows,
 }
 
+/// Rows under the names of columns in a form: the names and then a line for each row, or an array of objects. An absent
+/// cell is `-` in columns, nothing in comma-separated values, and `null` in JSON. Error: an allocation failed for a row or
+/// for the text.
+pub fn render_rows(
+    alloc: Global,
+    form: SheetForm,
+    columns: &[&str],
+    rows: &Rows,
+) -> Result<Vec<u8>, AllocError>
+    ensures { IfOk result (λ text. text.items ≡ sheet_text form (map (λ name. name.now) columns.now) rows.now) }
+{
+    match form {
+        SheetForm::Columns => aligned_text(alloc, &texts_of(alloc, "-", columns, rows)?),
+        SheetForm::Csv => csv_text(alloc, &texts_of(alloc, "", columns, rows)?),
+        SheetForm::Json => json_text(alloc, columns, rows),
+    }
+}
+
 impl Sheet {
-    /// The sheet in a form: the names of the columns and then a line for each row, or an array of objects. An absent
-    /// cell is `-` in columns, nothing in comma-separated values, and `null` in JSON. Error: an allocation failed for a
-    /// row or for the text.
+    /// The sheet in a form, as `render_rows` gives it. Error: an allocation failed for a row or for the text.
     pub fn render(&self, alloc: Global, form: SheetForm) -> Result<Vec<u8>, AllocError>
         ensures { IfOk result (λ text. text.items ≡ sheet_text form (map (λ name. name.now) self.now.columns.now) self.now.rows) }
     {
-        match form {
-            SheetForm::Columns => {
-                aligned_text(alloc, &texts_of(alloc, "-", self.columns, &self.rows)?)
-            }
-            SheetForm::Csv => csv_text(alloc, &texts_of(alloc, "", self.columns, &self.rows)?),
-            SheetForm::Json => json_text(alloc, self.columns, &self.rows),
-        }
+        render_rows(alloc, form, self.columns, &self.rows)
     }
 }

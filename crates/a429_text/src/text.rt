@@ -1,6 +1,6 @@
 //! A text that is written at its end.
 ghost use Rattle.std.specs.Prelude.{◌≡◌, ◌++◌, [], IfOk, map, replicate};
-ghost use Rattle.std.specs.Fmt.{decimal};
+ghost use Rattle.std.specs.Fmt.{decimal, signed_decimal};
 ghost use Rattle.a429_word.specs.Hexadecimal.{hex};
 ghost use Rattle.a429_text.specs.Texts.{filled, octal, tenths};
 
@@ -71,6 +71,15 @@ impl Text {
     /// Writes a number in decimal.
     pub fn put_number(&mut self, number: u64)
         ensures { self.new ≡ self.old ++ decimal number }
+    {
+        let mut room = Buffer::new();
+        let digits = room.format(number);
+        self.put(digits);
+    }
+
+    /// Writes a number that may be below 0 in decimal.
+    pub fn put_signed(&mut self, number: i32)
+        ensures { self.new ≡ self.old ++ signed_decimal number }
     {
         let mut room = Buffer::new();
         let digits = room.format(number);

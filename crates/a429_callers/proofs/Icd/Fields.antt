@@ -31,9 +31,11 @@ use Rattle.a429_import.specs.declared.rows.RowNumbers.{RowNumbers}
 use Rattle.a429_import.specs.declared.rows.RowTexts.{RowTexts}
 use Rattle.a429_documents.specs.Document.{icd_columns, icd_row, limit_field, receiver_name, sdi_field}
 use Rattle.a429_import.specs.ImportFields.{filters_in, hold_in, label_in, padded, number_in, rate_in, sdi_in, text_in, utf8_in}
-use Rattle.a429_import.specs.Imports.{is_filled}
-use Rattle.a429_import.specs.ImportWords.{unwrapped}
-use Rattle.a429_import.specs.ImportRows.{CsvFault, column_field, is_column_in_millis, is_named, joined, names_group, numbers_of, texts_of}
+use Rattle.a429_import.specs.ImportIntervals.{in_micros, interval_in}
+use Rattle.a429_import.specs.Imports.{has_text, is_filled}
+use Rattle.a429_import.specs.ImportWords.{stepped, trimmed, unwrapped}
+use Rattle.a429_import.specs.ImportRows.{CsvFault, column_field, column_form, is_named, joined, names_group, numbers_of, texts_of}
+use Rattle.a429_callers.proofs.Icd.Visible.{label_stays, name_bytes, name_stays, number_stays}
 
 -- ---- numbers
 
@@ -93,21 +95,9 @@ hold_back (Some n) small = rw (not_word n small) (ap (option_map (λ n. Some n))
 
 -- ---- texts
 
-name_byte : (b : ℕ) → is_name_byte b ≡ true → b < 128
-name_byte b h = elim (or_parts ((nat_le 97 b && nat_le b 122) || (nat_le 48 b && nat_le b 57)) (b == 45 || b == 95) h) [
-  | inl either ↦ elim (or_parts (nat_le 97 b && nat_le b 122) (nat_le 48 b && nat_le b 57) either) [
-    | inl letter ↦ omega (arith, leb-true b 122 (and_parts (nat_le 97 b) (nat_le b 122) letter).1)
-    | inr digit ↦ omega (arith, leb-true b 57 (and_parts (nat_le 48 b) (nat_le b 57) digit).1)
-  ]
-  | inr either ↦ elim (or_parts (b == 45) (b == 95) either) [
-    | inl dash ↦ omega (arith, eqb-true b 45 dash)
-    | inr line ↦ omega (arith, eqb-true b 95 line)
-  ]
-]
-
 ascii : (bytes : List ℕ) → list_all is_name_byte bytes ≡ true → IsAscii bytes
 ascii [] h = IsAscii-nil
-ascii (b ∷ bytes) h = let parts = and_parts (is_name_byte b) (list_all is_name_byte bytes) h in IsAscii-cons b bytes (name_byte b parts.0) (ascii bytes parts.1)
+ascii (b ∷ bytes) h = let parts = and_parts (is_name_byte b) (list_all is_name_byte bytes) h in IsAscii-cons b bytes (name_bytes (b ∷ bytes) h).0.1 (ascii bytes parts.1)
 
 text_back : (name : List ℕ) → is_name name ≡ true → text_in name ≡ Some name
 unfolding text_in utf8_in is_name
@@ -123,6 +113,26 @@ no_text = rw (is_utf8-from_IsUtf8 [] IsUtf8-nil) refl
 no_filters : filters_in [] ≡ Some []
 unfolding filters_in
 no_filters = rw no_text refl
+
+-- ---- without blanks round them
+
+sdi_stays : (sdi : Option ℕ) → IfSome sdi (λ k. k < 4) → trimmed (field_text [] (sdi_field sdi)) ≡ field_text [] (sdi_field sdi)
+unfolding trimmed stepped
+sdi_stays None small = refl
+sdi_stays (Some zero) small = refl
+sdi_stays (Some (suc zero)) small = refl
+sdi_stays (Some (suc (suc zero))) small = refl
+sdi_stays (Some (suc (suc (suc zero)))) small = refl
+sdi_stays (Some (suc (suc (suc (suc k))))) small = absurd (omega (arith, small))
+
+hold_stays : (hold : Option ℕ) → IfSome hold (λ n. n < 2 ^ 32) → trimmed (field_text [] (limit_field hold)) ≡ field_text [] (limit_field hold)
+unfolding trimmed stepped
+hold_stays None small = refl
+hold_stays (Some n) small = number_stays n small
+
+no_text_stays : trimmed [] ≡ []
+unfolding trimmed stepped
+no_text_stays = refl
 
 -- ---- a row
 
@@ -145,10 +155,10 @@ row_by separator heading number fields =
 abbrev pub row_from : List (List ℕ) → ℕ → List (List ℕ) → Result ImportRow CsvFault
 row_from heading number fields = row_by 44 heading number fields
 
-numbers_are : (heading fields : List (List ℕ)) (n : RowNumbers) → names_group heading fields ≡ true → is_column_in_millis heading MinUs ≡ false → is_column_in_millis heading MaxUs ≡ false → rate_in (column_field heading fields Rate) ≡ Some n.rate → label_in (column_field heading fields Label) ≡ Some n.label
+numbers_are : (heading fields : List (List ℕ)) (n : RowNumbers) → names_group heading fields ≡ true → column_form heading MinUs ≡ in_micros → column_form heading MaxUs ≡ in_micros → rate_in (column_field heading fields Rate) ≡ Some n.rate → label_in (column_field heading fields Label) ≡ Some n.label
     → sdi_in (column_field heading fields Sdi) ≡ Some n.sdi → number_in (column_field heading fields MinUs) ≡ Some n.min_us → number_in (column_field heading fields MaxUs) ≡ Some n.max_us
     → hold_in (column_field heading fields Hold) ≡ Some n.hold → numbers_of 44 heading fields ≡ Ok n
-unfolding numbers_of
+unfolding numbers_of interval_in
 numbers_are heading fields n named least_in_us most_in_us rate label sdi least most hold = rw (named, rate, label, sdi, least_in_us, least, most_in_us, most, hold) refl
 
 texts_are : (heading fields : List (List ℕ)) (t : RowTexts) → text_in (column_field heading fields Group) ≡ Some t.group → text_in (column_field heading fields Source) ≡ Some t.source
@@ -176,16 +186,31 @@ pub record IsReadable (receivers : List ReceiverRow) (g : GroupRow) (s : SourceR
   pub hold : IfSome o.hold (λ n. n < 2 ^ 32)
 
 module _ (receivers : List ReceiverRow) (g : GroupRow) (s : SourceRow) (o : OutputRow) (place : SlotPlace) (limits : SendLimits) (R : IsReadable receivers g s o) (held : limits.hold ≡ o.hold) where
-  numbers_back : numbers_of 44 icd_columns (texts (icd_row false receivers g s o place limits)) ≡ Ok (read_row receivers g s o).numbers
-  unfolding column_field is_column_in_millis is_named
-  numbers_back =
-      numbers_are icd_columns (texts (icd_row false receivers g s o place limits)) (read_row receivers g s o).numbers (name_filled g.name R.group) refl refl (rate_back g.rate R.rate) (label_back s.label R.label) (sdi_back s.sdi R.sdi) (number_back o.min_us R.least)
-      (number_back o.max_us R.most) (ap (λ (h : Option ℕ). hold_in (field_text [] (limit_field h))) held ∙ hold_back o.hold R.hold)
+  -- the fields of the row, without blanks round them
+  abbrev fields : List (List ℕ)
+  fields = map trimmed (texts (icd_row false receivers g s o place limits))
 
-  texts_back : texts_of icd_columns (texts (icd_row false receivers g s o place limits)) ≡ Ok (read_row receivers g s o).texts
+  pub row_filled : has_text fields ≡ true
+  row_filled = rw (name_stays g.name R.group, name_filled g.name R.group) refl
+
+  numbers_back : numbers_of 44 icd_columns fields ≡ Ok (read_row receivers g s o).numbers
+  unfolding column_field column_form is_named
+  numbers_back =
+      numbers_are icd_columns fields (read_row receivers g s o).numbers (ap is_filled (name_stays g.name R.group) ∙ name_filled g.name R.group) refl refl
+      (ap rate_in (number_stays g.rate R.rate) ∙ rate_back g.rate R.rate)
+      (ap label_in (label_stays s.label R.label) ∙ label_back s.label R.label)
+      (ap sdi_in (sdi_stays s.sdi R.sdi) ∙ sdi_back s.sdi R.sdi)
+      (ap number_in (number_stays o.min_us R.least) ∙ number_back o.min_us R.least)
+      (ap number_in (number_stays o.max_us R.most) ∙ number_back o.max_us R.most)
+      (ap (λ (h : Option ℕ). hold_in (trimmed (field_text [] (limit_field h)))) held ∙ ap hold_in (hold_stays o.hold R.hold) ∙ hold_back o.hold R.hold)
+
+  texts_back : texts_of icd_columns fields ≡ Ok (read_row receivers g s o).texts
   unfolding column_field is_named
   texts_back =
-      texts_are icd_columns (texts (icd_row false receivers g s o place limits)) (read_row receivers g s o).texts (text_back g.name R.group) (text_back s.name R.source) (text_back (receiver_name receivers s.receiver) R.receiver) no_filters
+      texts_are icd_columns fields (read_row receivers g s o).texts
+      (ap text_in (name_stays g.name R.group) ∙ text_back g.name R.group)
+      (ap text_in (name_stays s.name R.source) ∙ text_back s.name R.source)
+      (ap text_in (name_stays (receiver_name receivers s.receiver) R.receiver) ∙ text_back (receiver_name receivers s.receiver) R.receiver) no_filters
 
-  pub row_back : (number : ℕ) → row_from icd_columns number (texts (icd_row false receivers g s o place limits)) ≡ Ok (read_row receivers g s o)
+  pub row_back : (number : ℕ) → row_from icd_columns number fields ≡ Ok (read_row receivers g s o)
   row_back number = rw (numbers_back, texts_back) refl

@@ -4,6 +4,7 @@ use Rattle.std.specs.Prelude.{◌==◌, ◌&&◌, IfSome, if◌then◌else◌, n
 use Rattle.std.specs.List.{AllByRecursion, AllZip, zip}
 use Rattle.std.specs.Option.{option_map_or, option_or}
 use Rattle.std.specs.Str.{bytes_eq}
+use Rattle.std.proofs.lemmas.List.{length-map}
 use Rattle.std.proofs.lemmas.Option.{same_Some, slice_get-get_or}
 use Rattle.csv.specs.Records.{fields_of}
 use Rattle.csv.specs.Writing.{read_back}
@@ -29,13 +30,14 @@ use Rattle.a429_import.specs.declared.rows.ImportRow.{ImportRow}
 use Rattle.a429_documents.specs.Document.{groups_rows, icd_columns, icd_rows, output_row, output_rows, receiver_name}
 use Rattle.a429_import.specs.ImportRows.{CsvFault, agreed, clash, first_clash, is_named, joined, next_row, numbers_of, other_clash, row_of, rows_after, rows_stated, source_clash, texts_of, unless_wrong, with_row, without_notes, wrong_column, is_wrong}
 use Rattle.a429_import.specs.ImportTables.{has_group, is_known}
+use Rattle.a429_import.specs.ImportWords.{stepped, trimmed}
 use Rattle.a429_import.specs.declared.firsts.Part.TheVariants.{Sources}
 use Rattle.a429_import.proofs.ImportNotes.{no_notes}
 use Rattle.a429_import.specs.Imports.{AreLines, has_text, is_wide, is_wide_text}
 use Rattle.a429_text.specs.Fields.{Field}
 use Rattle.a429_text.specs.Sheets.{csv_text_of}
-use Rattle.a429_callers.proofs.Icd.Fields.{texts, IsReadable, name_filled, read_row, row_back, row_by, row_from}
-use Rattle.a429_callers.proofs.Icd.Texts.{AreNarrow, AreRowsOf, HaveTexts, lines_back, no_wide_row}
+use Rattle.a429_callers.proofs.Icd.Fields.{texts, IsReadable, name_filled, read_row, row_back, row_by, row_filled, row_from}
+use Rattle.a429_callers.proofs.Icd.Texts.{AreNarrow, AreRowsOf, HaveTexts, lines_back, no_wide_row, read_row_of}
 use Rattle.a429_import.proofs.RowsInRecord.{IsAt}
 
 -- ---- what is read
@@ -233,7 +235,7 @@ module _ (e : TableRecord) (sound : IsSound e) where
 
   -- the fields of a row are read as this, below any number of lines
   abbrev IsReadAs : List (List ℕ) → ImportRow → Type 0
-  IsReadAs fields row = (read_back fields ≡ fields) × (has_text fields ≡ true) × ((number : ℕ) → row_from icd_columns number fields ≡ Ok row)
+  IsReadAs fields row = (read_back fields ≡ fields) × (has_text (map trimmed fields) ≡ true) × ((number : ℕ) → row_from icd_columns number (map trimmed fields) ≡ Ok row)
 
   -- the same of the texts of a row
   abbrev IsRowReadAs : List Field → ImportRow → Type 0
@@ -275,7 +277,8 @@ module _ (e : TableRecord) (sound : IsSound e) where
   unfolding output_row
   output_read g o p served group below interval hold =
       rw (source_there o.source below)
-      (refl, rw (name_filled g.name group.0) refl, λ number. row_back e.receivers g (source_at e o.source) o p.place p.limits (is_readable g o group below interval hold) served.2 number)
+      (let R = is_readable g o group below interval hold in
+      (refl, row_filled e.receivers g (source_at e o.source) o p.place p.limits R served.2, λ number. row_back e.receivers g (source_at e o.source) o p.place p.limits R served.2 number))
 
   outputs_read : (g : GroupRow) (os : List OutputRow) (ps : List Placed) → AllZip (IsServed g.rate) os ps → IsGroupRow g → HaveSources e.sources os → AllByRecursion IsInterval os → AllByRecursion IsHold os
       → AllZip IsRowReadAs (output_rows false e g os ps) (map (read_output e g) os)
@@ -299,10 +302,10 @@ module _ (e : TableRecord) (sound : IsSound e) where
 
   -- ---- the lines
 
-  line_read : (line : CsvLine) (fields : List (List ℕ)) (row : ImportRow) → line.separator ≡ 44 → fields_of line.fields ≡ read_back fields → IsReadAs fields row → row_of icd_columns line ≡ Ok row
+  line_read : (line : CsvLine) (fields : List (List ℕ)) (row : ImportRow) → line.separator ≡ 44 → fields_of line.fields ≡ read_row_of fields → IsReadAs fields row → row_of icd_columns line ≡ Ok row
   unfolding row_of
   line_read line fields row commas has read =
-      ap (λ (s : ℕ). row_by s icd_columns line.number (fields_of line.fields)) commas ∙ ap (row_from icd_columns line.number) (has ∙ read.0) ∙ read.2 line.number
+      ap (λ (s : ℕ). row_by s icd_columns line.number (fields_of line.fields)) commas ∙ ap (row_from icd_columns line.number) (has ∙ ap (map trimmed) read.0) ∙ read.2 line.number
 
   first_is : (x y : List (List ℕ)) (xs ys : List (List (List ℕ))) → ◌≡◌ {A = List (List (List ℕ))} (x ∷ xs) (y ∷ ys) → x ≡ y
   first_is x y xs ys h = ap (λ (zs : List (List (List ℕ))). get_or zs 0 []) h
@@ -313,28 +316,32 @@ module _ (e : TableRecord) (sound : IsSound e) where
   longer : (y : List (List ℕ)) (ys : List (List (List ℕ))) → ◌≡◌ {A = List (List (List ℕ))} [] (y ∷ ys) → ⊥
   longer y ys h = omega (arith, ap length h)
 
-  lines_read : (lines : List CsvLine) (texts : List (List (List ℕ))) (rows : List ImportRow) → map (λ l. fields_of l.fields) lines ≡ map read_back texts → AllByRecursion (λ l. l.separator ≡ 44) lines → AllZip IsReadAs texts rows
+  lines_read : (lines : List CsvLine) (texts : List (List (List ℕ))) (rows : List ImportRow) → map (λ l. fields_of l.fields) lines ≡ map read_row_of texts → AllByRecursion (λ l. l.separator ≡ 44) lines → AllZip IsReadAs texts rows
       → AllZip (λ line row. row_of icd_columns line ≡ Ok row) lines rows
   lines_read [] [] [] has commas read = tt
   lines_read [] [] (row ∷ rows) has commas read = absurd read
-  lines_read [] (t ∷ texts) rows has commas read = absurd (longer (read_back t) (map read_back texts) has)
+  lines_read [] (t ∷ texts) rows has commas read = absurd (longer (read_row_of t) (map read_row_of texts) has)
   lines_read (line ∷ lines) [] rows has commas read = absurd (longer (fields_of line.fields) (map (λ (l : CsvLine). fields_of l.fields) lines) (sym has))
   lines_read (line ∷ lines) (t ∷ texts) [] has commas read = absurd read
   lines_read (line ∷ lines) (t ∷ texts) (row ∷ rows) has commas read = (
-    line_read line t row commas.0 (first_is (fields_of line.fields) (read_back t) (map (λ (l : CsvLine). fields_of l.fields) lines) (map read_back texts) has) read.0,
-    lines_read lines texts rows (later_are (fields_of line.fields) (read_back t) (map (λ (l : CsvLine). fields_of l.fields) lines) (map read_back texts) has) commas.1 read.1,
+    line_read line t row commas.0 (first_is (fields_of line.fields) (read_row_of t) (map (λ (l : CsvLine). fields_of l.fields) lines) (map read_row_of texts) has) read.0,
+    lines_read lines texts rows (later_are (fields_of line.fields) (read_row_of t) (map (λ (l : CsvLine). fields_of l.fields) lines) (map read_row_of texts) has) commas.1 read.1,
   )
 
   no_wrong_column : wrong_column icd_columns ≡ None
   unfolding wrong_column is_wrong is_named
   no_wrong_column = refl
 
+  heading_stays : read_row_of icd_columns ≡ icd_columns
+  unfolding trimmed stepped
+  heading_stays = refl
+
   stated_from : (lines : List CsvLine) (texts : List (List (List ℕ))) → AreRowsOf (icd_columns ∷ texts) lines → AllZip IsReadAs texts (read_table e) → rows_stated lines ≡ Ok (read_table e)
   unfolding rows_stated
-  stated_from [] texts are read = absurd (longer (read_back icd_columns) (map read_back texts) are.fields)
+  stated_from [] texts are read = absurd (longer (read_row_of icd_columns) (map read_row_of texts) are.fields)
   stated_from (heading ∷ lines) texts are read =
-      let head : fields_of heading.fields ≡ icd_columns = first_is (fields_of heading.fields) icd_columns (map (λ (l : CsvLine). fields_of l.fields) lines) (map read_back texts) are.fields in
-      let rest = later_are (fields_of heading.fields) icd_columns (map (λ (l : CsvLine). fields_of l.fields) lines) (map read_back texts) are.fields in
+      let head : fields_of heading.fields ≡ icd_columns = first_is (fields_of heading.fields) (read_row_of icd_columns) (map (λ (l : CsvLine). fields_of l.fields) lines) (map read_row_of texts) are.fields ∙ heading_stays in
+      let rest = later_are (fields_of heading.fields) (read_row_of icd_columns) (map (λ (l : CsvLine). fields_of l.fields) lines) (map read_row_of texts) are.fields in
       let stated : rows_after icd_columns [] lines ≡ Ok (read_table e) =
       after_all icd_columns lines (read_table e) [] (lines_read lines texts (read_table e) rest are.separators.1 read) tt rows_are in
       ap (λ (o : Option ImportColumn). unless_wrong heading lines o) (ap wrong_column head ∙ no_wrong_column)
@@ -342,23 +349,26 @@ module _ (e : TableRecord) (sound : IsSound e) where
       ∙ ap (rows_after icd_columns []) (no_notes icd_columns lines [] (read_table e) stated)
       ∙ stated
 
+  heading_filled : has_text (read_row_of icd_columns) ≡ true
+  heading_filled = ap has_text heading_stays
+
   have_texts : (texts : List (List (List ℕ))) (rows : List ImportRow) → AllZip IsReadAs texts rows → HaveTexts texts
   have_texts [] rows read = tt
   have_texts (t ∷ texts) [] read = absurd read
-  have_texts (t ∷ texts) (row ∷ rows) read = (ap has_text read.0.0 ∙ read.0.1, have_texts texts rows read.1)
+  have_texts (t ∷ texts) (row ∷ rows) read = (ap (λ (fields : List (List ℕ)). has_text (map trimmed fields)) read.0.0 ∙ read.0.1, have_texts texts rows read.1)
 
   -- a row that is read has as many fields as the heading
-  narrow_by : (t : Bool) (fields : List (List ℕ)) (row : ImportRow) (read : Result ImportRow CsvFault) → (length fields == length icd_columns) ≡ t → (if t then read else Err (0, Form, None)) ≡ Ok row
+  narrow_by : (t : Bool) (fields : List (List ℕ)) (row : ImportRow) (read : Result ImportRow CsvFault) → (length (map trimmed fields) == length icd_columns) ≡ t → (if t then read else Err (0, Form, None)) ≡ Ok row
       → is_wide fields ≡ false
-  narrow_by true fields row read same h = ap (nat_lt 100000) (eqb-true (length fields) (length icd_columns) same)
+  narrow_by true fields row read same h = ap (nat_lt 100000) (sym (length-map fields trimmed) ∙ eqb-true (length (map trimmed fields)) (length icd_columns) same)
   narrow_by false fields row read same h = cc
 
   are_narrow : (texts : List (List (List ℕ))) (rows : List ImportRow) → AllZip IsReadAs texts rows → AreNarrow texts
   are_narrow [] rows read = tt
   are_narrow (t ∷ texts) [] read = absurd read
   are_narrow (t ∷ texts) (row ∷ rows) read =
-      let same : Bool = length t == length icd_columns in
-      let here = narrow_by same t row (joined 0 (numbers_of 44 icd_columns t) (texts_of icd_columns t)) refl (read.0.2 0) in
+      let fields : List (List ℕ) = map trimmed t in
+      let here = narrow_by (length fields == length icd_columns) t row (joined 0 (numbers_of 44 icd_columns fields) (texts_of icd_columns fields)) refl (read.0.2 0) in
       (ap is_wide read.0.0 ∙ here, are_narrow texts rows read.1)
 
   all_read : (p : PlanTable) → IsPlanOf e p → AllZip IsReadAs (map texts (icd_rows false e p)) (read_table e)
@@ -371,4 +381,4 @@ module _ (e : TableRecord) (sound : IsSound e) where
   pub rows_stated_are : (p : PlanTable) (lines : List CsvLine) → IsPlanOf e p → AreLines [] (csv_text_of (icd_columns ∷ map texts (icd_rows false e p))) lines → rows_stated lines ≡ Ok (read_table e)
   rows_stated_are p lines planned are =
       let read = all_read p planned in
-      stated_from lines (map texts (icd_rows false e p)) (lines_back (map texts (icd_rows false e p)) lines (refl, have_texts (map texts (icd_rows false e p)) (read_table e) read) are) read
+      stated_from lines (map texts (icd_rows false e p)) (lines_back (map texts (icd_rows false e p)) lines (heading_filled, have_texts (map texts (icd_rows false e p)) (read_table e) read) are) read

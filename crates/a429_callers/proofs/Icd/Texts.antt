@@ -16,6 +16,7 @@ use Rattle.a429_text.specs.Sheets.{csv_text_of}
 use Rattle.a429_documents.specs.Document.{icd_columns}
 use Rattle.a429_import.specs.ImportForms.{ends_line, first_line, from_heading, from_line, heading_among, heading_of, is_heading, separator_in, separators, without_byte_order_mark}
 use Rattle.a429_import.specs.ImportRows.{is_named}
+use Rattle.a429_import.specs.ImportWords.{stepped, trimmed}
 use Rattle.a429_import.specs.Imports.{AreLines, has_row_above, has_text, has_wide_row, is_misquoted_text, is_wide, is_wide_text, separated}
 use Rattle.a429_import.specs.ImportQuotes.{has_wrong_quotes, is_misquoted, is_misquoted_from}
 use Rattle.a429_import.proofs.FirstPlaces.{position_first}
@@ -79,7 +80,7 @@ first_names rest =
     (position_first ends_line (after_names rest) 114 10 (none_before ends_line names refl) refl refl)
 
 commas : find (is_heading [] names) separators ≡ Some 44
-unfolding is_named
+unfolding is_named trimmed stepped
 commas = refl
 
 heading_there : (rest : List ℕ) → heading_of [] (after_names rest) ≡ Some (44, after_names rest)
@@ -98,21 +99,25 @@ no_mark rest = refl
 
 -- ---- no row is empty
 
+-- a row as it is read
+abbrev pub read_row_of : List (List ℕ) → List (List ℕ)
+read_row_of row = map trimmed (read_back row)
+
 -- each row has a field that is not empty
 abbrev pub HaveTexts : List (List (List ℕ)) → Type 0
-HaveTexts rows = AllByRecursion (λ row. has_text (read_back row) ≡ true) rows
+HaveTexts rows = AllByRecursion (λ row. has_text (read_row_of row) ≡ true) rows
 
-all_kept : (rows : List (List (List ℕ))) (lines : List CsvLine) → HaveTexts rows → map (λ l. fields_of l.fields) lines ≡ map read_back rows → filter (λ l. has_text (fields_of l.fields)) lines ≡ lines
+all_kept : (rows : List (List (List ℕ))) (lines : List CsvLine) → HaveTexts rows → map (λ l. fields_of l.fields) lines ≡ map read_row_of rows → filter (λ l. has_text (fields_of l.fields)) lines ≡ lines
 all_kept rows [] texts same = refl
 all_kept [] (line ∷ lines) texts same = absurd (omega (arith, ap length same))
 all_kept (row ∷ rows) (line ∷ lines) texts same =
-    let here : fields_of line.fields ≡ read_back row = ap (λ (zs : List (List (List ℕ))). get_or zs 0 []) same in
-    let later : map (λ (l : CsvLine). fields_of l.fields) lines ≡ map read_back rows = ap (drop 1) same in
+    let here : fields_of line.fields ≡ read_row_of row = ap (λ (zs : List (List (List ℕ))). get_or zs 0 []) same in
+    let later : map (λ (l : CsvLine). fields_of l.fields) lines ≡ map read_row_of rows = ap (drop 1) same in
     rw (ap has_text here ∙ texts.0) (ap (λ (ls : List CsvLine). line ∷ ls) (all_kept rows lines texts.1 later))
 
 -- the lines of a document are its rows
 pub record AreRowsOf (rows : List (List (List ℕ))) (lines : List CsvLine) : Type 0 where
-  pub fields : map (λ l. fields_of l.fields) lines ≡ map read_back rows
+  pub fields : map (λ l. fields_of l.fields) lines ≡ map read_row_of rows
   pub separators : AllByRecursion (λ l. l.separator ≡ 44) lines
 
 abbrev text : List (List (List ℕ)) → List ℕ
@@ -133,15 +138,19 @@ unmarked rows = let is = text_is rows in ap strip_bom is ∙ no_mark (text_of ro
 from_the_first : (rows : List (List (List ℕ))) → strip_bom (from_heading [] (text rows)) ≡ text rows
 from_the_first rows = ap strip_bom (from_itself rows) ∙ unmarked rows
 
+each_trimmed : (rows : List (List (List ℕ))) → map (map trimmed) (map read_back rows) ≡ map read_row_of rows
+each_trimmed [] = refl
+each_trimmed (row ∷ rows) = ap (λ (xs : List (List (List ℕ))). read_row_of row ∷ xs) (each_trimmed rows)
+
 pub lines_back : (rows : List (List (List ℕ))) (lines : List CsvLine) → HaveTexts (icd_columns ∷ rows) → AreLines [] (csv_text_of (icd_columns ∷ rows)) lines → AreRowsOf (icd_columns ∷ rows) lines
 unfolding csv_text_of
 lines_back rows lines texts h =
-    let fields : List (List (List ℕ)) = map (λ (l : CsvLine). fields_of l.fields) h.all in
     let separator = commas_separate rows in
     let from = from_the_first rows in
-    let one = subst (λ (s : ℕ). AreRecords (separated s) st.StartRecord (strip_bom (from_heading [] (text rows))) fields) separator h.records in
-    let two = subst (λ (xs : List ℕ). AreRecords default_config st.StartRecord xs fields) from one in
-    let same : fields ≡ map read_back (icd_columns ∷ rows) = records_back (icd_columns ∷ rows) fields two in
+    let one = subst (λ (s : ℕ). AreRecords (separated s) st.StartRecord (strip_bom (from_heading [] (text rows))) h.rows) separator h.records in
+    let two = subst (λ (xs : List ℕ). AreRecords default_config st.StartRecord xs h.rows) from one in
+    let read : h.rows ≡ map read_back (icd_columns ∷ rows) = records_back (icd_columns ∷ rows) h.rows two in
+    let same : map (λ (l : CsvLine). fields_of l.fields) h.all ≡ map read_row_of (icd_columns ∷ rows) = h.fields ∙ ap (map (map trimmed)) read ∙ each_trimmed (icd_columns ∷ rows) in
     let lines_are : lines ≡ h.all = h.filled ∙ all_kept (icd_columns ∷ rows) h.all texts same in
     record {
       fields = ap (map (λ (l : CsvLine). fields_of l.fields)) lines_are ∙ same;

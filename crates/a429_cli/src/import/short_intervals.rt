@@ -1,12 +1,13 @@
 //! Intervals of an imported table that may be milliseconds.
-ghost use Rattle.std.specs.Prelude.{◌≡◌, ◌↔◌, IsTrue, length, slice_get, Some};
+ghost use Rattle.std.specs.Prelude.{◌≡◌, ◌<◌, ◌↔◌, IsTrue, length, slice_get, true, Some};
 ghost use Rattle.std.specs.List.{AllByRecursion};
-ghost use Rattle.a429_cli.specs.Importing.{HasNoShortGroup, IsShortInterval, StatesNoShortGroup};
+ghost use Rattle.a429_documents.specs.Lint.{IsMillisGroup};
+ghost use Rattle.a429_cli.specs.Importing.{HasNoMillisGroup, HasNoShortGroup, IsShortInterval};
 
 use a429_console::hints::warnings::Warning;
+use a429_documents::is_millis_group;
 use a429_equipment::{Equipment, OutputRow};
 use a429_grid::grid_period;
-use a429_table::read_equipment;
 use std::alloc::Global;
 
 /// The least time in microseconds that is no short interval: one millisecond.
@@ -35,8 +36,8 @@ fn are_short(rows: &[OutputRow], rate: u32) -> bool
     true
 }
 
-/// Notes each group all of whose outputs have such an interval, in table order.
-fn note_groups(equipment: &Equipment, warnings: &mut Vec<Warning>)
+/// Notes each group all of whose outputs have such an interval, in table order: they may be milliseconds.
+pub fn note_short_intervals(equipment: &Equipment, warnings: &mut Vec<Warning>)
     ensures { HasNoShortGroup equipment.now → warnings.new.items ≡ warnings.old.items }
 {
     for group in 0..equipment.groups().len() {
@@ -46,11 +47,24 @@ fn note_groups(equipment: &Equipment, warnings: &mut Vec<Warning>)
     }
 }
 
-/// Notes each group of a table whose intervals may be milliseconds, unless an allocation fails.
-pub fn note_short_intervals(alloc: Global, table: &[u8], warnings: &mut Vec<Warning>)
-    ensures { StatesNoShortGroup table.now → warnings.new.items ≡ warnings.old.items }
+/// Whether `lint` finds that the intervals of a group may be milliseconds. `false` if an allocation fails.
+fn is_millis(alloc: Global, equipment: &Equipment, group: usize) -> bool
+    requires { group < length equipment.now.groups }
+    ensures { result ≡ true → IsMillisGroup equipment.now group true }
 {
-    if let Ok(equipment) = read_equipment(alloc, table) {
-        note_groups(&equipment, warnings);
+    match is_millis_group(alloc, equipment, group) {
+        Ok(found) => found,
+        Err(_) => false,
+    }
+}
+
+/// Notes each group for which `lint` finds that its intervals may be milliseconds, in table order.
+pub fn note_millis_groups(alloc: Global, equipment: &Equipment, warnings: &mut Vec<Warning>)
+    ensures { HasNoMillisGroup equipment.now → warnings.new.items ≡ warnings.old.items }
+{
+    for group in 0..equipment.groups().len() {
+        if is_millis(alloc, equipment, group) {
+            Warning::note_millis_group(warnings, equipment.groups()[group].name);
+        }
     }
 }

@@ -73,6 +73,8 @@ pub enum Warning {
     CloseWords(Name),
     /// All intervals of the group of this name are below 1000 µs, and none allows a period: they may be milliseconds.
     ShortIntervals(Name),
+    /// The intervals of the group of this name may be milliseconds: the finding of `lint`.
+    MillisGroup(Name),
     /// This number of rows below the imported ones have no label, and were passed over as notes.
     Notes(usize),
 }
@@ -108,6 +110,11 @@ impl Warning {
     /// Notes a group whose intervals may be milliseconds, unless an allocation fails.
     pub fn note_short_intervals(warnings: &mut Vec<Warning>, group: Name) {
         note(warnings, Warning::ShortIntervals(group));
+    }
+
+    /// Notes a group with the finding `milliseconds` of `lint`, unless an allocation fails.
+    pub fn note_millis_group(warnings: &mut Vec<Warning>, group: Name) {
+        note(warnings, Warning::MillisGroup(group));
     }
 
     /// Notes a number of rows that were passed over, unless an allocation fails.

@@ -1,6 +1,7 @@
 //! What was read of a refused text, for a hint.
 
 use crate::files::FileTrouble;
+use crate::refusals::rows::RowsEvidence;
 use a429_equipment::Equipment;
 use a429_logs::{LineFault, Shape, TimeUnit};
 use a429_slots::{OUTPUTS, Proposal};
@@ -382,13 +383,4 @@ impl TableEvidence {
             equipment: Some(equipment),
         }
     }
-}
-
-/// Rows of comma-separated values that are refused.
-#[derive(Drop)]
-pub struct RowsEvidence {
-    /// The bytes of their file.
-    pub bytes: Vec<u8>,
-    /// The name of the column that is at fault, if one is.
-    pub column: Option<&'static str>,
 }

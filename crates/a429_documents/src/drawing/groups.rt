@@ -9,6 +9,7 @@ use crate::drawing::places::{height_of, slots_of};
 use crate::drawing::rows::{put_buses, put_numbers};
 use crate::drawing::shapes::put_shapes;
 use crate::drawing::times::put_lasting;
+use crate::kept::KeptText;
 use a429_equipment::{Equipment, GroupRow};
 use a429_slots::{GroupPlan, OUTPUTS, Proposal};
 use a429_text::Text;
@@ -63,9 +64,15 @@ fn drawn_group(proposal: &Proposal<OUTPUTS>, form: DrawingForm, number: usize) -
 }
 
 /// Writes a group whose marks begin at this index in the list of marks. Returns the index after them.
-fn put_group(text: &mut Text, group: &DrawnGroup<'_>, marks: &[Mark], begin: usize) -> usize {
+fn put_group(
+    text: &mut Text,
+    group: &DrawnGroup<'_>,
+    texts: &[KeptText<'_>],
+    marks: &[Mark],
+    begin: usize,
+) -> usize {
     put_title(text, group);
-    put_shapes(text, group);
+    put_shapes(text, group, texts);
     text.put("</defs>\n");
     put_numbers(text, group);
     let next = put_buses(text, group, marks, begin);
@@ -74,10 +81,11 @@ fn put_group(text: &mut Text, group: &DrawnGroup<'_>, marks: &[Mark], begin: usi
     next
 }
 
-/// Writes `count` groups from the first one on, each at its upper edge.
+/// Writes `count` groups from the first one on, each at its upper edge. These are what comments of the table say.
 pub(crate) fn put_groups(
     text: &mut Text,
     proposal: &Proposal<OUTPUTS>,
+    texts: &[KeptText<'_>],
     form: DrawingForm,
     first: usize,
     count: usize,
@@ -91,6 +99,6 @@ pub(crate) fn put_groups(
         let top = height_of(proposal.plan(), form, first, place);
         text.fill(&["<g transform='translate(0 ", ")'>\n"], &[top]);
         let group = drawn_group(proposal, form, first + place);
-        next = put_group(text, &group, marks, next);
+        next = put_group(text, &group, texts, marks, next);
     }
 }

@@ -86,8 +86,20 @@ fn put_entry(text: &mut Text, group: &DrawnGroup<'_>, output: OutputId, source: 
     put_period(text, group.row.rate, group.table.place(output));
 }
 
-/// Writes the legend of a group. Its entries are written in table order, each at its place.
+/// Writes the name of a group above its legend.
+fn put_heading(text: &mut Text, group: &DrawnGroup<'_>) {
+    let top = legend_top(group.form, group.table);
+    text.fill(
+        &["<text x='8' y='", "' font-size='10'>group "],
+        &[top.saturating_sub(2)],
+    );
+    text.put(group.row.name.as_str());
+    text.put("</text>\n");
+}
+
+/// Writes the legend of a group below its name. Its entries are written in table order, each at its place.
 pub(crate) fn put_legend(text: &mut Text, group: &DrawnGroup<'_>) {
+    put_heading(text, group);
     let sources = group.equipment.sources();
     for output in 0..group.table.outputs() {
         let output = OutputId::new(output);

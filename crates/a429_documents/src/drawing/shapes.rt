@@ -1,5 +1,7 @@
 //! The outputs of a group in an image: their shapes.
 use crate::drawing::groups::DrawnGroup;
+use crate::kept::KeptText;
+use crate::page::put_escaped;
 use a429_equipment::SourceRow;
 use a429_slots::OutputId;
 use a429_text::Text;
@@ -30,25 +32,44 @@ fn put_colour(text: &mut Text, source: &SourceRow) {
     );
 }
 
-/// Writes the shape of an output that sends this source: its colour, its label, and the name of the source, which a viewer
-/// shows under the pointer.
-fn put_shape(text: &mut Text, group: usize, output: usize, source: &SourceRow) {
+/// Writes what comments of the table say of a source: each column and its text, after a comma.
+fn put_said(text: &mut Text, texts: &[KeptText<'_>], source: &str) {
+    for said in texts {
+        if said.source == source {
+            text.put(", ");
+            put_escaped(text, said.column.as_bytes());
+            text.put(" ");
+            put_escaped(text, said.text.as_bytes());
+        }
+    }
+}
+
+/// Writes the shape of an output that sends this source: its colour, its label, and the name of the source with what
+/// comments of the table say of it, which a viewer shows under the pointer.
+fn put_shape(
+    text: &mut Text,
+    group: usize,
+    output: usize,
+    source: &SourceRow,
+    texts: &[KeptText<'_>],
+) {
     text.fill(
         &["<g id='o", "-", "'><title>"],
         &[group as u64, output as u64],
     );
     text.put(source.name.as_str());
+    put_said(text, texts, source.name.as_str());
     put_colour(text, source);
     text.put_octal(source.label.value());
     text.put("</text></g>\n");
 }
 
 /// Writes the shapes of a group's outputs, in table order. They are not shown here: the marks refer to them.
-pub(crate) fn put_shapes(text: &mut Text, group: &DrawnGroup<'_>) {
+pub(crate) fn put_shapes(text: &mut Text, group: &DrawnGroup<'_>, texts: &[KeptText<'_>]) {
     let sources = group.equipment.sources();
     for output in 0..group.table.outputs() {
         if let Some(source) = sources.get(group.table.source(OutputId::new(output))) {
-            put_shape(text, group.number, output, source);
+            put_shape(text, group.number, output, source, texts);
         }
     }
 }

@@ -12,7 +12,7 @@ use crate::simulate::log::LogWord;
 use crate::simulate::machine::{Happening, SentWord};
 use crate::simulate::tracks::{micros_of, rate_of};
 use a429_core::Refusal;
-use a429_replay::Names;
+use a429_replay::{Names, refusal_reason};
 use a429_slots::{OUTPUTS, Proposal};
 use a429_text::from_end::{put_decimal, put_hex, put_text};
 use std::alloc::{AllocError, Global};
@@ -114,24 +114,6 @@ fn put_end(room: &mut [u8], end: usize, style: LineStyle) -> usize
     match style {
         LineStyle::Commas => put_text(room, end, b",,\n"),
         _ => put_text(room, end, b"\n"),
-    }
-}
-
-/// The name of the reason for which a word is refused.
-fn reason(refusal: Refusal) -> &'static [u8]
-    ensures name { result.now ≡ refusal_text refusal }
-    ensures short { length result.now ≤ 16 }
-{
-    match refusal {
-        Refusal::NoSuch => b"no-such",
-        Refusal::Parity => b"parity",
-        Refusal::Filtered => b"filtered",
-        Refusal::NoSource => b"no-source",
-        Refusal::CountSpent => b"count-spent",
-        Refusal::FrameEnd => b"frame-end",
-        Refusal::MidFrame => b"mid-frame",
-        Refusal::SlotsSpent => b"slots-spent",
-        Refusal::StationDiffers => b"station-differs",
     }
 }
 
@@ -293,7 +275,7 @@ impl Setting {
     {
         let mut room = [0u8; ROOM];
         let at = put_text(&mut room, ROOM, b"\n");
-        let at = put_text(&mut room, at, reason(refusal));
+        let at = put_text(&mut room, at, refusal_reason(refusal));
         let at = put_text(&mut room, at, b" refused ");
         let at = put_hex(&mut room, at, word.raw);
         let at = put_text(&mut room, at, b" ");
@@ -322,7 +304,7 @@ impl Setting {
     {
         let mut room = [0u8; ROOM];
         let at = put_text(&mut room, ROOM, b"\n");
-        let at = put_text(&mut room, at, reason(refusal));
+        let at = put_text(&mut room, at, refusal_reason(refusal));
         let at = put_text(&mut room, at, b",");
         let at = put_text(
             &mut room,

@@ -18,5 +18,5 @@ returns g c =
     let v = c.in_ok-verdict.verdict in
     read_weaker c.in_ok-verdict.ensures (λ file is.
     let none = IsNoCheck file c.args.table.now c.args.plan.now in
-    matched_both c.verdict_reply.result (λ reply. IsVerdictReply v reply.status reply.bytes.items) (λ reply. IsCheckOf file c.args.table.now c.args.plan.now reply.status reply.bytes.items)
+    matched_both c.verdict_reply.result (λ reply. IsVerdictReply c.args.form v reply.status reply.bytes.items) (λ reply. IsCheckOf file c.args.form c.args.table.now c.args.plan.now reply.status reply.bytes.items)
     (OrMemory (λ refusal. ⊥)) (OrMemory none) (λ reply said. (v, is, said)) (λ e bad. or_memory_weaker (λ refusal. ⊥) none e (λ no. absurd no) bad) c.verdict_reply.ensures)

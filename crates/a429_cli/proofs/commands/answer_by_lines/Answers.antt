@@ -7,15 +7,20 @@ use Rattle.a429_arguments.specs.declared.options.OptionName.TheVariants as optio
 use Rattle.a429_recordings.specs.LogItems.{channels_named, logs_named}
 use Rattle.a429_recordings.specs.declared.simulate.SimulationForm.{SimulationForm}
 use Rattle.a429_recordings.specs.SimulationReplies.{IsSimulation, SimulatesSpacedWords, simulation_form}
+use Rattle.a429_arguments.specs.Given.{form_of}
+use Rattle.a429_text.specs.declared.sheets.SheetForm.{SheetForm}
 use Rattle.a429_cli.specs.LineReplies.{IsLinesReply}
 use Rattle.a429_replay.specs.Replaying.{IsReplay, TakesFurther}
+use Rattle.a429_replay.specs.Views.{AskedView, asked_view, view_given}
 use Rattle.a429_cli.proofs.commands.answer_by_lines.Goals as goal
 
 pub returns-in-Lines-clause-read : goal.returns-in-Lines-clause-read
 returns-in-Lines-clause-read g c =
     rw c.in-Lines.is
     (read_weaker c.tell_lines.ensures.told (λ file is. IfOk-weaker c.tell_lines.result _ _ (λ status told.
-    let reply : IsLinesReply file c.args.asked.now.first.now (texts_of c.args.asked.now.more.items) status told.0 = rw c.deref.ensures.value at told.1 in
+    let by_names : IsLinesReply file c.form.result c.args.asked.now.first.now (texts_of c.args.asked.now.more.items) status told.0 = rw c.deref.ensures.value at told.1 in
+    let reply : IsLinesReply file (form_of (asked_of c.args.asked.now).given) c.args.asked.now.first.now (texts_of c.args.asked.now.more.items) status told.0 =
+    subst (λ (f : SheetForm). IsLinesReply file f c.args.asked.now.first.now (texts_of c.args.asked.now.more.items) status told.0) c.form.ensures by_names in
     (told.0, inl reply, told.2))
     is))
 
@@ -23,7 +28,10 @@ pub returns-in-Replay-clause-read : goal.returns-in-Replay-clause-read
 returns-in-Replay-clause-read g c =
     rw c.in-Replay.is
     (read_weaker c.replay.ensures.replayed (λ file is. IfOk-weaker c.replay.result _ _ (λ status told.
-    let reply : IsReplay file c.args.asked.now.first.now c.args.asked.now.second.now (texts_of c.args.asked.now.more.items) status told.0 = rw c.deref-in-Replay.ensures.value at told.1 in
+    let by_names : IsReplay file (asked_view c.of-view.result) c.args.asked.now.first.now c.args.asked.now.second.now (texts_of c.args.asked.now.more.items) status told.0 =
+    rw c.deref-in-Replay.ensures.value at told.1 in
+    let reply : IsReplay file (view_given (asked_of c.args.asked.now).given) c.args.asked.now.first.now c.args.asked.now.second.now (texts_of c.args.asked.now.more.items) status told.0 =
+    subst (λ (v : AskedView). IsReplay file v c.args.asked.now.first.now c.args.asked.now.second.now (texts_of c.args.asked.now.more.items) status told.0) c.of-view.ensures by_names in
     (told.0, inl reply, told.2))
     is))
 

@@ -1,10 +1,11 @@
-use Rattle.std.proofs.Common.{ℕ, Bool, List, ap, refl, subst, subst₂, sym}
+use Rattle.std.proofs.Common.{ℕ, List, ap, refl, subst, subst₂, sym}
 use Rattle.a429_console.proofs.ReadingParts.{read_none, read_weaker}
 use Rattle.a429_arguments.specs.Requests.{asked_of}
 use Rattle.a429_arguments.specs.declared.forms.Verb.TheVariants as verb
 use Rattle.a429_text.specs.declared.sheets.SheetForm.{SheetForm}
+use Rattle.a429_cli.specs.Checks.{AnswersCheck}
+use Rattle.a429_cli.specs.WordLines.{IsNoWord, IsWordOf}
 use Rattle.a429_cli.specs.Encoding.{FieldBytes, IsEncoded, IsNotEncoded}
-use Rattle.a429_cli.specs.Findings.{AnswersDiff, IsLinted, IsNoLint}
 use Rattle.a429_cli.specs.WholeReplies.{Replies}
 use Rattle.a429_import.specs.declared.import.ImportOptions.{ImportOptions}
 use Rattle.a429_cli.specs.Importing.{ImportsSilently, IsImportReply}
@@ -14,12 +15,13 @@ use Rattle.a429_cli.proofs.commands.reply_to.Goals as goal
 
 pub returns-in-Word-clause-replied : goal.returns-in-Word-clause-replied
 returns-in-Word-clause-replied g c =
-    given_by g.F.FileReader.answers c.args.files.now c.args.files.now (asked_of c.args.asked.now) c.word_reply.result c.args.asked.now.verb verb.Word c.in-Word.is (read_none refl (λ file. c.word_reply.ensures))
+    given_by g.F.FileReader.answers c.args.files.now c.args.files.now (asked_of c.args.asked.now) c.word_reply.result c.args.asked.now.verb verb.Word c.in-Word.is
+    (read_none refl (λ file. subst (λ (f : SheetForm). Replies (IsWordOf c.args.asked.now.first.now f) (IsNoWord c.args.asked.now.first.now) c.word_reply.result) c.form-form.ensures c.word_reply.ensures))
 
 pub returns-in-Encode-clause-replied : goal.returns-in-Encode-clause-replied
 returns-in-Encode-clause-replied g c =
     given_by g.F.FileReader.answers c.args.files.now c.args.files.now (asked_of c.args.asked.now) c.encode_reply.result c.args.asked.now.verb verb.Encode c.in-Encode.is
-    (read_none refl (λ file. subst (λ (f : FieldBytes). Replies (IsEncoded c.args.asked.now.first.now f) (IsNotEncoded c.args.asked.now.first.now f) c.encode_reply.result) c.of.ensures c.encode_reply.ensures))
+    (read_none refl (λ file. subst₂ (λ (f : FieldBytes) (form : SheetForm). Replies (IsEncoded c.args.asked.now.first.now f form) (IsNotEncoded c.args.asked.now.first.now f) c.encode_reply.result) c.of.ensures c.form-form.ensures c.encode_reply.ensures))
 
 pub returns-in-Import-clause-replied : goal.returns-in-Import-clause-replied
 returns-in-Import-clause-replied g c =
@@ -31,22 +33,17 @@ returns-in-Import-clause-replied g c =
 
 pub returns-in-Check-clause-replied : goal.returns-in-Check-clause-replied
 returns-in-Check-clause-replied g c =
-    given_by g.F.FileReader.answers c.args.files.now c.check_reply.new.files (asked_of c.args.asked.now) c.check_reply.result c.args.asked.now.verb verb.Check c.in-Check.is c.check_reply.ensures
+    given_by g.F.FileReader.answers c.args.files.now c.check_reply.new.files (asked_of c.args.asked.now) c.check_reply.result c.args.asked.now.verb verb.Check c.in-Check.is
+    (read_weaker c.check_reply.ensures
+    (λ file is. subst (λ (f : SheetForm). AnswersCheck file f c.args.asked.now.first.now c.args.asked.now.second.now c.check_reply.result) c.form-form.ensures is))
 
 pub returns-in-Lint-clause-replied : goal.returns-in-Lint-clause-replied
 returns-in-Lint-clause-replied g c =
-    let asked = c.args.asked.now in
-    given_by g.F.FileReader.answers c.args.files.now c.lint_reply.new.files (asked_of asked) c.lint_reply.result asked.verb verb.Lint c.in-Lint.is
-    (read_weaker c.lint_reply.ensures
-    (λ file is. subst (λ (f : SheetForm). Replies (IsLinted file f asked.first.now) (IsNoLint file asked.first.now) c.lint_reply.result) c.form-form.ensures is))
+    given_by g.F.FileReader.answers c.args.files.now c.lint_reply.new.files (asked_of c.args.asked.now) c.lint_reply.result c.args.asked.now.verb verb.Lint c.in-Lint.is c.lint_reply.ensures
 
 pub returns-in-Diff-clause-replied : goal.returns-in-Diff-clause-replied
 returns-in-Diff-clause-replied g c =
-    let asked = c.args.asked.now in
-    given_by g.F.FileReader.answers c.args.files.now c.diff_reply.new.files (asked_of asked) c.diff_reply.result asked.verb verb.Diff c.in-Diff.is
-    (read_weaker c.diff_reply.ensures
-    (λ file is.
-    subst₂ (λ (all : Bool) (f : SheetForm). AnswersDiff file all f asked.first.now asked.second.now c.diff_reply.result) c.has-all.ensures c.form-form.ensures is))
+    given_by g.F.FileReader.answers c.args.files.now c.diff_reply.new.files (asked_of c.args.asked.now) c.diff_reply.result c.args.asked.now.verb verb.Diff c.in-Diff.is c.diff_reply.ensures
 
 pub returns-in-Survey-clause-replied : goal.returns-in-Survey-clause-replied
 returns-in-Survey-clause-replied g c =

@@ -46,7 +46,7 @@ returns-in-Ok-clause-silent g c =
     let maps : List (List ℕ) = given_texts c.args.maps.now in
     let is : IsImport maps c.args.options bytes (Ok c.in-Ok.imported) = subst (λ (b : List ℕ). IsImport maps c.args.options b (Ok c.in-Ok.imported)) c.deref.ensures.value c.in-Ok.ensures in
     read_weaker c.in_ok-bytes.ensures (λ file read none.
-    let nothing = none bytes c.in-Ok.imported read is in c.note_import.ensures nothing.0 nothing.1)
+    let nothing = none bytes c.in-Ok.imported read is in c.note_import.ensures nothing.0 nothing.1 nothing.2)
 
 pub returns-in-Err-clause-silent : goal.returns-in-Err-clause-silent
 returns-in-Err-clause-silent g c = read_weaker c.in_ok-bytes.ensures (λ file read none. refl)

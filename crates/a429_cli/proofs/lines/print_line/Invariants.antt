@@ -11,7 +11,7 @@ invariant-loop-found g l = record {
   within : l.at ≤ length l.line.bytes.items;
   stands : StandsForLine (symbols_of (take l.at l.line.bytes.items)) l.reader;
   printed : Appends (append_known (g.O.Output.contents l.initial.out) l.initial.lines.items) (append_known (g.O.Output.contents l.out) l.lines.items)
-      (printed l.line.filters (reports (symbols_of (take l.at l.line.bytes.items))));
+      (printed l.form l.line.filters (reports (symbols_of (take l.at l.line.bytes.items))));
   kept : g.O.Output.failures l.out ≡ g.O.Output.failures l.initial.out;
 }
 

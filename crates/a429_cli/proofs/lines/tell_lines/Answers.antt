@@ -13,7 +13,7 @@ pub returns-in-Ok-clause-told : goal.returns-in-Ok-clause-told
 returns-in-Ok-clause-told g c =
     let content = c.in-Ok.line.bytes.items in
     rw c.plain_answer.ensures (read_weaker c.in-Ok.ensures (λ file read. IfOk-weaker c.tell_line.result _ _
-    (λ status told. (told.0, inr (content, read.0, read.1, subst (λ (fs : Option (List Filter)). IsTold fs (symbols_of content) status told.0) read.2 told.1), told.2)) c.tell_line.ensures.told))
+    (λ status told. (told.0, inr (content, read.0, read.1, subst (λ (fs : Option (List Filter)). IsTold c.args.form fs (symbols_of content) status told.0) read.2 told.1), told.2)) c.tell_line.ensures.told))
 
 pub returns-in-Err-clause-told : goal.returns-in-Err-clause-told
 returns-in-Err-clause-told g c = read_weaker c.in-Err.ensures (λ file why.

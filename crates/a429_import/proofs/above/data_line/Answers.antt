@@ -1,10 +1,11 @@
-use Rattle.std.proofs.Common.{◌∷◌, ◌++◌, ◌∙◌, [], refl}
+use Rattle.std.proofs.Common.{◌∷◌, ◌++◌, ◌∙◌, [], refl, ◌≡◌, map}
 use Rattle.std.specs.Prelude.{is_some}
 use Rattle.csv.specs.Records.{fields_of}
 use Rattle.a429_import.specs.declared.lines.CsvLine.{CsvLine}
 use Rattle.a429_import.proofs.ImportAbove.{data_read, one_more}
+use Rattle.a429_import.specs.ImportWords.{trimmed}
 use Rattle.a429_import.proofs.ImportForms.{read_more}
-use Rattle.a429_import.proofs.ImportReading.{ok_is}
+use Rattle.a429_import.proofs.ImportReading.{row_is}
 use Rattle.a429_import.proofs.above.data_line.Goals as goal
 
 pub loop-row-init : goal.loop-row-init
@@ -16,12 +17,12 @@ pub loop-row-preserved : goal.loop-row-preserved
 loop-row-preserved c =
     let inv = c.loop-row.invariant in
     let line : CsvLine = c.in_ok-line.line in
-    let is = ok_is c.in-Some.row line.fields c.in_ok-line.ensures.fields in
-    let s = rw (c.in-Some.is, is) at ((c.next.ensures.steps inv.turns inv.read.plain).0 inv.read.ready) in
+    let is = row_is (λ fields. fields_of line.fields ≡ map trimmed (fields_of fields)) c.in-Some.row c.in_ok-line.ensures.fields in
+    let s = rw (c.in-Some.is, is.1) at ((c.next.ensures.steps inv.turns inv.read.plain).0 inv.read.ready) in
     record {
       turns = s.2;
       all = inv.all ++ line ∷ [];
-      read = read_more c.args.form.separator c.args.form.text.now c.loop-row.row-iterator.now.rdr c.next.new.self.now.rdr inv.all line inv.read s.0 s.1 c.in_ok-line.ensures.separator;
+      read = read_more c.args.form.separator c.args.form.text.now c.loop-row.row-iterator.now.rdr c.next.new.self.now.rdr inv.all line (fields_of is.0) inv.read s.0 s.1 c.in_ok-line.ensures.separator is.2;
       found = one_more (fields_of c.args.heading.now.line.fields) inv.all line (is_some c.loop-row.found) (is_some c.found_at-found.result) inv.found c.found_at-found.ensures;
     }
 

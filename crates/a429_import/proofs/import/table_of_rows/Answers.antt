@@ -6,6 +6,7 @@ use Rattle.a429_import.specs.Known.{Knows}
 use Rattle.a429_import.proofs.FullRows.{has_kept}
 use Rattle.a429_import.proofs.ImportLimits.{limit_fault_is_first}
 use Rattle.a429_import.proofs.Imports.{record_read, table_refused}
+use Rattle.a429_import.proofs.ImportRanges.{same_ok}
 use Rattle.a429_import.proofs.import.table_of_rows.Goals as goal
 
 pub returns-in-Some : goal.returns-in-Some
@@ -23,7 +24,8 @@ returns-in-Ok c = λ rows has ranges.
     let same : bytes ≡ string_bytes c.in_ok-text.text = c.as_bytes.ensures.value ∙ c.as_str.ensures.value in
     let parsed : parse_document bytes ≡ Some (root_members rows) = ap parse_document same ∙ c.in_ok-text.ensures ∙ ap (λ rs. Some (root_members rs)) kept in
     let read = record_read rows ranges bytes c.as_bytes.ensures.utf8 parsed _ c.in-Ok.ensures in
-    rw c.into_bytes.ensures.value (subst (λ (bs : List ℕ). reading bs ≡ Ok (record_stated rows)) same read)
+    let is = same_ok c.in-Ok.equipment (record_stated rows) (sym c.in-Ok.ensures ∙ read) in
+    (rw c.into_bytes.ensures.value (subst (λ (bs : List ℕ). reading bs ≡ Ok (record_stated rows)) same read), is)
 
 pub returns-in-Err : goal.returns-in-Err
 returns-in-Err c = λ rows has ranges.

@@ -1,4 +1,4 @@
-use Rattle.std.proofs.Common.{◌∙◌, ap, inr, refl, sym}
+use Rattle.std.proofs.Common.{◌∙◌, [], ap, inr, refl, sym}
 use Rattle.csv.specs.Reading.{Reached, strip_bom}
 use Rattle.csv.specs.declared.parser.Config.{Config}
 use Rattle.a429_import.proofs.lines.rows_of.Goals as goal
@@ -13,6 +13,8 @@ returns-clause-before c =
       config = rw (c.delimiter.ensures, c.flexible.ensures, c.has_headers.ensures) at from.config ∙ ap (λ (g : Config). record g { delimiter = c.args.form.separator }) c.new.ensures.config;
       rest = strip_bom c.args.form.text.now;
       source = from.source;
+      rows = [];
       reached = (sym from.state, refl);
+      fields = refl;
       separators = tt;
     })

@@ -1,8 +1,15 @@
-use Rattle.std.proofs.Common.{◌∙◌, Some, ap}
-use Rattle.toml.specs.Data.{Members}
-use Rattle.a429_import.proofs.ImportTrees.{root_depth}
+use Rattle.std.proofs.Common.{false, string_bytes, subst}
+use Rattle.toml.specs.Text.{IsDocumentText}
+use Rattle.a429_import.proofs.PrintedTables.{pieces_read, pieces_whole}
 use Rattle.a429_import.proofs.tables.table_text.Goals as goal
 
-pub returns-in-Ok : goal.returns-in-Ok
-returns-in-Ok c =
-    c.in-Ok.ensures.reads_back (rw c.in_ok-root.ensures (root_depth c.args.rows.now)) ∙ ap (λ (ms : Members). Some ms) c.in_ok-root.ensures
+pub returns : goal.returns
+returns c =
+    let rows = c.args.rows.now in
+    let (head, first_is, printed) = c.in_ok-put_document.ensures in
+    let (groups, then, g) = c.in_ok-put_tables.ensures in
+    let (receivers, later, r) = c.in_ok-put_tables-2.ensures in
+    let (sources, last, s) = c.in_ok-put_tables-3.ensures in
+    let whole = pieces_whole (string_bytes c.new-shown.result) (string_bytes c.put_document.new.shown) (string_bytes c.put_tables.new.shown) (string_bytes c.put_tables-2.new.shown) (string_bytes c.put_tables-3.new.shown)
+    head groups receivers sources c.new-shown.ensures.bytes first_is then later last in
+    pieces_read rows (string_bytes c.put_tables-3.new.shown) head groups receivers sources whole (subst (λ ms. IsDocumentText false ms head) (c.in_ok-head.ensures rows c.requires) printed) g r s

@@ -1,4 +1,4 @@
-use Rattle.std.proofs.Common.{List, ◌∙◌, sym, refl, ◌∷◌, ◌++◌, [], filter, subst}
+use Rattle.std.proofs.Common.{List, ◌∙◌, sym, refl, ◌∷◌, ◌++◌, [], filter, subst, ◌≡◌, map}
 use Rattle.std.proofs.lemmas.List.Elements.{filter-append}
 use Rattle.csv.specs.Records.{fields_of}
 use Rattle.a429_import.specs.declared.lines.CsvLine.{CsvLine}
@@ -6,8 +6,9 @@ use Rattle.a429_import.specs.ImportReading.{IsOfNamed}
 use Rattle.a429_import.specs.FilledReading.{IsReadFilled}
 use Rattle.a429_import.specs.ImportMaps.{given_texts}
 use Rattle.a429_import.specs.Imports.{has_text}
+use Rattle.a429_import.specs.ImportWords.{trimmed}
 use Rattle.a429_import.proofs.ImportForms.{read_all, read_more}
-use Rattle.a429_import.proofs.ImportReading.{ok_is}
+use Rattle.a429_import.proofs.ImportReading.{row_is}
 use Rattle.a429_import.proofs.text_reading.read_rows.Goals as goal
 
 pub loop-row-init : goal.loop-row-init
@@ -19,12 +20,12 @@ pub loop-row-preserved : goal.loop-row-preserved
 loop-row-preserved c =
     let inv = c.loop-row.invariant in
     let line : CsvLine = c.in_ok-line.line in
-    let is = ok_is c.in-Some.row line.fields c.in_ok-line.ensures.fields in
-    let s = rw (c.in-Some.is, is) at ((c.next.ensures.steps inv.turns inv.read.plain).0 inv.read.ready) in
+    let is = row_is (λ fields. fields_of line.fields ≡ map trimmed (fields_of fields)) c.in-Some.row c.in_ok-line.ensures.fields in
+    let s = rw (c.in-Some.is, is.1) at ((c.next.ensures.steps inv.turns inv.read.plain).0 inv.read.ready) in
     record {
       turns = s.2;
       all = inv.all ++ line ∷ [];
-      read = read_more c.args.form.separator c.args.form.text.now c.loop-row.row-iterator.now.rdr c.next.new.self.now.rdr inv.all line inv.read s.0 s.1 c.in_ok-line.ensures.separator;
+      read = read_more c.args.form.separator c.args.form.text.now c.loop-row.row-iterator.now.rdr c.next.new.self.now.rdr inv.all line (fields_of is.0) inv.read s.0 s.1 c.in_ok-line.ensures.separator is.2;
       known = subst (λ (ls : List CsvLine). IsOfNamed (given_texts c.args.maps.now) c.in_ok-is_below.is_below (IsReadFilled c.args.options c.take_filled.new.read) ls) (sym (filter-append (λ (l : CsvLine). has_text (fields_of l.fields)) inv.all (line ∷ []))) (c.in_ok-is_below.ensures (filter (λ (l : CsvLine). has_text (fields_of l.fields)) inv.all) inv.known);
     }
 

@@ -22,19 +22,20 @@ returns-in_default-clause-played g c = λ o E s.
     let n = c.loop-kept.kept-index in
     let (M, bytes, played, stands, put) = c.loop-kept.invariant.played o E s in
     let kept : c.play.new.lines.text.items ≡ c.loop-kept.lines.text.items = search rules in
-    let first = subst (λ (es : List ScriptEvent). Played o c.args.names.now.sources c.args.further.now E es M bytes) (events_of-take n events) played in
+    let first = subst (λ (es : List ScriptEvent). Played o c.args.view c.args.names.now c.args.further.now E es M bytes) (events_of-take n events) played in
     (n, M, bytes, first, rw kept put, λ no. cc)
 
 pub loop-kept-preserved : goal.loop-kept-preserved
 loop-kept-preserved g c = record {
   played = λ o E s.
       let (M, bytes, played, stands, put) = c.loop-kept.invariant.played o E s in
-      let names = c.args.names.now.sources in
+      let view = c.args.view in
+      let names = c.args.names.now in
       let further = c.args.further.now in
       let events = c.args.events.now in
       let i = c.loop-kept.kept-index in
       let event = c.event-event.result in
-      let one_played = subst (λ (ts : List (List ℕ)). PlaysOne names ts event c.loop-kept.state c.play.new.state c.loop-kept.lines.text.items c.play.new.lines.text.items)
+      let one_played = subst (λ (ts : List (List ℕ)). PlaysOne view names ts event c.loop-kept.state c.play.new.state c.loop-kept.lines.text.items c.play.new.lines.text.items)
       c.loop-kept.invariant.same c.in-Ok.ensures.played in
       let (N, line, happens, stands_next, lines) = one_played o M stands in
       let one : Appends (append_known (g.O.Output.contents c.loop-kept.out) c.loop-kept.lines.text.items) (append_known (g.O.Output.contents c.loop-kept.out) c.play.new.lines.text.items) line =
@@ -43,8 +44,8 @@ loop-kept-preserved g c = record {
       let more = events_of-take_more events i _ event c.loop-kept-test.true c.event-event.ensures in (
         N,
         bytes ++ line,
-        subst (λ (es : List ScriptEvent). Played o names further E es N (bytes ++ line)) (sym more)
-            (played_push o names further E (events_of (take i events)) event M N bytes line played happens),
+        subst (λ (es : List ScriptEvent). Played o view names further E es N (bytes ++ line)) (sym more)
+            (played_push o view names further E (events_of (take i events)) event M N bytes line played happens),
         stands_next,
         Appends-then _ _ _ _ _ put last,
       );
@@ -58,6 +59,6 @@ returns-clause-played g c = λ o E s.
     let events = c.args.events.now in
     let n = c.loop-kept.kept-index in
     let (M, bytes, played, stands, put) = c.loop-kept.invariant.played o E s in
-    let first = subst (λ (es : List ScriptEvent). Played o c.args.names.now.sources c.args.further.now E es M bytes) (events_of-take n events) played in
+    let first = subst (λ (es : List ScriptEvent). Played o c.args.view c.args.names.now c.args.further.now E es M bytes) (events_of-take n events) played in
     let every : n ≡ length events = omega arith in
     (n, M, bytes, first, put, λ sufficed. every ∙ sym (length-map events event_of))

@@ -11,7 +11,7 @@ abbrev pub invariant-loop-kept : goal.invariant-loop-kept
 invariant-loop-kept g l = record {
   played : (o : Opening) (E : List Event) → StandsForHistory 41 o E l.initial.state
       → (M : List Event) × (bytes : List ℕ)
-      × Played o l.names.sources l.initial.further E (events_of (take l.kept-index l.events)) M bytes × StandsForHistory 41 o M l.state
+      × Played o l.view l.names l.initial.further E (events_of (take l.kept-index l.events)) M bytes × StandsForHistory 41 o M l.state
       × Appends (append_known (g.O.Output.contents l.initial.out) l.initial.lines.text.items) (append_known (g.O.Output.contents l.out) l.lines.text.items) bytes;
   few : length l.initial.lines.text.items < 65536 → length l.lines.text.items < 65536;
   kept : g.O.Output.failures l.out ≡ g.O.Output.failures l.initial.out;

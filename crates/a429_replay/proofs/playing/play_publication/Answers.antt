@@ -8,4 +8,4 @@ pub returns-clause-played : goal.returns-clause-played
 returns-clause-played c =
     let further = c.args.further.now in
     let at = slice_get-get_or further (c.args.number - 1) c.index-further-number.result (omega (arith, c.requires)) in
-    on_ok_weaker c.publish.result (λ plays. played_among c.args.names.now.sources further _ c.args.number _ _ _ _ at plays) c.publish.ensures.played
+    on_ok_weaker c.publish.result (λ plays. played_among c.args.view c.args.names.now further _ c.args.number _ _ _ _ at plays) c.publish.ensures.played

@@ -1,0 +1,268 @@
+//! Intervals in fields: microseconds, milliseconds or rates, and one limit or both in a field.
+ghost use Rattle.std.specs.Prelude.{◌≡◌, ◌<◌, length, position};
+ghost use Rattle.std.specs.Option.{option_and_then};
+ghost use Rattle.a429_import.specs.ImportFields.{if_group};
+ghost use Rattle.a429_import.specs.ImportIntervals.{both_in, both_unit, divider_len, form_named, interval_in, is_divider, limit_in, limit_of_both, limit_unit, ordered, parted, period_down, period_up, states_interval, takes_second, unit_among, unit_or_micros, value_in};
+
+use crate::blanks::{byte_at, trimmed};
+use crate::fault::ImportColumn;
+use crate::fields::{millis_in, number_in};
+use crate::forms::from_place;
+use crate::plain::same_heading;
+
+/// What a number in a column of intervals counts.
+#[derive(Clone, Copy, PartialEq, Eq)]
+pub enum IntervalUnit {
+    /// Microseconds.
+    Micros,
+    /// Milliseconds.
+    Millis,
+    /// Hertz: times a second.
+    Hertz,
+}
+
+/// How a column states intervals.
+#[derive(Clone, Copy)]
+pub struct IntervalForm {
+    pub unit: IntervalUnit,
+    /// Whether a field has both limits, as `50/100`.
+    pub has_both: bool,
+}
+
+/// The unit in a name, of the names in microseconds, in milliseconds and in Hz. `None` if it is none of them.
+fn unit_among(micros: &str, millis: &str, hertz: &str, name: &[u8]) -> Option<IntervalUnit>
+    ensures { result ≡ unit_among micros.now millis.now hertz.now name.now }
+{
+    if same_heading(micros.as_bytes(), name) {
+        Some(IntervalUnit::Micros)
+    } else if same_heading(millis.as_bytes(), name) {
+        Some(IntervalUnit::Millis)
+    } else if same_heading(hertz.as_bytes(), name) {
+        Some(IntervalUnit::Hertz)
+    } else {
+        None
+    }
+}
+
+/// The unit in the name of a column with one limit of an interval: a rate is the reciprocal of the other limit. `None` if the
+/// name is none of these.
+fn limit_unit(column: ImportColumn, name: &[u8]) -> Option<IntervalUnit>
+    ensures { result ≡ limit_unit column name.now }
+{
+    match column {
+        ImportColumn::MinUs => unit_among("min_us", "min_ms", "max_hz", name),
+        ImportColumn::MaxUs => unit_among("max_us", "max_ms", "min_hz", name),
+        _ => None,
+    }
+}
+
+/// The unit in the name of a column with both limits of an interval. `None` if the name is none of these.
+fn both_unit(column: ImportColumn, name: &[u8]) -> Option<IntervalUnit>
+    ensures { result ≡ both_unit column name.now }
+{
+    match column {
+        ImportColumn::MinUs | ImportColumn::MaxUs => {
+            unit_among("interval_us", "interval_ms", "rate_hz", name)
+        }
+        _ => None,
+    }
+}
+
+/// Whether a name is that of a limit of intervals, or of both.
+pub fn states_interval(column: ImportColumn, name: &[u8]) -> bool
+    ensures { result ≡ states_interval column name.now }
+{
+    limit_unit(column, name).is_some() || both_unit(column, name).is_some()
+}
+
+fn unit_or_micros(unit: Option<IntervalUnit>) -> IntervalUnit
+    ensures { result ≡ unit_or_micros unit }
+{
+    match unit {
+        Some(unit) => unit,
+        None => IntervalUnit::Micros,
+    }
+}
+
+/// How the column with this name states intervals; in microseconds if the name is that of no interval.
+pub fn form_named(column: ImportColumn, name: &[u8]) -> IntervalForm
+    ensures { result ≡ form_named column name.now }
+{
+    let both = both_unit(column, name);
+    let unit = match limit_unit(column, name) {
+        Some(unit) => Some(unit),
+        None => both,
+    };
+    IntervalForm {
+        unit: unit_or_micros(unit),
+        has_both: both.is_some(),
+    }
+}
+
+/// A number of microseconds, or thousandths of a millisecond or of a hertz. `None` for a field of another form.
+fn value_in(unit: IntervalUnit, separator: u8, field: &[u8]) -> Option<u32>
+    ensures { result ≡ value_in unit separator field.now }
+{
+    match unit {
+        IntervalUnit::Micros => number_in(field),
+        _ => millis_in(separator, field),
+    }
+}
+
+/// The microseconds of a period at a rate in thousandths of a hertz, rounded up. `None` at 0 Hz.
+fn period_up(rate: u32) -> Option<u32>
+    ensures { result ≡ period_up rate }
+{
+    if rate == 0 {
+        return None;
+    }
+    let whole = 1_000_000_000 / rate;
+    if 1_000_000_000 % rate == 0 {
+        Some(whole)
+    } else {
+        Some(whole + 1)
+    }
+}
+
+/// The microseconds of a period at a rate in thousandths of a hertz, rounded down. `None` at 0 Hz.
+fn period_down(rate: u32) -> Option<u32>
+    ensures { result ≡ period_down rate }
+{
+    if rate == 0 {
+        None
+    } else {
+        Some(1_000_000_000 / rate)
+    }
+}
+
+/// A limit in microseconds: a minimum is rounded up, and a maximum down, so that the interval is not left. `None` at 0 Hz.
+fn limit_in(is_least: bool, unit: IntervalUnit, value: u32) -> Option<u32>
+    ensures { result ≡ limit_in is_least unit value }
+{
+    match unit {
+        IntervalUnit::Hertz if is_least => period_up(value),
+        IntervalUnit::Hertz => period_down(value),
+        _ => Some(value),
+    }
+}
+
+/// Whether a byte is `/` or `-`, or the first of an en dash (U+2013).
+fn is_divider(byte: u8) -> bool
+    ensures { result ≡ is_divider byte }
+{
+    byte == b'/' || byte == b'-' || byte == 0xE2
+}
+
+/// The place of the first such byte.
+fn first_divider(field: &[u8]) -> Option<usize>
+    ensures { result ≡ position is_divider field.now }
+{
+    field.iter().position(|byte| is_divider(*byte))
+}
+
+/// The number of bytes of what divides two limits: 3 for an en dash, otherwise 1.
+fn divider_len(rest: &[u8]) -> usize
+    ensures { result ≡ divider_len rest.now }
+{
+    if byte_at(rest, 0) == 0xE2 && byte_at(rest, 1) == 0x80 && byte_at(rest, 2) == 0x93 {
+        3
+    } else {
+        1
+    }
+}
+
+/// Two numbers, the smaller first. `None` if one is missing, or the greater is first.
+fn ordered(first: Option<u32>, second: Option<u32>) -> Option<(u32, u32)>
+    ensures { result ≡ ordered first second }
+{
+    match (first, second) {
+        (Some(first), Some(second)) if first <= second => Some((first, second)),
+        _ => None,
+    }
+}
+
+/// The numbers before and after what divides a field at a place.
+fn parted(unit: IntervalUnit, separator: u8, field: &[u8], place: usize) -> Option<(u32, u32)>
+    requires { place < length field.now }
+    ensures { result ≡ parted unit separator field.now place }
+{
+    let rest = from_place(field, place);
+    let second = from_place(rest, divider_len(rest));
+    ordered(
+        value_in(unit, separator, trimmed(&field[..place])),
+        value_in(unit, separator, trimmed(second)),
+    )
+}
+
+/// The two numbers of a field, the smaller first.
+fn both_in(unit: IntervalUnit, separator: u8, field: &[u8]) -> Option<(u32, u32)>
+    ensures { result ≡ both_in unit separator field.now }
+{
+    match first_divider(field) {
+        Some(place) => parted(unit, separator, field, place),
+        None => None,
+    }
+}
+
+/// Whether a limit is the second number of a field with both: the minimum is the smaller interval, or the greater rate.
+fn takes_second(is_least: bool, unit: IntervalUnit) -> bool
+    ensures { result ≡ takes_second is_least unit }
+{
+    match unit {
+        IntervalUnit::Hertz => is_least,
+        _ => !is_least,
+    }
+}
+
+/// A limit of an interval, of a field with both.
+fn limit_of_both(is_least: bool, unit: IntervalUnit, separator: u8, field: &[u8]) -> Option<u32>
+    ensures { result ≡ option_and_then (limit_of_both is_least unit) (both_in unit separator field.now) }
+{
+    let (first, second) = both_in(unit, separator, field)?;
+    let value = if takes_second(is_least, unit) {
+        second
+    } else {
+        first
+    };
+    limit_in(is_least, unit, value)
+}
+
+/// A limit of an interval, of a field with one.
+fn limit_of_one(is_least: bool, unit: IntervalUnit, separator: u8, field: &[u8]) -> Option<u32>
+    ensures { result ≡ option_and_then (limit_in is_least unit) (value_in unit separator field.now) }
+{
+    let value = value_in(unit, separator, field)?;
+    limit_in(is_least, unit, value)
+}
+
+/// A limit of an interval, in microseconds, from a column of this form. `None` for a field of another form, and at 0 Hz.
+#[tactic(auto, unfolding(crate::specs::ImportIntervals::interval_in))]
+fn interval_in(is_least: bool, form: IntervalForm, separator: u8, field: &[u8]) -> Option<u32>
+    ensures { result ≡ interval_in is_least form separator field.now }
+{
+    if form.has_both {
+        limit_of_both(is_least, form.unit, separator, field)
+    } else {
+        limit_of_one(is_least, form.unit, separator, field)
+    }
+}
+
+/// A limit of an interval of a row, in microseconds: the minimum if the flag is set. Of a row without a group it is 0. `None` if
+/// the field does not state it, or is not empty in a row without a group.
+pub fn interval_of(
+    names_group: bool,
+    is_least: bool,
+    form: IntervalForm,
+    separator: u8,
+    field: &[u8],
+) -> Option<u32>
+    ensures { result ≡ if_group names_group (interval_in is_least form separator) 0 field.now }
+{
+    if names_group {
+        interval_in(is_least, form, separator, field)
+    } else if field.is_empty() {
+        Some(0)
+    } else {
+        None
+    }
+}

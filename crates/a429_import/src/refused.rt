@@ -1,0 +1,187 @@
+//! The rows of a refused sheet, for a person: those that say something new, and the first ones with a fault. No contract
+//! rests on them.
+
+use crate::columns::Heading;
+use crate::forms::Form;
+use crate::lines::{CsvLine, count_before, line_of, rows_of};
+use crate::notes::has_label;
+use crate::reading::LinesRead;
+use crate::rows::form_fault;
+use std::alloc::{AllocError, Global};
+
+/// How many faulty rows are kept.
+const FAULTY_ROWS: usize = 3;
+
+/// How many rows are kept below a heading that has a fault.
+const ROWS_BELOW: usize = 8;
+
+/// Rows that are refused.
+#[derive(Drop)]
+pub struct RefusedRows {
+    /// The heading as it is written. `None` if there is none.
+    pub titles: Option<CsvLine>,
+    /// The heading by the names of its columns. `None` if no row was looked at.
+    pub heading: Option<CsvLine>,
+    /// The rows above the first fault that say something new, in order. Below a heading with a fault, its first rows.
+    pub rows: Vec<CsvLine>,
+    /// The first row with a fault, and the next two that have one by themselves. None of them is a note.
+    pub faulty: Vec<CsvLine>,
+    /// How many rows have such a fault.
+    pub count: usize,
+    /// Whether the quotes of a field are wrong. Then no row was looked at.
+    pub is_misquoted: bool,
+    is_heading_wrong: bool,
+    /// Whether a row has a label.
+    is_labelled: bool,
+    /// How many of `faulty` are no notes, whatever follows.
+    settled: usize,
+    /// How many of `count` are no notes, whatever follows.
+    settled_count: usize,
+}
+
+/// What was known before a line was taken.
+#[derive(Clone, Copy)]
+pub struct Before {
+    has_heading: bool,
+    has_fault: bool,
+    kept: usize,
+    is_full: bool,
+}
+
+/// What is known before a line is taken.
+pub fn before_line(read: &LinesRead) -> Before {
+    Before {
+        has_heading: read.heading.is_some(),
+        has_fault: read.fault.is_some(),
+        kept: read.rows.kept.len(),
+        is_full: read.rows.is_full,
+    }
+}
+
+/// A copy of a line. Error: an allocation failed.
+pub fn copy_of_line(line: &CsvLine) -> Result<CsvLine, AllocError> {
+    Ok(CsvLine {
+        number: line.number,
+        separator: line.separator,
+        fields: line.fields.clone()?,
+    })
+}
+
+/// Adds a row, unless there are as many as are kept. Error: an allocation failed.
+fn push_up_to(rows: &mut Vec<CsvLine>, most: usize, line: CsvLine) -> Result<(), AllocError> {
+    if rows.len() < most {
+        rows.push(line)?;
+    }
+    Ok(())
+}
+
+impl RefusedRows {
+    /// No rows.
+    pub fn new(alloc: Global) -> RefusedRows {
+        RefusedRows {
+            titles: None,
+            heading: None,
+            rows: Vec::new(alloc),
+            faulty: Vec::new(alloc),
+            count: 0,
+            is_misquoted: false,
+            is_heading_wrong: false,
+            is_labelled: false,
+            settled: 0,
+            settled_count: 0,
+        }
+    }
+
+    /// Notes a heading as it is written. Error: an allocation failed.
+    pub fn note_titles(&mut self, is_below: bool, line: &CsvLine) -> Result<(), AllocError> {
+        if !is_below {
+            let titles = copy_of_line(line)?;
+            self.titles = Some(titles);
+        }
+        Ok(())
+    }
+
+    /// Notes a line that was taken. Error: an allocation failed.
+    pub fn note(
+        &mut self,
+        read: &LinesRead,
+        before: Before,
+        line: CsvLine,
+    ) -> Result<(), AllocError> {
+        match &read.heading {
+            Some(heading) if before.has_heading => {
+                // the row with which there is too much is not kept with the others
+                let is_above = read.rows.is_full && !before.is_full;
+                let is_new = is_above || before.kept < read.rows.kept.len();
+                let is_refused = read.fault.is_some() && !before.has_fault;
+                self.note_below(heading, is_new, is_refused, line)
+            }
+            _ => {
+                self.is_heading_wrong = read.fault.is_some();
+                Ok(())
+            }
+        }
+    }
+
+    /// Notes a line below the heading. Error: an allocation failed.
+    fn note_below(
+        &mut self,
+        heading: &Heading,
+        is_new: bool,
+        is_refused: bool,
+        line: CsvLine,
+    ) -> Result<(), AllocError> {
+        if self.is_heading_wrong {
+            return push_up_to(&mut self.rows, ROWS_BELOW, line);
+        }
+        let has_label = has_label(heading, &line);
+        let may_be_note = self.is_labelled && !has_label;
+        self.is_labelled = self.is_labelled || has_label;
+        // rows that may have been notes were refused before this one
+        let differs = is_refused && self.count == self.settled_count;
+        if differs || form_fault(heading, &line).is_some() {
+            self.count = self.count.saturating_add(1);
+            push_up_to(&mut self.faulty, FAULTY_ROWS, line)?;
+        } else if is_new {
+            self.rows.push(line)?;
+        }
+        if !may_be_note {
+            self.settled = self.faulty.len();
+            self.settled_count = self.count;
+        }
+        Ok(())
+    }
+
+    /// The same with the heading by the names of its columns, and without notes.
+    pub fn ended(self, heading: Option<Heading>) -> RefusedRows {
+        let mut rows = self;
+        rows.faulty.truncate(rows.settled);
+        rows.count = rows.settled_count;
+        rows.heading = match heading {
+            Some(Heading { line, .. }) => Some(line),
+            None => None,
+        };
+        rows
+    }
+}
+
+/// A text whose quotes are wrong.
+pub fn misquoted_rows(alloc: Global) -> RefusedRows {
+    let mut rows = RefusedRows::new(alloc);
+    rows.is_misquoted = true;
+    rows
+}
+
+/// A text with a row of data above its heading. Error: an allocation failed.
+pub fn titled_rows(alloc: Global, text: &[u8], form: Form<'_>) -> Result<RefusedRows, AllocError> {
+    let mut refused = RefusedRows::new(alloc);
+    let mut rows = rows_of(alloc, form);
+    let first = rows.next();
+    // One call, instead of a drop of each of its parts.
+    std::mem::drop(rows);
+    if let Some(row) = first {
+        let titles = line_of(alloc, form, &mut count_before(text, form.text), row)?;
+        refused.titles = Some(titles);
+    }
+    Ok(refused)
+}
