@@ -48,11 +48,18 @@ pub struct OptionHelp {
     pub text: &'static str,
 }
 
+/// The help of `--all`.
+fn all_help(verb: Verb) -> &'static str {
+    match verb {
+        Verb::Slots => ALL_CELLS,
+        _ => ALL,
+    }
+}
+
 /// The help of an option of a command.
 pub fn option_help(verb: Verb, option: OptionName) -> OptionHelp {
     let (value, text) = match option {
         OptionName::Json if verb == Verb::Simulate => ("", SUMMARY_JSON),
-        OptionName::All if verb == Verb::Slots => ("", ALL_CELLS),
         OptionName::Csv => ("", CSV),
         OptionName::Json => ("", JSON),
         OptionName::Stamp => ("", STAMP),
@@ -60,7 +67,7 @@ pub fn option_help(verb: Verb, option: OptionName) -> OptionHelp {
         OptionName::Map => ("HEADING=COLUMN", MAP),
         OptionName::Names => ("", NAMES),
         OptionName::Fill => ("", FILL),
-        OptionName::All => ("", ALL),
+        OptionName::All => ("", all_help(verb)),
         OptionName::Group => ("NAME", GROUP),
         OptionName::Slots => ("N", DRAWN_SLOTS),
         OptionName::Width => ("N", WIDTH),

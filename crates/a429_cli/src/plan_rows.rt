@@ -121,8 +121,8 @@ fn add_groups(rows: &mut Rows, proposal: &Proposal<OUTPUTS>)
 }
 
 /// The plan of a proposal: a row for each output, groups in table order and the outputs of a group in layout order. Each
-/// row has the version of the table, and of the group its bit rate in bit/s, its frame in slots, its number of buses, and
-/// how many cells of a frame its outputs fill.
+/// row has the version of the table. Of the group it has the bit rate in bit/s, the frame in slots, the number of buses,
+/// and how many cells of a frame the outputs fill.
 pub fn plan_sheet(alloc: Global, proposal: &Proposal<OUTPUTS>) -> Sheet
     ensures columns { map (λ name. name.now) result.columns.now ≡ plan_columns }
     ensures rows { result.rows ≡ plan_rows proposal.now.station proposal.now.plan }

@@ -7,8 +7,7 @@
 //! libraries does not need it.
 //!
 //! ```text
-//! let table = read_file(alloc, files, name)?;
-//! propose(alloc, &table)
+//! let proposal = propose(alloc, table)?;
 //! ```
 #![tactic(auto)]
 

@@ -26,7 +26,7 @@ pub none_kept : (form : SheetForm) (names : List (List ℕ)) (place : ℕ) (rows
 unfolding kept_sheet
 none_kept form names place rows = rw (drop-length names, same_rows place rows) refl
 
--- no items say nothing
+-- an empty list has an empty list of comments
 pub none_said : {X : Type 0} (f : X → Said) (items : List X) (said : List Said) → length items ≡ 0 → map f items ≡ said → said ≡ []
 none_said f [] said e same = sym same
 none_said f (x ∷ xs) said e same = absurd (no_item (length xs) e)

@@ -5,15 +5,16 @@
 //! intervals would have to be longer to save a bus. `load_sheet` says how many cells of each bus have an output, how many
 //! more outputs there is room for, and how many buses a group needs within a limit. `slot_sheet` has a row for each cell
 //! of a frame, and `slot_board` a row for each word of a frame, bus by bus. `slot_header` gives the slot tables as a header
-//! of C. `buses_sheet` has a row for each word of each bus. `Drawing::of` has the marks of an image, of one group or of all; `draw_text` writes it as an image (SVG), and
-//! `page_text` as a page (HTML) with that image and the other documents. `diff_sheet` takes two proposals, and says what
-//! changes from the first to the second. `lint_sheet` takes an equipment, and says which words never arrive and what is
-//! unused. The others take a proposal. `Sheet::render` of `a429_text` renders a sheet.
+//! of C. `buses_sheet` has a row for each word of each bus. `Drawing::of` has the marks of an image, of one group or of
+//! all; `draw_text` writes it as an image (SVG), and `page_text` as a page (HTML) with that image and the other documents.
+//! `diff_sheet` takes two proposals, and says what changes from the first to the second. `lint_sheet` takes an equipment,
+//! and says which words never arrive and what is unused. The others take a proposal. `Sheet::render` of `a429_text` renders
+//! a sheet.
 //!
 //! Errors: each call fails if an allocation fails. `Drawing::of` also fails if the image is too high.
 //!
 //! ```text
-//! let text = icd_sheet(alloc, proposal, keeps_zeros).render(alloc, form)?;
+//! let sheet = icd_sheet(alloc, proposal, keeps_zeros);
 //! ..
 //! let text = margin_sheet(alloc, proposal)?.render(alloc, form)?;
 //! ```

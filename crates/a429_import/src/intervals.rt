@@ -25,7 +25,7 @@ pub enum IntervalUnit {
 #[derive(Clone, Copy)]
 pub struct IntervalForm {
     pub unit: IntervalUnit,
-    /// Whether a field has both limits, as `50/100`.
+    /// Whether a field has both limits, for example `50/100`.
     pub has_both: bool,
 }
 

@@ -9,7 +9,7 @@
 //! with its line and its column; otherwise the first fault of the table.
 //!
 //! ```text
-//! match import_table(alloc, maps, options, &bytes) {
+//! match import_or_keep(alloc, maps, options, &bytes, &mut refused) {
 //!     Ok(imported) => {
 //!         ..
 //!         Ok(Reply::done(imported.text))

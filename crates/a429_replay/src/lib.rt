@@ -9,8 +9,8 @@
 //! match asked.verb {
 //!     ..
 //!     Verb::Replay => {
-//!         let form = ReplayForm::of(asked);
-//!         replay(alloc, files, first, second, more, &form, warnings, out)
+//!         let view = ReplayForm::of(asked);
+//!         replay(alloc, files, first, second, more, &view, warnings, out)
 //!     }
 //!     ..
 //! }

@@ -46,7 +46,7 @@ pub fn render_rows(
 }
 
 impl Sheet {
-    /// The sheet in a form, as `render_rows` gives it. Error: an allocation failed for a row or for the text.
+    /// The sheet in a form: what `render_rows` gives. Error: an allocation failed for a row or for the text.
     pub fn render(&self, alloc: Global, form: SheetForm) -> Result<Vec<u8>, AllocError>
         ensures { IfOk result (λ text. text.items ≡ sheet_text form (map (λ name. name.now) self.now.columns.now) self.now.rows) }
     {
