@@ -48,18 +48,11 @@ pub struct OptionHelp {
     pub text: &'static str,
 }
 
-/// The help of `--all`.
-fn all_help(verb: Verb) -> &'static str {
-    match verb {
-        Verb::Slots => ALL_CELLS,
-        _ => ALL,
-    }
-}
-
 /// The help of an option of a command.
 pub fn option_help(verb: Verb, option: OptionName) -> OptionHelp {
     let (value, text) = match option {
         OptionName::Json if verb == Verb::Simulate => ("", SUMMARY_JSON),
+        OptionName::All if verb == Verb::Slots => ("", ALL_CELLS),
         OptionName::Csv => ("", CSV),
         OptionName::Json => ("", JSON),
         OptionName::Stamp => ("", STAMP),
@@ -67,7 +60,7 @@ pub fn option_help(verb: Verb, option: OptionName) -> OptionHelp {
         OptionName::Map => ("HEADING=COLUMN", MAP),
         OptionName::Names => ("", NAMES),
         OptionName::Fill => ("", FILL),
-        OptionName::All => ("", all_help(verb)),
+        OptionName::All => ("", ALL),
         OptionName::Group => ("NAME", GROUP),
         OptionName::Slots => ("N", DRAWN_SLOTS),
         OptionName::Width => ("N", WIDTH),
@@ -84,9 +77,6 @@ pub fn option_help(verb: Verb, option: OptionName) -> OptionHelp {
         OptionName::Limit => ("PERCENT", LIMIT),
         OptionName::Rate => ("RATE", RATE),
         OptionName::Rows => ("", IMPORT_ROWS),
-        OptionName::Slack => ("PERCENT", SLACK),
-        OptionName::In => ("LOG", HEARD_LOGS),
-        OptionName::Tolerance => ("US", TOLERANCE),
         OptionName::Events => ("", EVENTS),
         OptionName::Sdi => ("N", SDI),
         OptionName::Ssm => ("N", SSM),
@@ -94,14 +84,17 @@ pub fn option_help(verb: Verb, option: OptionName) -> OptionHelp {
         OptionName::Bnr => ("N", BNR),
         OptionName::Bits => ("K", BITS),
         OptionName::Bcd => ("DIGITS", BCD),
-        _ => replay_help(option),
+        _ => own_help(option),
     };
     OptionHelp { value, text }
 }
 
-/// The help of an option that only `replay` has.
-fn replay_help(option: OptionName) -> (&'static str, &'static str) {
+/// The help of an option that only `judge` or only `replay` has.
+fn own_help(option: OptionName) -> (&'static str, &'static str) {
     match option {
+        OptionName::In => ("LOG", HEARD_LOGS),
+        OptionName::Slack => ("PERCENT", SLACK),
+        OptionName::Tolerance => ("US", TOLERANCE),
         OptionName::Quiet => ("", QUIET),
         OptionName::Only => ("GROUP", ONLY),
         _ => ("", ""),
