@@ -47,8 +47,8 @@ _a429() {
         help) COMPREPLY=($(compgen -W "$commands" -- "$word")); return ;;
         word) COMPREPLY=($(compgen -W "--csv --json $options" -- "$word")); return ;;
         # options
-        import) options="--map --names --fill $options" ;;
-        plan) options="--csv --json $options" ;;
+        import) options="--map --names --fill --keep-columns $options" ;;
+        plan) options="--keep --csv --json $options" ;;
         check) options="--csv --json $options" ;;
         icd) options="--csv --text --json --stamp $options" ;;
         draw) options="--group --slots --width --html $options" ;;
@@ -59,9 +59,9 @@ _a429() {
         lint) options="--csv --json --stamp $options" ;;
         diff) options="--all --csv --json --stamp $options" ;;
         replay) options="--quiet --only --csv $options" ;;
-        simulate) options="--time --from --channel --reversed --until --sent --summary --csv --json $options" ;;
-        survey) options="--time --from --channel --reversed --rate --rows --slack --csv --json $options" ;;
-        judge) options="--in --tolerance --events --time --from --channel --reversed --csv --json $options" ;;
+        simulate) options="--time --from --channel --ignore --reversed --until --sent --summary --csv --json $options" ;;
+        survey) options="--time --from --until --channel --ignore --reversed --rate --rows --slack --csv --json $options" ;;
+        judge) options="--in --tolerance --events --time --from --until --shift --channel --ignore --reversed --csv --json $options" ;;
         word) options="--csv --json $options" ;;
         encode) options="--sdi --ssm --data --bnr --bits --bcd --csv --json $options" ;;
         lines) options="--csv --json $options" ;;
@@ -74,7 +74,7 @@ _a429() {
         --sdi | --ssm) COMPREPLY=($(compgen -W "0 1 2 3" -- "$word")); return ;;
         --group | --only) COMPREPLY=($(compgen -W "$(_a429_groups "${COMP_WORDS[2]}")" -- "$word")); return ;;
         # values
-        --map | --group | --slots | --width | --limit | --only | --time | --from | --channel | --reversed | --until | --rate | --slack | --tolerance | --sdi | --ssm | --data | --bnr | --bits | --bcd) COMPREPLY=(); return ;;
+        --map | --keep-columns | --keep | --group | --slots | --width | --limit | --only | --time | --from | --channel | --ignore | --reversed | --until | --rate | --slack | --tolerance | --shift | --sdi | --ssm | --data | --bnr | --bits | --bcd) COMPREPLY=(); return ;;
         # end of values
     esac
     case $word in

@@ -8,11 +8,20 @@ const HEADINGS = {
   receiver: /^(receiver|equipment|lru|source|from|transmitter|input|producer)/,
   label: /^(label|octal)/,
   sdi: /^sdi/,
+  rate_hz: /^(rate|interval).*hz/,
+  max_hz: /^max.*hz/,
+  min_hz: /^min.*hz/,
+  interval_ms: /^interval.*ms/,
+  interval_us: /^interval/,
   min_ms: /^min.*ms/,
   max_ms: /^max.*ms/,
   min_us: /^min/,
   max_us: /^max/,
 };
+// The columns that a limit of the interval can be in, with their units. Those of both limits come first.
+const BOTH = { rate_hz: "both, Hz", interval_ms: "both, ms", interval_us: "both, µs" };
+const LIMITS = { min: { max_hz: "Hz", min_ms: "ms", min_us: "µs" }, max: { min_hz: "Hz", max_ms: "ms", max_us: "µs" } };
+const limitsOf = (kind) => ({ ...BOTH, ...LIMITS[kind] });
 const COLUMNS = ["group", "rate", "source", "receiver", "label", "sdi", "min", "max"];
 const NO_HEADING = -1, MADE = -2, MADE_HEADING = "made source";
 
@@ -80,9 +89,10 @@ function guessColumns(headings) {
     if (!found.has(column)) give(column, headings.findIndex((h, i) => !taken.has(i) && isColumn(column, h)));
   }
   for (const kind of ["min", "max"]) {
-    if (found.has(kind + "_us") || found.has(kind + "_ms")) continue;
-    const ms = fitting(kind + "_ms");
-    give(kind + (ms.length ? "_ms" : "_us"), ms[0] ?? fitting(kind + "_us")[0] ?? NO_HEADING);
+    const columns = Object.keys(limitsOf(kind));
+    if (columns.some((column) => found.has(column))) continue;
+    const column = columns.find((c) => fitting(c).length) ?? kind + "_us";
+    give(column, fitting(column)[0] ?? NO_HEADING);
   }
   const rest = ["label", "sdi", "rate", "group", "source", "receiver"].filter((column) => !found.has(column));
   while (rest.length) {
@@ -169,7 +179,7 @@ function columnForm(spreadsheet, changed) {
   const headings = spreadsheet.heading.cells, columns = spreadsheet.columns;
   const row = (column) => {
     const isTime = column === "min" || column === "max";
-    const key = !isTime ? column : columns.has(column + "_ms") ? column + "_ms" : column + "_us";
+    const key = isTime ? Object.keys(limitsOf(column)).find((c) => columns.has(c)) ?? column + "_us" : column;
     const chosen = columns.get(key) ?? NO_HEADING;
     const made = column === "source" ? [[MADE, "(receiver)-(label)"]] : [];
     const options = [[NO_HEADING, "– choose –"], ...made, ...headings.map((h, i) => [i, h.trim()])];
@@ -179,9 +189,9 @@ function columnForm(spreadsheet, changed) {
     } }, choices(options, chosen));
     const unit = isTime && element("select", { "aria-label": `Unit of ${column}`, onchange: (event) => {
       columns.delete(key);
-      columns.set(`${column}_${event.target.value}`, chosen);
+      columns.set(event.target.value, chosen);
       changed();
-    } }, choices([["us", "µs"], ["ms", "ms"]], key.slice(-2)));
+    } }, choices(Object.entries(limitsOf(column)), key));
     return element("label", { class: chosen === NO_HEADING && "lacks" }, element("span", {}, column), heading, unit || null);
   };
   return element("fieldset", {}, element("legend", {}, "Columns"), COLUMNS.map(row));

@@ -16,7 +16,7 @@ use Rattle.a429_arguments.specs.declared.options.OptionKind.{OptionKind}
 use Rattle.a429_arguments.specs.declared.options.OptionKind.TheVariants as given
 use Rattle.a429_arguments.specs.declared.options.OptionName.{OptionName}
 use Rattle.a429_arguments.specs.declared.options.OptionName.TheVariants as option
-use Rattle.a429_arguments.specs.declared.options.TheConstants.{DIFF_OPTIONS, DRAW_OPTIONS, ENCODE_OPTIONS, FORMS, ICD_OPTIONS, IMPORT_OPTIONS, JUDGE_OPTIONS, LOAD_OPTIONS, OPTIONS, REPLAY_OPTIONS, SHEET_OPTIONS, SIMULATE_OPTIONS, SLOTS_OPTIONS, SURVEY_OPTIONS}
+use Rattle.a429_arguments.specs.declared.options.TheConstants.{DIFF_OPTIONS, DRAW_OPTIONS, ENCODE_OPTIONS, FORMS, ICD_OPTIONS, IMPORT_OPTIONS, JUDGE_OPTIONS, LOAD_OPTIONS, OPTIONS, PLAN_OPTIONS, REPLAY_OPTIONS, SHEET_OPTIONS, SIMULATE_OPTIONS, SLOTS_OPTIONS, SURVEY_OPTIONS}
 use Rattle.a429_arguments.specs.declared.forms.Verb.{Verb}
 use Rattle.a429_arguments.specs.declared.forms.Verb.TheVariants as verb
 
@@ -91,7 +91,7 @@ option_rule name = kind_rule (id_of name) (kind_of name)
 abbrev pub options_of : Verb → List OptionName
 options_of verb.Encode = ENCODE_OPTIONS.now
 options_of verb.Import = IMPORT_OPTIONS.now
-options_of verb.Plan = FORMS.now
+options_of verb.Plan = PLAN_OPTIONS.now
 options_of verb.Check = FORMS.now
 options_of verb.Replay = REPLAY_OPTIONS.now
 options_of verb.Word = FORMS.now

@@ -1,6 +1,7 @@
 -- What is given of the options (profile: docs/FORMATS.md, Usage errors).
 use Rattle.std.specs.Prelude.{◌||◌, [], ◌∷◌, ℕ, Bool, List, Option, Some, None, true, false, codes, if◌then◌else◌, is_some, option_and_then, option_map, slice_get, unwrap_or}
 use Rattle.std.specs.Str.{bytes_eq}
+use Rattle.clap.specs.Lexer.{strip_byte}
 use Rattle.clap.specs.Words.{Row, Text, all_of, one_of}
 use Rattle.a429_arguments.specs.CommandLine.{id_of, kind_of}
 use Rattle.a429_arguments.specs.Numbers.{number_up_to}
@@ -13,6 +14,8 @@ use Rattle.a429_arguments.specs.declared.options.TextForm.{TextForm}
 use Rattle.a429_arguments.specs.declared.options.TextForm.TheVariants as form
 use Rattle.a429_arguments.specs.declared.times.LogOrigin.{LogOrigin}
 use Rattle.a429_arguments.specs.declared.times.LogOrigin.TheVariants as origin
+use Rattle.a429_arguments.specs.declared.times.Shift.{Shift}
+use Rattle.a429_arguments.specs.declared.times.Shift.TheVariants as shift
 use Rattle.a429_logs.specs.declared.times.TimeUnit.{TimeUnit}
 use Rattle.a429_logs.specs.declared.times.TimeUnit.TheVariants as unit
 use Rattle.a429_logs.specs.declared.words.BitOrder.{BitOrder}
@@ -68,6 +71,18 @@ last_origin = 999999999999999999
 abbrev pub origin_in : Text → Option LogOrigin
 origin_in text = if bytes_eq text (codes "first") then Some origin.First else option_map origin.Time (number_up_to last_origin text)
 
+-- the most microseconds by which times can be moved: fourteen digits
+abbrev pub last_shift : ℕ
+last_shift = 99999999999999
+
+-- by how much times are moved, by a text and what follows its minus, if it begins with one
+abbrev pub shift_by : Text → Option Text → Option Shift
+shift_by text (Some digits) = option_map shift.Earlier (number_up_to last_shift digits)
+shift_by text None = option_map shift.Later (number_up_to last_shift text)
+
+abbrev pub shift_in : Text → Option Shift
+shift_in text = shift_by text (strip_byte 45 text)
+
 -- a text has this form
 abbrev pub fits : TextForm → Text → Bool
 fits form.Any text = true
@@ -77,6 +92,7 @@ fits form.Origin text = is_some (origin_in text)
 fits form.Order text = bytes_eq text (codes "label") || bytes_eq text (codes "word")
 fits form.Rename text = is_rename text
 fits form.Tolerance text = is_tolerance text
+fits form.Shift text = is_some (shift_in text)
 
 -- ---- what some options say, which are read with a usual value
 
@@ -95,6 +111,10 @@ order_of given = unwrap_or (option_and_then order_in (text_given given option.Re
 -- from when on they are counted
 abbrev pub origin_of : Given → LogOrigin
 origin_of given = unwrap_or (option_and_then origin_in (text_given given option.From)) (origin.Time 0)
+
+-- by how much the times of what was sent are moved
+abbrev pub shift_of : Given → Shift
+shift_of given = unwrap_or (option_and_then shift_in (text_given given option.Shift)) (shift.Later 0)
 
 -- ---- what was found
 

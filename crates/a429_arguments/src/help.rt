@@ -3,9 +3,9 @@
 use crate::forms::Verb;
 use crate::options::OptionName;
 use crate::recording_help::{
-    CHANNEL, EVENTS, FROM, HEARD_LOGS, IMPORT_ROWS, JUDGE, JUDGE_END, LOG, ONLY, QUIET, RATE,
-    REVERSED, SENT, SIMULATE, SIMULATE_END, SLACK, SUMMARY, SUMMARY_JSON, SURVEY, SURVEY_END, TIME,
-    TOLERANCE, UNTIL,
+    CHANNEL, EVENTS, FROM, HEARD_LOGS, IGNORE, IMPORT_ROWS, JUDGE, JUDGE_END, LAST_TIME, LOG, ONLY,
+    QUIET, RATE, REVERSED, SENT, SHIFT, SIMULATE, SIMULATE_END, SLACK, SUMMARY, SUMMARY_JSON,
+    SURVEY, SURVEY_END, TIME, TOLERANCE, UNTIL,
 };
 
 /// The help of a command: its first line, and its end, which has an example.
@@ -69,7 +69,8 @@ pub fn option_help(verb: Verb, option: OptionName) -> OptionHelp {
         OptionName::From => ("TIME", FROM),
         OptionName::Channel => ("FROM=TO", CHANNEL),
         OptionName::Reversed => ("BITS", REVERSED),
-        OptionName::Until => ("US", UNTIL),
+        OptionName::Until if verb == Verb::Simulate => ("US", UNTIL),
+        OptionName::Until => ("US", LAST_TIME),
         OptionName::Sent => ("", SENT),
         OptionName::Summary => ("", SUMMARY),
         OptionName::Code => ("", CODE),
@@ -89,7 +90,7 @@ pub fn option_help(verb: Verb, option: OptionName) -> OptionHelp {
     OptionHelp { value, text }
 }
 
-/// The help of an option that only `judge` or only `replay` has.
+/// The help of an option that few commands have.
 fn own_help(option: OptionName) -> (&'static str, &'static str) {
     match option {
         OptionName::In => ("LOG", HEARD_LOGS),
@@ -97,6 +98,10 @@ fn own_help(option: OptionName) -> (&'static str, &'static str) {
         OptionName::Tolerance => ("US", TOLERANCE),
         OptionName::Quiet => ("", QUIET),
         OptionName::Only => ("GROUP", ONLY),
+        OptionName::Keep => ("PLAN", KEEP),
+        OptionName::KeepColumns => ("HEADING", KEEP_COLUMNS),
+        OptionName::Ignore => ("CHANNEL", IGNORE),
+        OptionName::Shift => ("US", SHIFT),
         _ => ("", ""),
     }
 }
@@ -156,12 +161,18 @@ Take a heading as this column, such as
 --map Equipment=receiver; may be given again";
 
 pub const NAMES: &str = "\
-Make names of texts that are none: `Radio Height`
-becomes radio-height. No two texts become one name";
+Make names of texts that are none:
+`Radio Height` becomes radio-height. No two
+texts become one name";
 
 pub const FILL: &str = "\
-An empty group, rate or receiver is the one above,
-as below merged cells";
+An empty group, rate or receiver is the one
+above, as below merged cells";
+
+pub const KEEP_COLUMNS: &str = "\
+Keep the column with this heading: its texts
+become comments, which sheets show; may be given
+again";
 
 pub const IMPORT_END: &str = "\
 The heading names the columns, in any order and any case, with spaces or
@@ -185,6 +196,10 @@ Examples:
   a429 import rows.csv --map \"Min (ms)=min_ms\" > table.toml";
 
 pub const PLAN: &str = "Plan a station on the fewest buses for its periods, with their bound";
+
+pub const KEEP: &str = "\
+Keep places of this plan text: an output that is in it
+stays where it is, if there is room for all";
 
 pub const PLAN_END: &str = "\
 Each label recurs at the greatest power of two of slots in its interval. No

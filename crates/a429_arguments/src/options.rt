@@ -41,6 +41,10 @@ pub enum OptionName {
     Bcd,
     Quiet,
     Only,
+    Keep,
+    KeepColumns,
+    Ignore,
+    Shift,
 }
 
 /// Which texts an option takes.
@@ -60,6 +64,8 @@ pub enum TextForm {
     Rename,
     /// US or GROUP=US.
     Tolerance,
+    /// Microseconds of at most fourteen digits, which may follow a minus.
+    Shift,
 }
 
 /// What is given with an option.
@@ -115,7 +121,7 @@ macro_rules! options {
 
 /// The options, in the order of `OptionName`: the name of each without the two hyphens, and what is given with it. The
 /// ranges are those of docs/RULES.md, Limits; that of `--rate` is the bit rate of a line (ARINC 429 Part 1).
-pub static OPTIONS: [(OptionName, &str, OptionKind); 36] = [
+pub static OPTIONS: [(OptionName, &str, OptionKind); 40] = [
     flag!(Csv, "csv"),
     flag!(Json, "json"),
     flag!(Stamp, "stamp"),
@@ -152,6 +158,10 @@ pub static OPTIONS: [(OptionName, &str, OptionKind); 36] = [
     text!(Bcd, "bcd", Any),
     flag!(Quiet, "quiet"),
     text!(Only, "only", Any),
+    text!(Keep, "keep", Any),
+    texts!(KeepColumns, "keep-columns", Any),
+    texts!(Ignore, "ignore", Any),
+    text!(Shift, "shift", Shift),
 ];
 
 /// The options of the commands that have some, in the order in which help lists them.
@@ -159,7 +169,9 @@ pub const FORMS: &[OptionName] = options![Csv, Json];
 
 pub const SHEET_OPTIONS: &[OptionName] = options![Csv, Json, Stamp];
 
-pub const IMPORT_OPTIONS: &[OptionName] = options![Map, Names, Fill];
+pub const IMPORT_OPTIONS: &[OptionName] = options![Map, Names, Fill, KeepColumns];
+
+pub const PLAN_OPTIONS: &[OptionName] = options![Keep, Csv, Json];
 
 pub const ICD_OPTIONS: &[OptionName] = options![Csv, Text, Json, Stamp];
 
@@ -172,15 +184,15 @@ pub const LOAD_OPTIONS: &[OptionName] = options![Limit, Csv, Json, Stamp];
 pub const DIFF_OPTIONS: &[OptionName] = options![All, Csv, Json, Stamp];
 
 pub const SIMULATE_OPTIONS: &[OptionName] = options![
-    Time, From, Channel, Reversed, Until, Sent, Summary, Csv, Json
+    Time, From, Channel, Ignore, Reversed, Until, Sent, Summary, Csv, Json
 ];
 
 pub const SURVEY_OPTIONS: &[OptionName] = options![
-    Time, From, Channel, Reversed, Rate, Rows, Slack, Csv, Json
+    Time, From, Until, Channel, Ignore, Reversed, Rate, Rows, Slack, Csv, Json
 ];
 
 pub const JUDGE_OPTIONS: &[OptionName] = options![
-    In, Tolerance, Events, Time, From, Channel, Reversed, Csv, Json
+    In, Tolerance, Events, Time, From, Until, Shift, Channel, Ignore, Reversed, Csv, Json
 ];
 
 pub const ENCODE_OPTIONS: &[OptionName] = options![Sdi, Ssm, Data, Bnr, Bits, Bcd, Csv, Json];

@@ -43,9 +43,10 @@ shortest period if that is less]";
 pub const EVENTS: &str = "A row for each finding instead of each output";
 
 pub const JUDGE_END: &str = "\
-Both logs are on one clock: with `--from first` its times are counted from the
-first word of IN. There is a row for each output, and a row for each group that
-counts its foreign words. The status is 1 if something is found:
+Both logs are on one clock, or --shift moves OUT to that of IN. With `--from
+first` times are counted from the first word of IN. There is a row for each
+output, and a row for each group that counts its foreign words. The status is 1
+if something is found:
   wrong    the word that was sent did not come in before
   stale    a later word came in before
   soon     it was sent before the minimum interval was over
@@ -64,11 +65,15 @@ they are times of day or dates [default: us]";
 
 pub const FROM: &str = "\
 Count times from the first word (first), or from this
-time in us [default: 0]";
+time in us; ignore words before it [default: 0]";
 
 pub const CHANNEL: &str = "\
 Take channel or name FROM in a log as the name TO, as
 in --channel 3=adc-1; may be given again";
+
+pub const IGNORE: &str = "\
+Ignore the words of this channel or name of a log; may
+be given again";
 
 pub const REVERSED: &str = "\
 Bits of the words in a log that are written the other
@@ -87,6 +92,12 @@ pub const LOGS: &str = "Further logs, read after the first as if they were one";
 pub const UNTIL: &str = "\
 Simulate until US
 [default: one frame after the last word]";
+
+pub const LAST_TIME: &str = "Ignore words after US, as --from counts times";
+
+pub const SHIFT: &str = "\
+Move the times of what the box sent by US, as in
+--shift=-500, to the clock of IN [default: 0]";
 
 pub const SENT: &str = "Only the words that are sent, as a log for `judge`";
 

@@ -8,7 +8,7 @@ ghost use Rattle.a429_arguments.specs.Rules.{are_refused, breaks_by, fits_option
 
 use crate::forms::Verb;
 use crate::options::{OptionKind, OptionName, TextForm};
-use crate::times::{origin_in, unit_in};
+use crate::times::{origin_in, shift_in, unit_in};
 use crate::tolerances::{is_general_twice, is_tolerance};
 use crate::values::has;
 use a429_text::renames::{has_one_from_twice, is_rename};
@@ -32,7 +32,7 @@ pub enum Rule {
 }
 
 /// The rules, in the order in which they are checked. With a command: the rule is for that command alone.
-pub static RULES: [(Rule, Option<Verb>); 28] = [
+pub static RULES: [(Rule, Option<Verb>); 31] = [
     (
         Rule::OneOf(OptionName::Data, OptionName::Bnr, OptionName::Bcd),
         Some(Verb::Encode),
@@ -54,6 +54,7 @@ pub static RULES: [(Rule, Option<Verb>); 28] = [
     (Rule::Fits(OptionName::Time), None),
     (Rule::Fits(OptionName::From), None),
     (Rule::Fits(OptionName::Reversed), None),
+    (Rule::Fits(OptionName::Shift), None),
     (Rule::Excludes(OptionName::Csv, OptionName::Json), None),
     (
         Rule::Needs(OptionName::Json, OptionName::Summary),
@@ -67,6 +68,8 @@ pub static RULES: [(Rule, Option<Verb>); 28] = [
     (Rule::Excludes(OptionName::Rows, OptionName::Json), None),
     (Rule::Excludes(OptionName::Stamp, OptionName::Json), None),
     (Rule::Excludes(OptionName::Stamp, OptionName::Code), None),
+    (Rule::Excludes(OptionName::Keep, OptionName::Csv), None),
+    (Rule::Excludes(OptionName::Keep, OptionName::Json), None),
 ];
 
 /// What is wrong with arguments that break a rule, for people.
@@ -96,10 +99,14 @@ fn message(rule: Rule) -> &'static str {
         Rule::Fits(OptionName::Width) => "'--width <N>' must be 64, 128 or 256",
         Rule::Fits(OptionName::Time) => "'--time <UNIT>' takes us, ms, s or ns",
         Rule::Fits(OptionName::Reversed) => "'--reversed <BITS>' takes label or word",
+        Rule::Fits(OptionName::Shift) => {
+            "'--shift <US>' takes a number of at most 14 digits, such as 500, or =-500 for the other way"
+        }
         Rule::Fits(_) => "'--from <TIME>' takes 'first' or a number of at most 18 digits",
         Rule::Excludes(OptionName::Stamp, _) => {
             "'--stamp' cannot be used with '--json' or '--c'"
         }
+        Rule::Excludes(OptionName::Keep, _) => "'--keep' cannot be used with '--csv' or '--json'",
         Rule::Excludes(OptionName::Csv, _) => "'--csv' and '--json' cannot be used together",
         Rule::Excludes(_, OptionName::Board) => "'--c' and '--board' cannot be used together",
         Rule::Excludes(OptionName::Board, _) => "'--all' and '--board' cannot be used together",
@@ -119,6 +126,7 @@ fn fits(form: TextForm, text: &str) -> bool
         TextForm::Order => text == "label" || text == "word",
         TextForm::Rename => is_rename(text),
         TextForm::Tolerance => is_tolerance(text),
+        TextForm::Shift => shift_in(text).is_some(),
     }
 }
 

@@ -1,6 +1,8 @@
-//! The options for how a log is read: the unit of times, from when on they are counted, and the order of bits.
-ghost use Rattle.std.specs.Prelude.{◌≡◌};
-ghost use Rattle.a429_arguments.specs.Given.{last_origin, order_in, origin_in, unit_in};
+//! The options for how a log is read: the unit of times, from when on they are counted, by how much they are moved, and the
+//! order of bits.
+ghost use Rattle.std.specs.Prelude.{◌≡◌, option_map};
+ghost use Rattle.clap.specs.Lexer.{strip_byte};
+ghost use Rattle.a429_arguments.specs.Given.{last_origin, last_shift, order_in, origin_in, shift_in, unit_in};
 ghost use Rattle.a429_arguments.specs.Numbers.{number_up_to};
 
 use a429_logs::{BitOrder, TimeUnit};
@@ -15,6 +17,16 @@ pub enum LogOrigin {
     Time(u64),
     /// From the time of the first word.
     First,
+}
+
+/// The most by which times may be moved, in microseconds: fourteen digits (profile).
+const LAST_SHIFT: u64 = 99_999_999_999_999;
+
+/// By how much the times in a log are moved, in microseconds, 0 to 10^14 - 1.
+#[derive(Clone, Copy, PartialEq, Eq)]
+pub enum Shift {
+    Later(u64),
+    Earlier(u64),
 }
 
 /// The unit that a text states. `None` if it is none of the four that there are.
@@ -47,18 +59,12 @@ pub fn order_in(text: &str) -> Option<BitOrder>
     }
 }
 
-/// The time in microseconds that a text states. `None` if it states no whole number, or one of more than 18 digits.
-fn time_in(text: &str) -> Option<u64>
-    ensures { result ≡ number_up_to last_origin text.now }
+/// The microseconds that a text states. `None` if it states no whole number up to this one.
+fn time_in(text: &str, last: u64) -> Option<u64>
+    ensures { result ≡ number_up_to last text.now }
 {
     match text.parse::<u64>() {
-        Ok(time) => {
-            if time <= LAST_ORIGIN {
-                Some(time)
-            } else {
-                None
-            }
-        }
+        Ok(time) => { if time <= last { Some(time) } else { None } }
         Err(_) => None,
     }
 }
@@ -70,8 +76,46 @@ pub fn origin_in(text: &str) -> Option<LogOrigin>
     if text == "first" {
         return Some(LogOrigin::First);
     }
-    match time_in(text) {
+    match time_in(text, LAST_ORIGIN) {
         Some(time) => Some(LogOrigin::Time(time)),
         None => None,
+    }
+}
+
+/// The text after a minus. `None` if the text begins with none.
+fn after_minus(text: &str) -> Option<&str>
+    ensures { option_map (λ digits. digits.now) result ≡ strip_byte 45 text.now }
+{
+    text.strip_prefix('-')
+}
+
+/// How times are moved to earlier ones, by the text of the microseconds.
+fn earlier_in(text: &str) -> Option<Shift>
+    ensures { result ≡ option_map Shift.Earlier (number_up_to last_shift text.now) }
+{
+    match time_in(text, LAST_SHIFT) {
+        Some(time) => Some(Shift::Earlier(time)),
+        None => None,
+    }
+}
+
+/// How times are moved to later ones, by the text of the microseconds.
+fn later_in(text: &str) -> Option<Shift>
+    ensures { result ≡ option_map Shift.Later (number_up_to last_shift text.now) }
+{
+    match time_in(text, LAST_SHIFT) {
+        Some(time) => Some(Shift::Later(time)),
+        None => None,
+    }
+}
+
+/// By how much times are moved, by the text of that. `None` if it is no number of at most 14 digits, which may follow a
+/// minus.
+pub fn shift_in(text: &str) -> Option<Shift>
+    ensures { result ≡ shift_in text.now }
+{
+    match after_minus(text) {
+        Some(digits) => earlier_in(digits),
+        None => later_in(text),
     }
 }

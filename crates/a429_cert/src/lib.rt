@@ -44,7 +44,11 @@ mod verdicts;
 pub use checking::{CheckFault, check};
 pub use expected::{Expected, LineForm};
 pub use judging::{NoVerdict, judge, refusal_of};
-pub use line::BoundLine;
+pub use line::{
+    BoundLine, GroupLine, OutputLine, bound_line, group_line, output_line, plan_line, rate_line,
+};
+pub use lines::Lines;
+pub use output_lines::shares;
 pub use stops::Refusal;
-pub use text::{plan_text, write_heading};
+pub use text::{plan_text, write_bound, write_head, write_heading, write_place};
 pub use verdicts::{No, Reason, Verdict};

@@ -25,7 +25,7 @@ fn differ_by_class(first: &OutputLine<'_>, second: &OutputLine<'_>) -> bool
 }
 
 /// Whether two outputs have the same bus and offsets that are equal modulo the smaller period.
-fn shares(first: &OutputLine<'_>, second: &OutputLine<'_>) -> bool
+pub fn shares(first: &OutputLine<'_>, second: &OutputLine<'_>) -> bool
     requires first { 0 < first.now.period }
     requires second { 0 < second.now.period }
     ensures { result ≡ shares (listing first.now) (listing second.now) }

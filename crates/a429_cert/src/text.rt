@@ -46,8 +46,8 @@ fn write_hold(text: &mut String, version: u32, hold: Option<u32>) -> Result<(), 
     }
 }
 
-/// Writes the line of an output at a place.
-fn write_place(
+/// Appends the line of an output at a place (profile: plan text). Error: an allocation failed.
+pub fn write_place(
     text: &mut String,
     version: u32,
     source: &str,
@@ -88,8 +88,8 @@ fn write_output(
     )
 }
 
-/// Writes a group's last line.
-fn write_bound(text: &mut String, table: &GroupPlan<OUTPUTS>) -> Result<(), AllocError>
+/// Appends a group's last line (profile: plan text). Error: an allocation failed.
+pub fn write_bound(text: &mut String, table: &GroupPlan<OUTPUTS>) -> Result<(), AllocError>
     ensures { Writes result text.old text.new (bound_text (bound_of table.now)) }
 {
     let demand = table.demand();
@@ -151,8 +151,9 @@ fn write_groups(text: &mut String, proposal: &Proposal<OUTPUTS>) -> Result<(), A
     Ok(())
 }
 
-/// Writes the lines before the groups: the version, and the bit rate in bit/s if all groups have one.
-fn write_head(text: &mut String, equipment: &Equipment) -> Result<(), AllocError>
+/// Appends the lines before the groups: the version, and the bit rate in bit/s if all groups have one (profile: plan
+/// text). Error: an allocation failed.
+pub fn write_head(text: &mut String, equipment: &Equipment) -> Result<(), AllocError>
     ensures { Writes result text.old text.new (head_text equipment.now) }
 {
     let version = equipment.version();

@@ -12,13 +12,14 @@ use Rattle.a429_cli.specs.declared.replies.reply.Reply.{Reply}
 
 module _ (file : List ℕ → Option (List ℕ)) (r : AskedBytes) (result : Result Reply CommandRefusal) where
   pub on_plan : (v : Verb) → ¬ (v ≡ verb.Word) → ¬ (v ≡ verb.Encode) → ¬ (v ≡ verb.Import) → ¬ (v ≡ verb.Check) → ¬ (v ≡ verb.Lint) → ¬ (v ≡ verb.Diff) → ¬ (v ≡ verb.Survey)
-      → ¬ (v ≡ verb.Judge) → Replies (IsPlanReply v file r) (IsNoPlanReply v file r) result → Replies (IsAnswerOf v file r) (IsNoAnswer v file r) result
-  on_plan verb.Word not e i c l f s j is = absurd (not refl)
-  on_plan verb.Encode w not i c l f s j is = absurd (not refl)
-  on_plan verb.Import w e not c l f s j is = absurd (not refl)
-  on_plan verb.Check w e i not l f s j is = absurd (not refl)
-  on_plan verb.Lint w e i c not f s j is = absurd (not refl)
-  on_plan verb.Diff w e i c l not s j is = absurd (not refl)
-  on_plan verb.Survey w e i c l f not j is = absurd (not refl)
-  on_plan verb.Judge w e i c l f s not is = absurd (not refl)
-  on_plan _ w e i c l f s j is = is
+      → ¬ (v ≡ verb.Judge) → ¬ (v ≡ verb.Plan) → Replies (IsPlanReply v file r) (IsNoPlanReply v file r) result → Replies (IsAnswerOf v file r) (IsNoAnswer v file r) result
+  on_plan verb.Word not e i c l f s j p is = absurd (not refl)
+  on_plan verb.Encode w not i c l f s j p is = absurd (not refl)
+  on_plan verb.Import w e not c l f s j p is = absurd (not refl)
+  on_plan verb.Check w e i not l f s j p is = absurd (not refl)
+  on_plan verb.Lint w e i c not f s j p is = absurd (not refl)
+  on_plan verb.Diff w e i c l not s j p is = absurd (not refl)
+  on_plan verb.Survey w e i c l f not j p is = absurd (not refl)
+  on_plan verb.Judge w e i c l f s not p is = absurd (not refl)
+  on_plan verb.Plan w e i c l f s j not is = absurd (not refl)
+  on_plan _ w e i c l f s j p is = is

@@ -1,5 +1,5 @@
 -- What is answered to what is asked for (vocabulary of contracts).
-use Rattle.std.specs.Prelude.{◌∷◌, ⊤, ℕ, List, Bool, true, false, Option, Result}
+use Rattle.std.specs.Prelude.{◌≡◌, ◌∷◌, ⊤, ℕ, List, Bool, true, false, Option, Result}
 use Rattle.a429_console.specs.Outputs.{FailedCalls, OrNoMemory}
 use Rattle.a429_console.specs.Replying.{RepliesByReader, RepliesToWords}
 use Rattle.a429_arguments.specs.Given.{Given, form_of, has_given}
@@ -13,13 +13,16 @@ use Rattle.a429_cli.specs.WordLines.{IsNoWord, IsWordOf}
 use Rattle.a429_cli.specs.LineReplies.{IsLinesReply}
 use Rattle.a429_cli.specs.Checks.{IsCheckOf, IsNoCheck}
 use Rattle.a429_cli.specs.Encoding.{IsEncoded, IsNotEncoded, fields_given}
+use Rattle.a429_cli.specs.Keeping.{IsPlanned, IsUnplanned}
 use Rattle.a429_cli.specs.Plans.{IsNoPlanReply, IsPlanReply}
 use Rattle.a429_cli.specs.Findings.{IsDiffOf, IsLinted, IsNoDiff, IsNoLint}
 use Rattle.a429_import.specs.declared.import.ImportOptions.{ImportOptions}
 use Rattle.a429_cli.specs.Importing.{ImportsSilently, IsImported, IsNoImport}
+use Rattle.a429_import.specs.ImportMaps.{heading_texts}
 use Rattle.a429_live.specs.LiveReplies.{IsLiveReply, TakesLive}
 use Rattle.a429_replay.specs.Replaying.{IsReplay, TakesFurther}
 use Rattle.a429_replay.specs.Views.{view_given}
+use Rattle.a429_recordings.specs.LogViews.{whole_view}
 use Rattle.a429_recordings.specs.SimulationReplies.{IsSimulation, SimulatesSpacedWords, simulation_form}
 use Rattle.a429_cli.specs.JudgeAnswers.{IsJudgement, IsUnjudged}
 use Rattle.a429_cli.specs.SurveyReplies.{IsSurveyed, IsUnsurveyed}
@@ -45,44 +48,51 @@ trouble_of _ = 1
 abbrev pub import_options : Given → ImportOptions
 import_options given = record { fills = has_given given option.Fill; makes_names = has_given given option.Names }
 
+-- how their heading is read
+abbrev pub texts_given : Given → List (List ℕ)
+texts_given given = heading_texts (given option.Map) (given option.KeepColumns)
+
 -- the status and the bytes of such an answer, by these files and by what the command is given
 abbrev pub IsAnswerOf : Verb → (List ℕ → Option (List ℕ)) → AskedBytes → ℕ → List ℕ → Type 0
 IsAnswerOf verb.Word file r = IsWordOf r.first (form_of r.given)
 IsAnswerOf verb.Encode file r = IsEncoded r.first (fields_given r.given) (form_of r.given)
-IsAnswerOf verb.Import file r = IsImported file (r.given option.Map) (import_options r.given) r.first
+IsAnswerOf verb.Import file r = IsImported file (texts_given r.given) (import_options r.given) r.first
 IsAnswerOf verb.Check file r = IsCheckOf file (form_of r.given) r.first r.second
 IsAnswerOf verb.Lint file r = IsLinted file r
 IsAnswerOf verb.Diff file r = IsDiffOf file r
 IsAnswerOf verb.Survey file r = IsSurveyed file r
 IsAnswerOf verb.Judge file r = IsJudgement file r
+IsAnswerOf verb.Plan file r = IsPlanned file r
 IsAnswerOf v file r = IsPlanReply v file r
 
 -- why there is none
 abbrev pub IsNoAnswer : Verb → (List ℕ → Option (List ℕ)) → AskedBytes → CommandRefusal → Type 0
 IsNoAnswer verb.Word file r = IsNoWord r.first
 IsNoAnswer verb.Encode file r = IsNotEncoded r.first (fields_given r.given)
-IsNoAnswer verb.Import file r = IsNoImport file (r.given option.Map) (import_options r.given) r.first
+IsNoAnswer verb.Import file r = IsNoImport file (texts_given r.given) (import_options r.given) r.first
 IsNoAnswer verb.Check file r = IsNoCheck file r.first r.second
 IsNoAnswer verb.Lint file r = IsNoLint file r.first
 IsNoAnswer verb.Diff file r = IsNoDiff file r.first r.second
 IsNoAnswer verb.Survey file r = IsUnsurveyed file r
 IsNoAnswer verb.Judge file r = IsUnjudged file r
+IsNoAnswer verb.Plan file r = IsUnplanned file r
 IsNoAnswer v file r = IsNoPlanReply v file r
 
 -- the status and the bytes that answer a command, by these files and by what it is given
 abbrev pub IsReplyOf : Verb → (List ℕ → Option (List ℕ)) → AskedBytes → ℕ → List ℕ → Type 0
 IsReplyOf verb.Lines file r = IsLinesReply file (form_of r.given) r.first r.more
 IsReplyOf verb.Replay file r = IsReplay file (view_given r.given) r.first r.second r.more
-IsReplyOf verb.Simulate file r = IsSimulation file r.first (r.second ∷ r.more) (r.given option.Channel) (simulation_form r.given)
+IsReplyOf verb.Simulate file r = IsSimulation file r.first (r.second ∷ r.more) (whole_view r.given) (simulation_form r.given)
 IsReplyOf verb.Live file r = IsLiveReply file r
 IsReplyOf v file r = IsReplyBy (trouble_of v) (IsAnswerOf v file r) (IsNoAnswer v file r)
 
 -- A command has nothing to warn of: the station takes the plans of all further tables, and the words of the log are apart. The imported rows
--- have no notes, and no group has intervals that may be milliseconds.
+-- have no notes, and no group has intervals that may be milliseconds. No places of an earlier plan must be kept.
 abbrev pub HasNoWarning : Verb → (List ℕ → Option (List ℕ)) → AskedBytes → Type 0
-HasNoWarning verb.Import file r = ImportsSilently file (r.given option.Map) (import_options r.given) r.first
+HasNoWarning verb.Import file r = ImportsSilently file (texts_given r.given) (import_options r.given) r.first
+HasNoWarning verb.Plan file r = has_given r.given option.Keep ≡ false
 HasNoWarning verb.Replay file r = TakesFurther file r.first r.second r.more
-HasNoWarning verb.Simulate file r = SimulatesSpacedWords file r.first (r.second ∷ r.more) (r.given option.Channel) (simulation_form r.given)
+HasNoWarning verb.Simulate file r = SimulatesSpacedWords file r.first (r.second ∷ r.more) (whole_view r.given) (simulation_form r.given)
 HasNoWarning verb.Live file r = TakesLive file r
 HasNoWarning _ file r = ⊤
 

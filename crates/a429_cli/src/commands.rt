@@ -4,10 +4,13 @@ ghost use Rattle.a429_console.specs.Ends.{EndsBy, writing};
 ghost use Rattle.a429_arguments.specs.Texts.{texts_of};
 ghost use Rattle.a429_console.specs.Outputs.{CountsFault, IsPut};
 ghost use Rattle.a429_console.specs.Readings.{HasRead, HasReadFrom};
+ghost use Rattle.a429_arguments.specs.Given.{has_given};
 ghost use Rattle.a429_arguments.specs.RequestRows.{AsksFor};
 ghost use Rattle.a429_arguments.specs.Requests.{AskedBytes, asked_of};
-ghost use Rattle.a429_recordings.specs.LogItems.{channels_named, logs_named};
+ghost use Rattle.a429_recordings.specs.LogItems.{logs_named, view_named};
+ghost use Rattle.a429_recordings.specs.LogViews.{whole_view};
 ghost use Rattle.a429_cli.specs.Replies.{IsAnswerOf, IsNoAnswer, IsReplyOrMemory, RepliesToCommand, RepliesToCommandByReader, IsSilent, import_options, is_whole, trouble_of};
+ghost use Rattle.a429_cli.specs.Keeping.{IsPlanned, IsUnplanned};
 ghost use Rattle.a429_cli.specs.WholeReplies.{Replies};
 ghost use Rattle.a429_arguments.specs.Usage.{is_run, kinds_of_words};
 
@@ -17,6 +20,7 @@ use crate::encode::{FieldOptions, encode_reply};
 use crate::findings::{diff_reply, lint_reply};
 use crate::import::import_reply;
 use crate::judging::judge_reply;
+use crate::keeping::kept_reply;
 use crate::lines::tell_lines;
 use crate::plans::plan_reply;
 use crate::replies::put_reply;
@@ -34,7 +38,7 @@ use a429_console::hints::warnings::Warning;
 use a429_console::output::{Output, OutputFault};
 use a429_console::refusals::Refused;
 use a429_import::ImportOptions;
-use a429_recordings::simulate::{LogNames, SimulationForm, simulate};
+use a429_recordings::simulate::{LogNames, LogView, SimulationForm, simulate};
 use a429_replay::replay::replay;
 use a429_replay::views::ReplayForm;
 use std::alloc::Global;
@@ -81,6 +85,25 @@ pub fn command<'a, H: Hints, F: FileReader, O: Output, V: Output>(
     status
 }
 
+/// The plan of a table, whose outputs keep the places of an earlier plan text if one is given. What moved is noted.
+fn plan_or_kept<F: FileReader>(
+    alloc: Global,
+    files: &mut F,
+    asked: &Asked,
+    warnings: &mut Vec<Warning>,
+) -> Result<Reply, Refused>
+    requires { asked.now.verb ≡ Verb.Plan }
+    ensures replied { HasRead F.answers (λ file. Replies (IsPlanned file (asked_of asked.now))
+        (IsUnplanned file (asked_of asked.now)) result) files.old files.new }
+    ensures silent { HasRead F.answers (λ file. has_given (asked_of asked.now).given OptionName.Keep ≡ false
+        → warnings.new.items ≡ warnings.old.items) files.old files.new }
+{
+    match asked.text(OptionName::Keep) {
+        Some(earlier) => kept_reply(alloc, files, asked.first, earlier, warnings),
+        None => plan_reply(alloc, files, asked),
+    }
+}
+
 /// What a command answers that prints nothing before it has its whole answer. What it warns of is noted.
 fn reply_to<F: FileReader>(
     alloc: Global,
@@ -104,6 +127,7 @@ fn reply_to<F: FileReader>(
             files,
             first,
             asked.texts(OptionName::Map),
+            asked.texts(OptionName::KeepColumns),
             import_options(asked),
             warnings,
         ),
@@ -112,6 +136,7 @@ fn reply_to<F: FileReader>(
         Verb::Diff => diff_reply(alloc, files, asked),
         Verb::Survey => survey_reply(alloc, files, asked),
         Verb::Judge => judge_reply(alloc, files, asked),
+        Verb::Plan => plan_or_kept(alloc, files, asked, warnings),
         _ => plan_reply(alloc, files, asked),
     }
 }
@@ -138,15 +163,15 @@ fn answer_whole<F: FileReader, O: Output>(
     put_reply(alloc, reply, trouble_of(asked.verb), out)
 }
 
-/// The names of the logs that a request has after its table.
+/// The names of the logs that a request has after its table, and which of their words it asks for.
 fn simulated_logs<'a>(asked: &'a Asked) -> LogNames<'a>
     ensures logs { logs_named result ≡ (asked_of asked.now).second ∷ (asked_of asked.now).more }
-    ensures channels { channels_named result ≡ (asked_of asked.now).given OptionName.Channel }
+    ensures view { view_named result ≡ whole_view (asked_of asked.now).given }
 {
     LogNames {
         first: asked.second,
         more: &asked.more,
-        channels: asked.texts(OptionName::Channel),
+        view: LogView::whole(asked),
     }
 }
 

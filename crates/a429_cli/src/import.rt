@@ -1,8 +1,8 @@
 //! The command `import`: an equipment table from rows of comma-separated values.
-ghost use Rattle.std.specs.Prelude.{◌≡◌};
+ghost use Rattle.std.specs.Prelude.{◌≡◌, ◌++◌, IfOk, OnOk, map, string_bytes};
 ghost use Rattle.a429_console.specs.Readings.{HasRead};
 ghost use Rattle.a429_cli.specs.Importing.{HasNoMillisGroup, HasNoShortGroup, ImportsSilently, IsImportReply, csv_kind, import_refusal};
-ghost use Rattle.a429_import.specs.ImportMaps.{given_texts};
+ghost use Rattle.a429_import.specs.ImportMaps.{given_texts, heading_texts};
 
 mod short_intervals;
 
@@ -15,7 +15,8 @@ use a429_console::refusals::evidence::Evidence;
 use a429_console::refusals::rows::{RowEvidence, RowsEvidence};
 use a429_console::refusals::{CommandRefusal, CsvKind, Refused};
 use a429_import::{
-    CsvFaultKind, CsvLine, ImportFault, ImportOptions, Imported, RefusedRows, import_or_keep,
+    CsvFaultKind, CsvLine, ImportFault, ImportOptions, Imported, RefusedRows, heading_texts,
+    import_or_keep, keep_texts,
 };
 use a429_table::TableFault;
 use std::alloc::{AllocError, Global};
@@ -141,10 +142,54 @@ fn note_import(alloc: Global, imported: &Imported, warnings: &mut Vec<Warning>)
     }
 }
 
-/// The table that the rows in a file state, with status 0. Their heading is read by texts HEADING=COLUMN, and the options
-/// say how rows are read. Each group of the table whose intervals may be milliseconds is noted, and rows that are notes.
+/// Appends copies of texts. Error: an allocation failed.
+fn push_copies(alloc: Global, all: &mut Vec<String>, texts: &[&str]) -> Result<(), AllocError>
+    ensures { OnOk result (map string_bytes all.new.items ≡ map string_bytes all.old.items ++ given_texts texts.now) }
+{
+    for text in texts {
+        all.push(String::from_str(alloc, *text)?)?;
+    }
+    Ok(())
+}
+
+/// The texts HEADING=COLUMN of columns that are read, and those of columns that go along. Error: an allocation failed.
+fn all_texts(alloc: Global, maps: &[&str], keeps: &[&str]) -> Result<Vec<String>, AllocError>
+    ensures { IfOk result (λ all. map string_bytes all.items ≡ heading_texts (given_texts maps.now) (given_texts keeps.now)) }
+{
+    let mut all = Vec::new(alloc);
+    push_copies(alloc, &mut all, maps)?;
+    let kept = keep_texts(alloc, keeps)?;
+    push_copies(alloc, &mut all, &heading_texts(alloc, &[], &kept)?)?;
+    Ok(all)
+}
+
+/// The table that the rows in a file state, with status 0. Their heading is read by texts HEADING=COLUMN, and the columns of
+/// `keeps` go along as comments. The options say how rows are read. Each group of the table whose intervals may be
+/// milliseconds is noted, and rows that are notes.
 /// Errors, in this order: the file is refused, a row has a fault, or the table has one. `Memory` if an allocation fails.
 pub fn import_reply<F: FileReader>(
+    alloc: Global,
+    files: &mut F,
+    name: &str,
+    maps: &[&str],
+    keeps: &[&str],
+    options: ImportOptions,
+    warnings: &mut Vec<Warning>,
+) -> Result<Reply, Refused>
+    ensures replied { HasRead F.answers (λ file.
+        IsImportReply file (heading_texts (given_texts maps.now) (given_texts keeps.now)) options name.now result)
+        files.old files.new }
+    ensures silent { HasRead F.answers (λ file.
+        ImportsSilently file (heading_texts (given_texts maps.now) (given_texts keeps.now)) options name.now
+        → warnings.new.items ≡ warnings.old.items) files.old files.new }
+{
+    let all = all_texts(alloc, maps, keeps)?;
+    let texts = heading_texts(alloc, &[], &all)?;
+    import_by(alloc, files, name, &texts, options, warnings)
+}
+
+/// The same with the texts HEADING=COLUMN of all columns.
+fn import_by<F: FileReader>(
     alloc: Global,
     files: &mut F,
     name: &str,

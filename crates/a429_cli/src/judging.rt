@@ -9,9 +9,10 @@ ghost use Rattle.a429_cli.specs.WholeReplies.{Replies};
 use crate::replies::reply::Reply;
 use a429_arguments::options::OptionName;
 use a429_arguments::requests::Asked;
+use a429_arguments::times::Shift;
 use a429_console::files::FileReader;
 use a429_console::refusals::Refused;
-use a429_recordings::judge::{JudgeForm, JudgeNames, judge_logs};
+use a429_recordings::judge::{JudgeForm, JudgeNames, LogView, judge_logs};
 use std::alloc::Global;
 
 /// 1 if something was found, otherwise 0.
@@ -21,7 +22,7 @@ fn judge_status(found: bool) -> u8
     if found { 1 } else { 0 }
 }
 
-/// The names of the files that a request has.
+/// The names of the files that a request has, which words of their logs it asks for, and the tolerances.
 fn names_in<'a>(asked: &'a Asked) -> JudgeNames<'a>
     ensures { names_of result ≡ box_names (asked_of asked.now) }
 {
@@ -31,7 +32,8 @@ fn names_in<'a>(asked: &'a Asked) -> JudgeNames<'a>
         more_heard: asked.texts(OptionName::In),
         sent: asked.third,
         more_sent: &asked.more,
-        channels: asked.texts(OptionName::Channel),
+        heard_view: LogView::window(asked, Shift::Later(0)),
+        sent_view: LogView::window(asked, asked.shift()),
         tolerances: asked.texts(OptionName::Tolerance),
     }
 }

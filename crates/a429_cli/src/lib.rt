@@ -25,6 +25,7 @@ mod encode;
 mod findings;
 mod import;
 mod judging;
+mod keeping;
 pub mod laws;
 mod lines;
 mod live;

@@ -2,27 +2,29 @@
 ghost use Rattle.std.specs.Prelude.{◌≡◌, ◌∷◌};
 ghost use Rattle.a429_console.specs.Readings.{HasRead};
 ghost use Rattle.a429_arguments.specs.Requests.{asked_of};
-ghost use Rattle.a429_recordings.specs.LogItems.{channels_named, logs_named};
+ghost use Rattle.a429_arguments.specs.declared.times.Shift.TheVariants.{Later};
+ghost use Rattle.a429_recordings.specs.LogItems.{logs_named, view_named};
+ghost use Rattle.a429_recordings.specs.LogViews.{window_view};
 ghost use Rattle.a429_cli.specs.SurveyReplies.{IsSurveyed, IsUnsurveyed};
 ghost use Rattle.a429_cli.specs.WholeReplies.{Replies};
 
 use crate::replies::reply::Reply;
-use a429_arguments::options::OptionName;
 use a429_arguments::requests::Asked;
+use a429_arguments::times::Shift;
 use a429_console::files::FileReader;
 use a429_console::refusals::Refused;
-use a429_recordings::survey::{LogNames, SurveyForm, survey_logs};
+use a429_recordings::survey::{LogNames, LogView, SurveyForm, survey_logs};
 use std::alloc::Global;
 
-/// The names of the logs that a request has.
+/// The names of the logs that a request has, and which of their words it asks for.
 fn names_in<'a>(asked: &'a Asked) -> LogNames<'a>
     ensures logs { logs_named result ≡ (asked_of asked.now).first ∷ (asked_of asked.now).more }
-    ensures channels { channels_named result ≡ (asked_of asked.now).given OptionName.Channel }
+    ensures view { view_named result ≡ window_view (asked_of asked.now).given (Later 0) }
 {
     LogNames {
         first: asked.first,
         more: &asked.more,
-        channels: asked.texts(OptionName::Channel),
+        view: LogView::window(asked, Shift::Later(0)),
     }
 }
 

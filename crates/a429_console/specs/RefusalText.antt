@@ -8,6 +8,8 @@ use Rattle.a429_console.specs.declared.refusals.CommandRefusal.{CommandRefusal}
 use Rattle.a429_console.specs.declared.refusals.CommandRefusal.TheVariants as refused
 use Rattle.a429_console.specs.declared.refusals.CsvKind.{CsvKind}
 use Rattle.a429_console.specs.declared.refusals.CsvKind.TheVariants as csv
+use Rattle.a429_console.specs.declared.refusals.PlanKind.{PlanKind}
+use Rattle.a429_console.specs.declared.refusals.PlanKind.TheVariants as plan
 
 -- what is wrong with a row of comma-separated values, by its name in refusals
 abbrev pub csv_kind_text : CsvKind → List ℕ
@@ -15,6 +17,13 @@ csv_kind_text csv.Form = codes "form"
 csv_kind_text csv.Column = codes "column"
 csv_kind_text csv.Differs = codes "differs"
 csv_kind_text csv.Wide = codes "wide"
+
+-- what is wrong with a line of a plan text whose places must be kept
+abbrev pub plan_kind_text : PlanKind → List ℕ
+plan_kind_text plan.Form = codes "form"
+plan_kind_text plan.Rate = codes "rate"
+plan_kind_text plan.Place = codes "place"
+plan_kind_text plan.Shared = codes "shared"
 
 abbrev pub refusal_line : CommandRefusal → List ℕ
 refusal_line (refused.File name) = codes "refused file " ++ string_bytes name
@@ -31,6 +40,7 @@ refusal_line (refused.Group name) = codes "refused group " ++ string_bytes name
 refusal_line (refused.Script line) = codes "refused script line " ++ decimal line
 refusal_line (refused.LogLine line) = codes "refused log line " ++ decimal line
 refusal_line (refused.Csv line kind) = codes "refused csv line " ++ decimal line ++ codes " " ++ csv_kind_text kind
+refusal_line (refused.PlanLine line kind) = codes "refused plan line " ++ decimal line ++ codes " " ++ plan_kind_text kind
 refusal_line refused.Join = codes "refused join"
 refusal_line refused.Gate = codes "refused gate"
 refusal_line refused.Source = codes "refused source"

@@ -50,6 +50,36 @@ impl fmt::Display for CsvKind {
     }
 }
 
+/// What is wrong with a line of a plan text whose places must be kept.
+#[derive(Clone, Copy, PartialEq, Eq)]
+pub enum PlanKind {
+    /// It is not of the form of a plan text.
+    Form,
+    /// It says another bit rate than the table.
+    Rate,
+    /// The offset is not below the period.
+    Place,
+    /// An earlier output of the group has cells of this one.
+    Shared,
+}
+
+impl fmt::Display for PlanKind {
+    ghost use Rattle.std.specs.Prelude.{Some};
+    ghost use Rattle.a429_console.specs.RefusalText.{plan_kind_text};
+
+    ghost output = { λ kind. Some (plan_kind_text kind) };
+
+    /// Its name in refusals.
+    fn fmt<W: fmt::Write>(&self, f: &mut fmt::Formatter<W>) -> fmt::Result {
+        match self {
+            PlanKind::Form => f.write_str("form"),
+            PlanKind::Rate => f.write_str("rate"),
+            PlanKind::Place => f.write_str("place"),
+            PlanKind::Shared => f.write_str("shared"),
+        }
+    }
+}
+
 /// Why a command ends before or instead of its answer. Its text is the line that the program prints.
 #[derive(Drop)]
 pub enum CommandRefusal {
@@ -84,6 +114,9 @@ pub enum CommandRefusal {
     /// The row at the line of this number, from 1, of a file of comma-separated values is the first with a fault, and this is
     /// wrong with it.
     Csv { line: u64, kind: CsvKind },
+    /// The line of this number, from 1, of a plan text whose places must be kept is the first with a fault, and this is
+    /// wrong with it.
+    PlanLine { line: usize, kind: PlanKind },
     /// A thread could not be started or joined.
     Join,
     /// The gate ended a worker.
@@ -129,6 +162,9 @@ impl fmt::Display for CommandRefusal {
             CommandRefusal::Script(line) => write!(f, "refused script line {line}"),
             CommandRefusal::LogLine { line } => write!(f, "refused log line {line}"),
             CommandRefusal::Csv { line, kind } => write!(f, "refused csv line {line} {kind}"),
+            CommandRefusal::PlanLine { line, kind } => {
+                write!(f, "refused plan line {line} {kind}")
+            }
             CommandRefusal::Join => f.write_str("refused join"),
             CommandRefusal::Gate => f.write_str("refused gate"),
             CommandRefusal::Source => f.write_str("refused source"),

@@ -7,7 +7,7 @@ use a429_text::{Sheet, SheetForm};
 /// Says that a log has no time in common with that of the words that came in.
 pub fn tell_apart(heard: &str, hint: &HintText) {
     hint.line_one(
-        "no time is within this log and within {?}; both logs need times of one clock",
+        "no time is within this log and within {?}; both logs need times of one clock, or --shift moves this one",
         heard,
     );
 }
@@ -139,7 +139,7 @@ fn tell_sends(heard: &str, unit: TimeUnit, sends: Sends, hint: &HintText) {
     }
     if sends.look_shifted() {
         hint.line_one(
-            "most words are wrong or stale, and hardly any is soon or late: perhaps this log and {?} are not on one clock; then shift the times of one of them",
+            "most words are wrong or stale, and hardly any is soon or late: perhaps this log and {?} are not on one clock; then move this one by --shift",
             heard,
         );
     }

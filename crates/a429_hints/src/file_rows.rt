@@ -3,8 +3,8 @@
 use crate::column_forms::{form_in, form_of_interval, thing_in, usual_rate, whole_label};
 use crate::hint::HintText;
 use a429_import::{
-    CsvLine, Heading, ImportColumn, IntervalForm, IntervalUnit, RowNumbers, made_name,
-    may_be_thousands, millis_in, row_numbers,
+    CsvLine, Heading, ImportColumn, ImportOptions, IntervalForm, IntervalUnit, RowNumbers,
+    made_name, may_be_thousands, millis_in, row_numbers,
 };
 use a429_word::{Label, Sdi};
 
@@ -35,8 +35,8 @@ pub struct FileRows<'a> {
     /// The heading as it is written.
     pub titles: &'a CsvLine,
     pub rows: &'a [CsvLine],
-    /// Whether texts become names (`--names`).
-    pub makes_names: bool,
+    /// How the rows were read.
+    pub options: ImportOptions,
 }
 
 impl<'a> FileRows<'a> {
@@ -111,7 +111,9 @@ impl<'a> FileRows<'a> {
     /// besides its text.
     pub fn are_one(self, a: &'a CsvLine, b: &'a CsvLine, column: ImportColumn) -> bool {
         self.field(a, column) == self.field(b, column)
-            && (!self.makes_names || column != ImportColumn::Source || self.have_one_word(a, b))
+            && (!self.options.makes_names
+                || column != ImportColumn::Source
+                || self.have_one_word(a, b))
     }
 
     /// Whether two rows have the same receiver, label and SDI.
@@ -302,7 +304,7 @@ fn micros_in(text: &str) -> Option<u32> {
 /// Says the name that `--names` makes of a text of a column. If an earlier text of the column has that name, a number follows.
 /// Nothing is said if the text is such a name, or if names are made.
 fn say_proposed_name(field: FileField, text: &str, made: &[u8], hint: &HintText) {
-    if made == text.as_bytes() || field.file.makes_names {
+    if made == text.as_bytes() || field.file.options.makes_names {
         return;
     }
     let name = str::from_utf8(made).unwrap_or("");

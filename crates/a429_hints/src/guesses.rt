@@ -331,7 +331,7 @@ fn add_swapped(guesses: &mut Vec<Guess>, file: FileRows) -> Result<(), AllocErro
 }
 
 /// The first field that names a column.
-fn column_place(file: FileRows, column: ImportColumn) -> Option<usize> {
+pub fn column_place(file: FileRows, column: ImportColumn) -> Option<usize> {
     for place in 0..file.heading.line.len() {
         if is_column_named(column, file.heading.line.field(place)) {
             return Some(place);

@@ -7,29 +7,70 @@ use crate::guesses::{
 use crate::hint::HintText;
 use crate::lists::{LISTED, say_more};
 use crate::nearest::Nearest;
+use crate::retries::{say_command, say_map};
 use a429_import::{
-    CsvLine, IMPORT_COLUMNS, ImportColumn, column_in, is_column, is_column_named, is_met,
+    CsvLine, IMPORT_COLUMNS, ImportColumn, column_in, is_about, is_column, is_column_named, is_met,
 };
 use a429_text::renames::halves;
 use std::alloc::Global;
 use std::cmp::min;
 
 /// Says which of the texts HEADING=COLUMN is not met. If all are, names each column that the heading lacks or has twice.
-pub fn tell_heading(file: FileRows, maps: &[&str], hint: &HintText) {
+pub fn tell_heading(file: FileRows, texts: &[&str], hint: &HintText) {
     hint.turn_to_line(file.titles.number as usize);
     let mut are_met = true;
-    for text in maps {
-        if !is_met(file.titles, *text) {
+    for text in texts {
+        if !is_met(texts, file.titles, *text) {
             are_met = false;
-            tell_map(file.titles, *text, hint);
+            tell_unmet(file.titles, *text, hint);
         }
     }
     if are_met {
-        tell_columns(file, maps, hint);
+        tell_columns(file, texts, hint);
     }
 }
 
 /// Says why a text HEADING=COLUMN is not met.
+fn tell_unmet(titles: &CsvLine, text: &str, hint: &HintText) {
+    match text.strip_suffix("=#:") {
+        Some(name) => tell_keep(titles, text, name, hint),
+        None => tell_map(titles, text, hint),
+    }
+}
+
+/// Says why a column does not go along.
+fn tell_keep(titles: &CsvLine, text: &str, name: &str, hint: &HintText) {
+    hint.begin(": ");
+    hint.say_one("--keep-columns {?}", name);
+    if has_field(titles, text) {
+        return hint.end(
+            ": only a column that is there once, and is not read as another, can go along",
+        );
+    }
+    say_missing(titles, name, hint);
+}
+
+/// Whether HEADING of a text is a field of the heading.
+fn has_field(titles: &CsvLine, text: &str) -> bool {
+    for place in 0..titles.len() {
+        if is_about(titles.field(place), text) {
+            return true;
+        }
+    }
+    false
+}
+
+/// Says that the heading lacks a field, which field is nearest, and which fields it has.
+fn say_missing(titles: &CsvLine, name: &str, hint: &HintText) {
+    hint.say_one(": the heading has no {?}", name);
+    if let Some(near) = nearest_field(hint.alloc, titles, name) {
+        hint.say_one("; the nearest is {?}", near);
+    }
+    say_fields(titles, hint);
+    hint.end("");
+}
+
+/// Says why a text HEADING=COLUMN of a column that is read is not met.
 fn tell_map(titles: &CsvLine, text: &str, hint: &HintText) {
     hint.begin(": ");
     hint.say_one("--map {?}", text);
@@ -44,16 +85,11 @@ fn tell_map(titles: &CsvLine, text: &str, hint: &HintText) {
         Some((name, _)) => text_of(name),
         None => "",
     };
-    hint.say_one(": the heading has no {?}", name);
-    if let Some(near) = nearest_field(hint.alloc, titles, name) {
-        hint.say_one("; the nearest is {?}", near);
-    }
-    say_fields(titles, hint);
-    hint.end("");
+    say_missing(titles, name, hint);
 }
 
 /// Names each column that the heading lacks or has twice, and the fields that are likely meant.
-fn tell_columns(file: FileRows, maps: &[&str], hint: &HintText) {
+fn tell_columns(file: FileRows, texts: &[&str], hint: &HintText) {
     for column in IMPORT_COLUMNS.as_slice() {
         let times = times_in(&file.heading.line, *column);
         if times > 1 {
@@ -66,7 +102,7 @@ fn tell_columns(file: FileRows, maps: &[&str], hint: &HintText) {
     match guesses.as_slice() {
         [] => {}
         [guess] => tell_guess(file, *guess, hint),
-        _ => tell_guesses(file, maps, &guesses, hint),
+        _ => tell_guesses(file, texts, &guesses, hint),
     }
     let unlike = unlike_columns(file, &guesses);
     if unlike > 0 {
@@ -141,37 +177,15 @@ fn tell_guess(file: FileRows, guess: Guess, hint: &HintText) {
 }
 
 /// Says with which command the fields that are likely meant are read as the columns that the heading lacks.
-fn tell_guesses(file: FileRows, maps: &[&str], guesses: &[Guess], hint: &HintText) {
-    hint.begin(": columns have other names; rename them, or write a429 import ");
-    hint.say_file_name();
-    if file.makes_names {
-        hint.say(" --names");
-    }
-    for text in maps {
-        hint.say_one(" --map \"{}\"", *text);
-    }
+fn tell_guesses(file: FileRows, texts: &[&str], guesses: &[Guess], hint: &HintText) {
+    hint.begin(": columns have other names; rename them, or write ");
+    say_command(file, guesses, file.rows, texts, hint);
     for column in IMPORT_COLUMNS.as_slice() {
         if let Some(guess) = guess_for(guesses, *column) {
             say_map(text_of(file.titles.field(guess.place)), guess.name, hint);
         }
     }
     hint.end("");
-}
-
-/// Says the option that reads a field of a heading as a column, for a shell.
-fn say_map(title: &str, name: &str, hint: &HintText) {
-    hint.say(" --map \"");
-    for c in title.chars() {
-        match c {
-            '"' | '\\' | '$' | '`' => {
-                hint.write_fmt('\\');
-                hint.write_fmt(c);
-            }
-            _ if c.is_control() => hint.write_fmt(' '),
-            _ => hint.write_fmt(c),
-        }
-    }
-    hint.say_one("={}\"", name);
 }
 
 /// Names the fields of a heading.

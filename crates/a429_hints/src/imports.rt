@@ -5,23 +5,25 @@ use crate::files::{REFUSED_OUTPUT, other_file};
 use crate::headings::tell_heading;
 use crate::hint::HintText;
 use crate::imported::tell_imported;
+use crate::retries::{needs_fill, say_command};
+use a429_arguments::options::OptionName;
+use a429_arguments::requests::Asked;
 use a429_console::refusals::rows::{RowEvidence, RowsEvidence};
 use a429_console::refusals::{CommandRefusal, CsvKind};
 use a429_filter::Filter;
 use a429_import::{
-    CsvLine, Heading, IMPORT_COLUMNS, ImportColumn, column_in, form_fault, is_column_named,
+    CsvLine, Heading, IMPORT_COLUMNS, ImportColumn, ImportOptions, column_in, form_fault,
+    heading_texts, is_column_named, keep_texts,
 };
 use std::alloc::{AllocError, Global};
 
 /// How many faulty rows are shown.
 const FAULTY_ROWS: usize = 3;
 
-/// Says what is wrong with the rows of a file. Their heading was read by these texts HEADING=COLUMN, and names were made if
-/// `makes_names` is set.
+/// Says what is wrong with the rows of a file that a command imports.
 pub fn tell_rows(
+    asked: &Asked,
     refusal: &CommandRefusal,
-    maps: &[&str],
-    makes_names: bool,
     evidence: &RowsEvidence,
     hint: &HintText,
 ) {
@@ -35,7 +37,7 @@ pub fn tell_rows(
     }
     hint.turn_to_line(1);
     match &evidence.titles {
-        Some(titles) => tell_sheet(titles, refusal, maps, makes_names, evidence, hint),
+        Some(titles) => tell_sheet(asked, titles, refusal, evidence, hint),
         None => hint.say_line(
             "the heading is missing; it must name the columns group, rate, source, receiver, label, sdi, min_us and max_us",
         ),
@@ -44,10 +46,9 @@ pub fn tell_rows(
 
 /// Says what is wrong with a sheet that has a heading.
 fn tell_sheet(
+    asked: &Asked,
     titles: &RowEvidence,
     refusal: &CommandRefusal,
-    maps: &[&str],
-    makes_names: bool,
     evidence: &RowsEvidence,
     hint: &HintText,
 ) {
@@ -57,15 +58,7 @@ fn tell_sheet(
                 return hint.give_up();
             };
             let heading = Heading::of(named);
-            tell_lines(
-                &titles,
-                &heading,
-                refusal,
-                maps,
-                makes_names,
-                evidence,
-                hint,
-            );
+            tell_lines(asked, &titles, &heading, refusal, evidence, hint);
         }
         None => tell_above(refusal, titles.number, hint),
     }
@@ -73,11 +66,10 @@ fn tell_sheet(
 
 /// Says what is wrong with a heading or with the rows below it.
 fn tell_lines(
+    asked: &Asked,
     titles: &CsvLine,
     heading: &Heading,
     refusal: &CommandRefusal,
-    maps: &[&str],
-    makes_names: bool,
     evidence: &RowsEvidence,
     hint: &HintText,
 ) {
@@ -91,16 +83,49 @@ fn tell_lines(
         heading,
         titles,
         rows: &rows,
-        makes_names,
+        options: ImportOptions {
+            fills: asked.has(OptionName::Fill),
+            makes_names: asked.has(OptionName::Names),
+        },
     };
+    let Ok(kept) = keep_texts(hint.alloc, asked.texts(OptionName::KeepColumns)) else {
+        return hint.give_up();
+    };
+    let Ok(texts) = heading_texts(hint.alloc, asked.texts(OptionName::Map), &kept) else {
+        return hint.give_up();
+    };
+    tell_file(file, &texts, &faulty, refusal, evidence, hint);
+}
+
+/// Says what is wrong with the heading or the rows of a file. The heading was read by these texts HEADING=COLUMN.
+fn tell_file<'a>(
+    file: FileRows<'a>,
+    texts: &[&str],
+    faulty: &'a [CsvLine],
+    refusal: &CommandRefusal,
+    evidence: &RowsEvidence,
+    hint: &HintText,
+) {
     match refusal {
         CommandRefusal::Table(kind, place) => tell_imported(file, *kind, *place, hint),
         CommandRefusal::Csv {
             kind: CsvKind::Column,
             ..
-        } => tell_heading(file, maps, hint),
-        CommandRefusal::Csv { kind, .. } => tell_faulty_rows(file, &faulty, *kind, evidence, hint),
+        } => tell_heading(file, texts, hint),
+        CommandRefusal::Csv { kind, .. } => {
+            tell_faulty_rows(file, faulty, *kind, evidence, hint);
+            tell_fill(file, texts, faulty, hint);
+        }
         _ => {}
+    }
+}
+
+/// Says with which command empty fields are filled, if faulty rows have some below a field that is not empty.
+fn tell_fill<'a>(file: FileRows<'a>, texts: &[&str], faulty: &'a [CsvLine], hint: &HintText) {
+    if needs_fill(file, &[], faulty) {
+        hint.say("a429: if the empty cells are merged with those above, write ");
+        say_command(file, &[], faulty, texts, hint);
+        hint.end("");
     }
 }
 

@@ -133,8 +133,17 @@ fn tell_unknown(
     } else if !names.is_empty() && !channel.is_empty() {
         hint.say("; to take it as one, give --channel ");
         say_channel(channel, name, bus, names, hint);
+        say_ignored(channel, hint);
     }
     hint.end("");
+}
+
+/// Says the option that passes over the words of a channel, if a shell takes its text.
+fn say_ignored(channel: &str, hint: &HintText) {
+    if let Some(quote) = quotes_of(channel) {
+        hint.say_two("; to pass over its words, --ignore {}{}", quote, channel);
+        hint.say(quote);
+    }
 }
 
 /// Says the name that a channel may have: the nearest of these, or the only one.

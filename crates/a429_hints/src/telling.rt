@@ -8,6 +8,7 @@ use crate::files::{REFUSED_OUTPUT, UTF_16, tell_trouble};
 use crate::findings::{tell_changes, tell_findings};
 use crate::hint::HintText;
 use crate::imports::{tell_millis_group, tell_notes, tell_rows, tell_short_intervals};
+use crate::keeping::{tell_kept, tell_moved, tell_plan_line};
 use crate::logs::{tell_close_words, tell_log_line, tell_too_long};
 use crate::mistakes::{tell_habits, tell_nearest_word};
 use crate::plans::{tell_all_unfit, tell_fewer_buses, tell_groups, tell_half_period};
@@ -112,17 +113,18 @@ fn tell_found(asked: &Asked, found: &Sheet, hint: &HintText) {
 fn tell_warning(asked: &Asked, warning: &Warning, hint: &HintText) {
     hint.turn_to(match warning {
         Warning::Further(fault) => nth(&asked.more, fault.number),
+        Warning::Kept(_) | Warning::Moved(_) => asked.text(OptionName::Keep).unwrap_or(""),
         _ => text_name(asked),
     });
     let maps = asked.texts(OptionName::Map);
     match warning {
         Warning::Further(fault) => tell_further_fault(asked, fault, hint),
-        Warning::CloseWords(receiver) => {
-            tell_close_words(receiver.as_str(), asked.unit(), hint);
-        }
+        Warning::CloseWords(name) => tell_close_words(name.as_str(), asked.unit(), hint),
         Warning::ShortIntervals(group) => tell_short_intervals(group.as_str(), maps, hint),
         Warning::MillisGroup(group) => tell_millis_group(group.as_str(), maps, hint),
         Warning::Notes(count) => tell_notes(*count, hint),
+        Warning::Kept(counts) => tell_kept(*counts, hint),
+        Warning::Moved(output) => tell_moved(output, hint),
     }
 }
 
@@ -176,6 +178,11 @@ fn tell_refusal(asked: &Asked, refused: &Refused, hint: &HintText) {
 fn tell_plain(asked: &Asked, refusal: &CommandRefusal, hint: &HintText) {
     match refusal {
         CommandRefusal::TooMuch => tell_of_length(asked, hint),
+        CommandRefusal::PlanLine { line, kind } => {
+            hint.turn_to(asked.text(OptionName::Keep).unwrap_or(""));
+            hint.turn_to_line(*line);
+            tell_plan_line(*kind, hint);
+        }
         CommandRefusal::Apart => {
             hint.turn_to(asked.third);
             tell_apart(asked.second, hint);
@@ -224,13 +231,7 @@ fn tell_of_log(asked: &Asked, line: &LineEvidence, log: &LogEvidence, hint: &Hin
 /// Says what is wrong with rows of comma-separated values.
 fn tell_of_rows(asked: &Asked, refusal: &CommandRefusal, rows: &RowsEvidence, hint: &HintText) {
     hint.turn_to(text_name(asked));
-    tell_rows(
-        refusal,
-        asked.texts(OptionName::Map),
-        asked.has(OptionName::Names),
-        rows,
-        hint,
-    );
+    tell_rows(asked, refusal, rows, hint);
 }
 
 /// Says that a log is too long, or that an image is too high.

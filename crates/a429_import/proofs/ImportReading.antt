@@ -1,6 +1,6 @@
 -- What is known of lines, after one more line.
 use Rattle.std.proofs.Common.{◌≡◌, ◌∙◌, ◌+◌, ◌-◌, ℕ, List, [], ◌∷◌, ◌++◌, Option, None, Some, option_map, Result, Ok, Err, Bool, true, false, ap, append-nil, arith, length, refl, subst, sym}
-use Rattle.std.specs.Prelude.{filter, is_some, vec_len}
+use Rattle.std.specs.Prelude.{OnOk, filter, is_some, unwrap_or, vec_len}
 use Rattle.std.specs.Result.{result_err}
 use Rattle.csv.specs.Records.{fields_of}
 use Rattle.a429_import.specs.declared.columns.Heading.{Heading}
@@ -17,6 +17,7 @@ use Rattle.a429_import.specs.declared.rows.ImportRow.{ImportRow}
 use Rattle.a429_import.specs.ImportReading.{AreBelow, AreRead, AreTaken, HasNoRow, HasRows, HaveFault, HaveRows, IsHeadingOf, IsHeld, IsReadRow}
 use Rattle.a429_import.specs.ImportRows.{CsvFault, note_count, rows_after, rows_stated, unless_wrong, without_notes, wrong_column}
 use Rattle.a429_import.specs.Imports.{IsImportOf, States, has_text}
+use Rattle.a429_import.specs.KeptFields.{KeepsTexts, kept_of, lines_kept}
 use Rattle.a429_import.proofs.ImportNotes.{still_refused}
 
 -- a result that succeeds
@@ -62,26 +63,27 @@ none_below heading read notes empty none =
     }
 
 heading_by : (new : LinesRead) (heading : Heading) (wrong : Option ImportColumn) → wrong_column (fields_of heading.line.fields) ≡ wrong → new.heading ≡ Some heading → HasRows new.rows []
-    → HasNoRow new.notes → AreRead (fault_of heading.line.number wrong) new (heading.line ∷ [])
+    → HasNoRow new.notes → KeepsTexts new.kept (fields_of heading.line.fields) [] → AreRead (fault_of heading.line.number wrong) new (heading.line ∷ [])
 unfolding rows_stated
-heading_by new heading None is headed empty none =
+heading_by new heading None is headed empty none kept =
     let P : Option Heading → Type 0 = λ o. HaveRows o new (heading.line ∷ []) in
-    subst P (sym headed) ([], refl, record { named = is; are = none_below (fields_of heading.line.fields) new.rows new.notes empty none })
-heading_by new heading (Some column) is headed empty none = ap (unless_wrong heading.line []) is
+    subst P (sym headed) ([], refl, record { named = is; are = none_below (fields_of heading.line.fields) new.rows new.notes empty none; kept = kept })
+heading_by new heading (Some column) is headed empty none kept = ap (unless_wrong heading.line []) is
 
 heading_only : (old new : LinesRead) (heading : Heading) (lines : List CsvLine) (fault : Option ImportFault) → HaveRows None old lines → new.heading ≡ Some heading → new.rows ≡ old.rows
-    → new.notes ≡ old.notes → fault ≡ fault_of heading.line.number (wrong_column (fields_of heading.line.fields)) → AreRead fault new (lines ++ heading.line ∷ [])
-heading_only old new heading lines fault known headed rows notes is =
+    → new.notes ≡ old.notes → new.kept ≡ old.kept → fault ≡ fault_of heading.line.number (wrong_column (fields_of heading.line.fields)) → AreRead fault new (lines ++ heading.line ∷ [])
+heading_only old new heading lines fault known headed rows notes keeps is =
     let empty : HasRows new.rows [] = subst (λ r. HasRows r []) (sym rows) known.1 in
     let none : HasNoRow new.notes = subst HasNoRow (sym notes) known.2 in
+    let kept : KeepsTexts new.kept (fields_of heading.line.fields) [] = subst (λ k. KeepsTexts k (fields_of heading.line.fields) []) (sym keeps) (known.3 (fields_of heading.line.fields)) in
     let P : Option ImportFault → Type 0 = λ f. AreRead f new (heading.line ∷ []) in
-    subst (λ ls. AreRead fault new (ls ++ heading.line ∷ [])) (sym known.0) (subst P (sym is) (heading_by new heading (wrong_column (fields_of heading.line.fields)) refl headed empty none))
+    subst (λ ls. AreRead fault new (ls ++ heading.line ∷ [])) (sym known.0) (subst P (sym is) (heading_by new heading (wrong_column (fields_of heading.line.fields)) refl headed empty none kept))
 
 pub heading_read : (old new : LinesRead) (heading : Heading) (line : CsvLine) (lines : List CsvLine) (fault : Option ImportFault) → HaveRows None old lines → new.heading ≡ Some heading → heading.line ≡ line
-    → new.rows ≡ old.rows → new.notes ≡ old.notes → fault ≡ fault_of line.number (wrong_column (fields_of line.fields)) → AreRead fault new (lines ++ line ∷ [])
-heading_read old new heading line lines fault known headed of rows notes is =
+    → new.rows ≡ old.rows → new.notes ≡ old.notes → new.kept ≡ old.kept → fault ≡ fault_of line.number (wrong_column (fields_of line.fields)) → AreRead fault new (lines ++ line ∷ [])
+heading_read old new heading line lines fault known headed of rows notes kept is =
     subst (λ (l : CsvLine). AreRead fault new (lines ++ l ∷ [])) of
-    (heading_only old new heading lines fault known headed rows notes (is ∙ ap (λ (l : CsvLine). fault_of l.number (wrong_column (fields_of l.fields))) (sym of)))
+    (heading_only old new heading lines fault known headed rows notes kept (is ∙ ap (λ (l : CsvLine). fault_of l.number (wrong_column (fields_of l.fields))) (sym of)))
 
 -- ---- a row
 
@@ -95,11 +97,12 @@ below_refused heading below (Table f) named h = absurd h
 
 -- one more line, which may have a fault
 pub line_read : (heading : Heading) (old new : LinesRead) (line : CsvLine) (lines : List CsvLine) (result : Result (Unit {0}) ImportFault) (known : HaveRows (Some heading) old lines) → new.heading ≡ Some heading
-    → AreTaken result (fields_of heading.line.fields) (known.0 ++ line ∷ []) new.rows new.notes → AreRead (result_err result) new (lines ++ line ∷ [])
-line_read heading old new line lines (Ok u) known headed are =
+    → AreTaken result (fields_of heading.line.fields) (known.0 ++ line ∷ []) new.rows new.notes → OnOk result (KeepsTexts new.kept (fields_of heading.line.fields) (known.0 ++ line ∷ []))
+    → AreRead (result_err result) new (lines ++ line ∷ [])
+line_read heading old new line lines (Ok u) known headed are kept =
     let P : Option Heading → Type 0 = λ o. HaveRows o new (heading.line ∷ known.0 ++ line ∷ []) in
-    subst (λ ls. AreRead None new (ls ++ line ∷ [])) (sym known.1) (subst P (sym headed) (known.0 ++ line ∷ [], refl, record { named = known.2.named; are = are }))
-line_read heading old new line lines (Err e) known headed is =
+    subst (λ ls. AreRead None new (ls ++ line ∷ [])) (sym known.1) (subst P (sym headed) (known.0 ++ line ∷ [], refl, record { named = known.2.named; are = are; kept = kept }))
+line_read heading old new line lines (Err e) known headed is kept =
     subst (λ ls. HaveFault e (ls ++ line ∷ [])) (sym known.1) (below_refused heading.line (known.0 ++ line ∷ []) e known.2.named is)
 
 -- lines after one with a fault
@@ -145,10 +148,14 @@ notes_read heading read lines known =
     let gap : vec_len read.notes.rows ≡ length known.0 - length (without_notes (fields_of heading.line.fields) known.0) = omega (arith, count) in
     gap ∙ sym (ap note_count known.1)
 
+-- the lines of sources are those of the rows
+pub kept_read : (heading : Heading) (read : LinesRead) (lines : List CsvLine) (known : HaveRows (Some heading) read lines) (source : List ℕ) → lines_kept read.kept source ≡ kept_of lines source
+kept_read heading read lines known source = ap (λ o. unwrap_or o []) (known.2.kept.texts source) ∙ ap (λ (ls : List CsvLine). kept_of ls source) (sym known.1)
+
 -- the fault makes no difference
 pub other_fault : (heading : Option Heading) (read : LinesRead) (fault : Option ImportFault) (lines : List CsvLine) → HaveRows heading read lines → HaveRows heading (record read { fault = fault }) lines
 other_fault None read fault lines known = known
-other_fault (Some heading) read fault lines known = (known.0, known.1, record { named = known.2.named; are = known.2.are })
+other_fault (Some heading) read fault lines known = (known.0, known.1, record { named = known.2.named; are = known.2.are; kept = known.2.kept })
 
 -- ---- rows of empty fields
 

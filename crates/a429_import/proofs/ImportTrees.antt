@@ -128,17 +128,17 @@ trees_are Sources rows = ap (map source_tree) (sym (filter_all (firsts Sources r
 trees_are Groups rows = refl
 
 -- one more row, whose table is added if it passes
-pub picked_more : (p : ImportRow → Bool) (f : ImportRow → Data) (rows : List ImportRow) (k : ℕ) (row : ImportRow) (old new whole : List Data) → slice_get rows k ≡ Some row
+pub picked_more : {X Y : Type 0} (p : X → Bool) (f : X → Y) (rows : List X) (k : ℕ) (row : X) (old new whole : List Y) → slice_get rows k ≡ Some row
     → old ++ map f (filter p (drop k rows)) ≡ whole → new ≡ old ++ map f (filter p (row ∷ [])) → new ++ map f (filter p (drop (k + 1) rows)) ≡ whole
-picked_more p f rows k row old new whole there so now =
-    let first : List Data = map f (filter p (row ∷ [])) in
-    let others : List Data = map f (filter p (drop (k + 1) rows)) in
+picked_more {X} {Y} p f rows k row old new whole there so now =
+    let first : List Y = map f (filter p (row ∷ [])) in
+    let others : List Y = map f (filter p (drop (k + 1) rows)) in
     let left : map f (filter p (drop k rows)) ≡ first ++ others =
-    ap (λ (rs : List ImportRow). map f (filter p rs)) (drop_at rows k row there)
+    ap (λ (rs : List X). map f (filter p rs)) (drop_at rows k row there)
     ∙ ap (map f) (filter-append p (row ∷ []) (drop (k + 1) rows))
     ∙ map-append f (filter p (row ∷ [])) (filter p (drop (k + 1) rows)) in
-    ap (λ (ds : List Data). ds ++ others) now ∙ append_assoc old first others ∙ ap (λ (ds : List Data). old ++ ds) (sym left) ∙ so
+    ap (λ (ds : List Y). ds ++ others) now ∙ append_assoc old first others ∙ ap (λ (ds : List Y). old ++ ds) (sym left) ∙ so
 
 -- no row is left
-pub picked_all : (p : ImportRow → Bool) (f : ImportRow → Data) (rows : List ImportRow) (k : ℕ) (old whole : List Data) → length rows ≤ k → old ++ map f (filter p (drop k rows)) ≡ whole → old ≡ whole
-picked_all p f rows k old whole past so = sym (append-nil old) ∙ ap (λ (rs : List ImportRow). old ++ map f (filter p rs)) (sym (drop_all k rows past)) ∙ so
+pub picked_all : {X Y : Type 0} (p : X → Bool) (f : X → Y) (rows : List X) (k : ℕ) (old whole : List Y) → length rows ≤ k → old ++ map f (filter p (drop k rows)) ≡ whole → old ≡ whole
+picked_all {X} {Y} p f rows k old whole past so = sym (append-nil old) ∙ ap (λ (rs : List X). old ++ map f (filter p rs)) (sym (drop_all k rows past)) ∙ so

@@ -1,5 +1,5 @@
 -- What is imported from lines.
-use Rattle.std.proofs.Common.{◌≡◌, ◌∙◌, ℕ, Bool, true, false, List, [], ◌∷◌, Option, None, Some, Result, Ok, Err, ap, ap₂, refl, subst, sym}
+use Rattle.std.proofs.Common.{◌≡◌, ◌∙◌, ℕ, Bool, true, false, List, [], ◌∷◌, Option, None, Some, Result, Ok, Err, ◌++◌, ap, ap₂, codes, cond, map, refl, subst, sym}
 use Rattle.std.specs.Prelude.{◌||◌}
 use Rattle.std.specs.Str.{IsUtf8}
 use Rattle.csv.specs.Records.{fields_of}
@@ -20,7 +20,10 @@ use Rattle.a429_import.specs.declared.fault.ImportColumn.{ImportColumn}
 use Rattle.a429_import.specs.declared.fault.ImportFault.{ImportFault}
 use Rattle.a429_import.specs.declared.fault.ImportFault.TheVariants.{NoMemory, Csv, Wide, Table}
 use Rattle.a429_import.specs.declared.filled_reading.SheetRead.{SheetRead}
+use Rattle.a429_import.specs.declared.firsts.Part.{Part}
+use Rattle.a429_import.specs.declared.firsts.Part.TheVariants.{Receivers, Sources, Groups}
 use Rattle.a429_import.specs.declared.import.Imported.{Imported}
+use Rattle.a429_import.specs.declared.import.MadeTable.{MadeTable}
 use Rattle.a429_import.specs.declared.import.ImportOptions.{ImportOptions}
 use Rattle.a429_import.specs.declared.lines.CsvLine.{CsvLine}
 use Rattle.a429_import.specs.declared.reading.LinesRead.{LinesRead}
@@ -31,8 +34,11 @@ use Rattle.a429_import.specs.ImportFaults.{of_table}
 use Rattle.a429_import.specs.ImportForms.{from_heading, separator_in}
 use Rattle.a429_import.specs.ImportQuotes.{has_wrong_quotes}
 use Rattle.a429_import.specs.ImportRows.{note_count, rows_stated}
-use Rattle.a429_import.specs.ImportTables.{record_stated, root_members}
-use Rattle.a429_import.specs.Imports.{AreNamedLines, IsFilledImport, IsImport, IsImportBy, IsImportFrom, IsImportIf, IsImportOf, IsTableBy, IsTableOf, IsTextFault, has_row_above, has_wide_rows, table_made, is_misquoted_text, is_wide_text, separated}
+use Rattle.a429_import.specs.ImportTables.{part_tree, record_stated, root_members}
+use Rattle.a429_import.specs.KeptFields.{kept_comments, kept_of}
+use Rattle.a429_import.specs.PrintedTables.{PrintsTables}
+use Rattle.a429_import.specs.TableTexts.{IsTableText, before_at, column_comments, made_comment, piece_of, pieces, row_before}
+use Rattle.a429_import.specs.Imports.{AreNamedLines, IsFilledImport, IsImport, IsImportBy, IsImportFrom, IsImportIf, IsImportOf, IsTableBy, IsTableOf, IsTextFault, has_row_above, has_wide_rows, rows_by, table_made, is_misquoted_text, is_wide_text, separated}
 use Rattle.a429_import.specs.ImportReading.{HaveFault, StandsFor}
 use Rattle.a429_import.specs.NumberRanges.{HaveRanges}
 use Rattle.a429_import.specs.RenamedReading.{IsReadBy}
@@ -69,24 +75,65 @@ module _ (rows : List ImportRow) (ranges : HaveRanges rows) (bytes : List ℕ) (
   first_read : (f : FaultKind × TablePlace) → reading bytes ≡ Err f → first (faults (table (root_members rows))) ≡ Some f
   first_read f read = let root = table (root_members rows) in judged_first root (faults root) f (sym (reading_is bytes root there) ∙ read)
 
-  refused : (f : TableFault) → GivesUnlessMemory (λ (t : TableRecord). t) bytes (Err f) (reading bytes) → IsTableOf rows (Err (of_table f))
-  refused fault.NoMemory h = tt
-  refused (fault.At kind place) h = first_read (kind, place) h
+  refused : (kept : List ℕ → List ℕ) (before : Option (List ImportRow)) (f : TableFault) → GivesUnlessMemory (λ (t : TableRecord). t) bytes (Err f) (reading bytes) → IsTableOf kept before rows (Err (of_table f))
+  refused kept before fault.NoMemory h = tt
+  refused kept before (fault.At kind place) h = first_read (kind, place) h
 
   -- a table that is refused
-  pub table_refused : (f : TableFault) (e : ImportFault) → GivesUnlessMemory (λ (t : TableRecord). t) bytes (Err f) (reading bytes) → e ≡ of_table f → IsTableOf rows (Err e)
-  table_refused f e h is = subst (λ (x : ImportFault). IsTableOf rows (Err x)) (sym is) (refused f h)
+  pub table_refused : (kept : List ℕ → List ℕ) (before : Option (List ImportRow)) (f : TableFault) (e : ImportFault) → GivesUnlessMemory (λ (t : TableRecord). t) bytes (Err f) (reading bytes) → e ≡ of_table f → IsTableOf kept before rows (Err e)
+  table_refused kept before f e h is = subst (λ (x : ImportFault). IsTableOf kept before rows (Err x)) (sym is) (refused kept before f h)
+
+-- ---- with the same lines of sources
+
+map_same : {X Y : Type 0} (f g : X → Y) → ((x : X) → f x ≡ g x) → (xs : List X) → map f xs ≡ map g xs
+map_same f g same [] = refl
+map_same f g same (x ∷ xs) = ap₂ (λ y ys. y ∷ ys) (same x) (map_same f g same xs)
+
+module _ (kept other : List ℕ → List ℕ) (same : (source : List ℕ) → kept source ≡ other source) where
+  columns_same : (part : Part) (before : Option ImportRow) (row : ImportRow) → column_comments kept part before row ≡ column_comments other part before row
+  columns_same Receivers before row = refl
+  columns_same Sources before row = ap (kept_comments row.texts.source) (same (row_before before row).texts.source)
+  columns_same Groups before row = refl
+
+  pieces_same : (before : Option (List ImportRow)) (part : Part) (rows : List ImportRow) → pieces kept before part rows ≡ pieces other before part rows
+  pieces_same before part rows =
+      map_same (piece_of kept before part rows) (piece_of other before part rows)
+      (λ p. ap (λ (more : List ℕ). (10 ∷ (made_comment part (before_at before part p.0) p.1 ++ more), part_tree part rows p.1)) (columns_same part (before_at before part p.0) p.1)) _
+
+  text_same : (before : Option (List ImportRow)) (rows : List ImportRow) (text : List ℕ) → IsTableText kept before rows text → IsTableText other before rows text
+  text_same before rows text is = record {
+    head = is.head;
+    groups = is.groups;
+    receivers = is.receivers;
+    sources = is.sources;
+    whole = is.whole;
+    pairs = is.pairs;
+    groups_are = subst (λ ps. PrintsTables (codes "group") ps is.groups) (pieces_same before Groups rows) is.groups_are;
+    receivers_are = subst (λ ps. PrintsTables (codes "receiver") ps is.receivers) (pieces_same before Receivers rows) is.receivers_are;
+    sources_are = subst (λ ps. PrintsTables (codes "source") ps is.sources) (pieces_same before Sources rows) is.sources_are;
+  }
+
+  table_same : (before : Option (List ImportRow)) (rows : List ImportRow) (result : Result MadeTable ImportFault) → IsTableOf kept before rows result → IsTableOf other before rows result
+  table_same before rows (Ok made) h = (h.0, h.1, text_same before rows made.text.items h.2)
+  table_same before rows (Err NoMemory) h = tt
+  table_same before rows (Err (Csv line kind column)) h = absurd h
+  table_same before rows (Err (Wide line)) h = absurd h
+  table_same before rows (Err (Table fault.NoMemory)) h = absurd h
+  table_same before rows (Err (Table (fault.At kind place))) h = h
+
+  pub table_by_same : (makes_names : Bool) (rows : List ImportRow) (result : Result MadeTable ImportFault) → IsTableBy kept makes_names rows result → IsTableBy other makes_names rows result
+  table_by_same makes_names rows result h = table_same (cond makes_names (Some rows) None) (rows_by makes_names rows) result h
 
 -- ---- of lines
 
 -- the table of the rows that lines state
 pub table_import : (makes_names : Bool) (lines : List CsvLine) (rows : List ImportRow) (imported : Imported) → rows_stated lines ≡ Ok rows → imported.notes ≡ note_count lines
-    → IsTableBy makes_names rows (Ok (table_made imported)) → IsImportFrom makes_names lines (Ok imported)
-table_import false lines rows imported are count h = (rows, are, h.0, count, h.1)
+    → IsTableBy (kept_of lines) makes_names rows (Ok (table_made imported)) → IsImportFrom makes_names lines (Ok imported)
+table_import false lines rows imported are count h = (rows, are, h.0, count, h.1, h.2)
 table_import true lines rows imported are count h = (rows, are, h, count)
 
 -- the fault of that table
-pub table_fault : (makes_names : Bool) (lines : List CsvLine) (rows : List ImportRow) (e : ImportFault) → rows_stated lines ≡ Ok rows → IsTableBy makes_names rows (Err e) → IsImportFrom makes_names lines (Err e)
+pub table_fault : (makes_names : Bool) (lines : List CsvLine) (rows : List ImportRow) (e : ImportFault) → rows_stated lines ≡ Ok rows → IsTableBy (kept_of lines) makes_names rows (Err e) → IsImportFrom makes_names lines (Err e)
 table_fault false lines rows NoMemory are h = tt
 table_fault false lines rows (Csv line kind column) are h = absurd h
 table_fault false lines rows (Wide line) are h = absurd h

@@ -35,3 +35,6 @@ pub mod ChosenNames
 mod NamesApart
 pub mod RenamedReading
 pub mod PrintedTables
+mod KeptFields
+mod SkippedTexts
+mod RowsBefore

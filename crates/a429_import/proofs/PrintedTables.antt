@@ -1,12 +1,12 @@
 -- A text that is printed piece by piece, with comments between the pieces, reads back as the tables that it has.
-use Rattle.std.proofs.Common.{codes, ◌≡◌, ℕ, suc, ◌+◌, ◌-◌, ◌<◌, ◌≤◌, Bool, true, false, ◌==◌, cond, List, [], ◌∷◌, ◌++◌, length, map, Option, Some, None, option_and_then, refl, sym, ap, ◌∙◌, inl, inr, arith, append_assoc, append-nil, length-append, subst}
-use Rattle.std.specs.List.{list_all}
-use Rattle.std.specs.Prelude.{Result, Ok, Err, OnOk, is_ok, filter}
+use Rattle.std.proofs.Common.{codes, ◌≡◌, ℕ, zero, suc, ◌+◌, ◌-◌, ◌<◌, ◌≤◌, Bool, true, false, ◌==◌, List, [], ◌∷◌, ◌++◌, length, map, Option, Some, None, option_and_then, refl, sym, ap, ◌∙◌, inl, inr, arith, append_assoc, append-nil, length-append, subst}
+use Rattle.std.specs.List.{enumerate_from}
+use Rattle.std.specs.Prelude.{filter, slice_get}
 use Rattle.std.proofs.lemmas.List.{length-map}
 use Rattle.std.proofs.lemmas.Bool.{cases_Bool, and_parts}
 use Rattle.std.proofs.lemmas.Bool.Decides.{nat_tests}
 use Rattle.std.proofs.lemmas.Option.{none-some, same_Some}
-use Rattle.toml_parser.specs.Lexical.{first, is_non_eol, skip_blank, skip_from, skip_turn}
+use Rattle.toml_parser.specs.Lexical.{first, skip_blank}
 use Rattle.toml_parser.proofs.LexicalLemmas.{skip_from-nil}
 use Rattle.toml.specs.Data.{Data, string, integer, float, boolean, datetime, table, array, Items, item, no_items, Members, member, no_members, is_before, depth, items_depth, members_depth, has_valid_dates, items_have_valid_dates, members_have_valid_dates, is_sorted, items_are_sorted, members_are_sorted}
 use Rattle.toml.specs.View.{items_of}
@@ -21,12 +21,13 @@ use Rattle.toml.proofs.Filled.{fill_filled}
 use Rattle.a429_import.specs.declared.firsts.Part.{Part}
 use Rattle.a429_import.specs.declared.firsts.Part.TheVariants.{Receivers, Sources, Groups}
 use Rattle.a429_import.specs.declared.rows.ImportRow.{ImportRow}
-use Rattle.a429_import.specs.ImportTables.{firsts, group_tree, groups_of, listed, name_in, number, output_tree, part_tree, part_trees, receiver_tree, root_members, rows_of_group, sdi_data, source_tree, with_filters, with_hold, words}
+use Rattle.a429_import.specs.ImportTables.{firsts, group_tree, groups_of, is_stated, listed, name_in, number, output_tree, part_tree, part_trees, receiver_tree, root_members, rows_of_group, sdi_data, source_tree, with_filters, with_hold, words}
 use Rattle.a429_import.specs.declared.known.Known.{Known}
 use Rattle.a429_import.specs.Known.{Knows}
 use Rattle.a429_import.specs.Names.{names_of}
-use Rattle.a429_import.specs.PrintedTables.{IsSkipped, IsWithSkipped, IsWithTables, PrintsTables, alone, head_members, with_empty}
-use Rattle.a429_import.proofs.ImportTrees.{group_depth, output_depth, receiver_depth, source_depth}
+use Rattle.a429_import.specs.PrintedTables.{IsSkipped, IsWithTables, PrintsTables, alone, head_members, with_empty}
+use Rattle.a429_import.specs.TableTexts.{IsTableText, is_placed, piece_of, pieces}
+use Rattle.a429_import.proofs.ImportTrees.{group_depth, output_depth, receiver_depth, source_depth, trees_are}
 
 -- ---- tables that TOML can print
 
@@ -246,15 +247,24 @@ one_more key ms ds = simp (append_assoc, append-nil) refl
 one_table : (key : List ℕ) (d : Data) (ds : List Data) → IsFit d → tables_of key (d ∷ ds) ≡ expressions (alone key d) ++ tables_of key ds
 one_table key d ds fit = subst (λ x. tables_of key (x ∷ ds) ≡ expressions (alone key x) ++ tables_of key ds) (sym fit.is) (one_more key fit.members ds)
 
-runs_tables : (key : List ℕ) (ds : List Data) (text : List ℕ) → AreFit ds → PrintsTables key ds text → Runs (tables_of key ds) text
+abbrev tables_in : List (List ℕ × Data) → List Data
+tables_in ps = map (λ p. p.1) ps
+
+runs_tables : (key : List ℕ) (ps : List (List ℕ × Data)) (text : List ℕ) → AreFit (tables_in ps) → PrintsTables key ps text → Runs (tables_of key (tables_in ps)) text
 runs_tables key [] text fit h = subst (Runs []) (sym h) (runs_skipped [] (λ rest. refl))
-runs_tables key (d ∷ ds) text (here, more) (above, piece, rest, whole, skipped, printed, left) =
+runs_tables key ((above, d) ∷ ps) text (here, more) (piece, rest, whole, skipped, printed, left) =
+    let ds : List Data = tables_in ps in
     let deep : members_depth (alone key d) ≤ 80 = let shallow = here.deep in omega arith in
     let valid : members_have_valid_dates (alone key d) ≡ true = rw here.valid refl in
     let piece_runs = runs_lines false (expressions (alone key d)) piece printed (document_printed (alone key d) deep valid) in
-    let both = runs_append (expressions (alone key d)) (tables_of key ds) piece rest piece_runs (runs_tables key ds rest more left) in
+    let both = runs_append (expressions (alone key d)) (tables_of key ds) piece rest piece_runs (runs_tables key ps rest more left) in
     let all = runs_append [] (expressions (alone key d) ++ tables_of key ds) above (piece ++ rest) (runs_skipped above skipped) both in
     subst (λ es. Runs es text) (sym (one_table key d ds here)) (subst (Runs (expressions (alone key d) ++ tables_of key ds)) (sym whole) all)
+
+-- the same for the tables of rows
+runs_pieces : (part : Part) (rows : List ImportRow) (ps : List (List ℕ × Data)) (key text : List ℕ) → tables_in ps ≡ part_trees part rows → PrintsTables key ps text → Runs (tables_of key (part_trees part rows)) text
+runs_pieces part rows ps key text same h =
+    subst (λ (ds : List Data). Runs (tables_of key ds) text) same (runs_tables key ps text (subst AreFit (sym same) (trees_fit part rows)) h)
 
 -- ---- the pairs above the tables
 
@@ -335,11 +345,36 @@ root_expressions rows =
     ∙ sections_without (codes "receiver") rs (with_empty (codes "source") ss version) ∙ sections_without (codes "source") ss version in
     rw (g_pairs, g_below, none, append-nil (pairs (head_members rows))) refl
 
+-- ---- the tables of pieces
+
+numbered_trees : (kept : List ℕ → List ℕ) (before : Option (List ImportRow)) (part : Part) (rows : List ImportRow) (n : ℕ) (xs : List ImportRow)
+    → tables_in (map (piece_of kept before part rows) (filter (is_placed part) (enumerate_from n xs))) ≡ map (part_tree part rows) (filter (is_stated part) xs)
+numbered_trees kept before part rows n [] = refl
+numbered_trees kept before part rows n (x ∷ xs) = elim (cases_Bool (is_stated part x)) [
+  | inl stated ↦ rw stated (ap (λ (ds : List Data). part_tree part rows x ∷ ds) (numbered_trees kept before part rows (n + 1) xs))
+  | inr other ↦ rw other (numbered_trees kept before part rows (n + 1) xs)
+]
+
+pub pieces_trees : (kept : List ℕ → List ℕ) (before : Option (List ImportRow)) (part : Part) (rows : List ImportRow) → tables_in (pieces kept before part rows) ≡ part_trees part rows
+pieces_trees kept before part rows = numbered_trees kept before part rows 0 (firsts part rows) ∙ sym (trees_are part rows)
+
+pub numbered_at : (rows : List ImportRow) (place : ℕ) (row : ImportRow) → slice_get rows place ≡ Some row → slice_get (enumerate_from 0 rows) place ≡ Some (place, row)
+numbered_at rows place row there = from 0 rows place there ∙ ap (λ (k : ℕ). Some (k, row)) (omega arith)
+  where
+    from : (n : ℕ) (xs : List ImportRow) (i : ℕ) → slice_get xs i ≡ Some row → slice_get (enumerate_from n xs) i ≡ Some (n + i, row)
+    from n [] i there = absurd (none-some row there)
+    from n (x ∷ xs) zero there = ap (λ (r : ImportRow). Some (n, r)) (same_Some x row there) ∙ ap (λ (k : ℕ). Some (k, row)) (omega arith)
+    from n (x ∷ xs) (suc i) there = from (n + 1) xs i there ∙ ap (λ (k : ℕ). Some (k, row)) (omega arith)
+
 -- the pieces that are printed read back as the tables of rows
-pub pieces_read : (rows : List ImportRow) (text head groups receivers sources : List ℕ) → text ≡ head ++ (groups ++ (receivers ++ sources)) → IsDocumentText false (head_members rows) head
-    → PrintsTables (codes "group") (part_trees Groups rows) groups → PrintsTables (codes "receiver") (part_trees Receivers rows) receivers → PrintsTables (codes "source") (part_trees Sources rows) sources
-    → parse_document text ≡ Some (root_members rows)
-pieces_read rows text head groups receivers sources whole printed g r s =
+pub pieces_read : (kept : List ℕ → List ℕ) (before : Option (List ImportRow)) (rows : List ImportRow) (text : List ℕ) → IsTableText kept before rows text → parse_document text ≡ Some (root_members rows)
+pieces_read kept before rows text is =
+    let head : List ℕ = is.head in
+    let groups : List ℕ = is.groups in
+    let receivers : List ℕ = is.receivers in
+    let sources : List ℕ = is.sources in
+    let printed = is.pairs in
+    let whole = is.whole in
     let gs : List Data = part_trees Groups rows in
     let rs : List Data = part_trees Receivers rows in
     let ss : List Data = part_trees Sources rows in
@@ -351,9 +386,9 @@ pieces_read rows text head groups receivers sources whole printed g r s =
     let pair = empty_pair (codes "group") gs with_receivers (empty_pair (codes "receiver") rs with_sources (empty_pair (codes "source") ss version (_, _, refl))) in
     let ok : AllPrinted (expressions (head_members rows)) = document_printed (head_members rows) (omega arith) valid in
     let head_runs = runs_lines false (expressions (head_members rows)) head printed ok in
-    let g_runs = runs_tables (codes "group") gs groups (trees_fit Groups rows) g in
-    let r_runs = runs_tables (codes "receiver") rs receivers (trees_fit Receivers rows) r in
-    let s_runs = runs_tables (codes "source") ss sources (trees_fit Sources rows) s in
+    let g_runs = runs_pieces Groups rows (pieces kept before Groups rows) (codes "group") groups (pieces_trees kept before Groups rows) is.groups_are in
+    let r_runs = runs_pieces Receivers rows (pieces kept before Receivers rows) (codes "receiver") receivers (pieces_trees kept before Receivers rows) is.receivers_are in
+    let s_runs = runs_pieces Sources rows (pieces kept before Sources rows) (codes "source") sources (pieces_trees kept before Sources rows) is.sources_are in
     let all = runs_append _ _ head (groups ++ (receivers ++ sources)) head_runs (runs_append _ _ groups (receivers ++ sources) g_runs (runs_append _ _ receivers sources r_runs s_runs)) in
     let runs : Runs (expressions (root_members rows)) (head ++ (groups ++ (receivers ++ sources))) = subst (λ es. Runs es (head ++ (groups ++ (receivers ++ sources)))) (sym (root_expressions rows)) all in
     let no_mark = head_not_bom (head_members rows) head (groups ++ (receivers ++ sources)) pair printed ok in
@@ -361,23 +396,24 @@ pieces_read rows text head groups receivers sources whole printed g r s =
 
 -- ---- what is printed, table by table
 
-PrintsTables-append : (key : List ℕ) (ds es : List Data) (t u : List ℕ) → PrintsTables key ds t → PrintsTables key es u → PrintsTables key (ds ++ es) (t ++ u)
-PrintsTables-append key [] es t u a b = subst (λ x. PrintsTables key es (x ++ u)) (sym a) b
-PrintsTables-append key (d ∷ ds) es t u (above, piece, rest, whole, skipped, printed, left) b =
-    (above, piece, rest ++ u, ap (λ (x : List ℕ). x ++ u) whole ∙ append_assoc above (piece ++ rest) u ∙ ap (λ (x : List ℕ). above ++ x) (append_assoc piece rest u), skipped, printed, PrintsTables-append key ds es rest u left b)
+PrintsTables-append : (key : List ℕ) (ps qs : List (List ℕ × Data)) (t u : List ℕ) → PrintsTables key ps t → PrintsTables key qs u → PrintsTables key (ps ++ qs) (t ++ u)
+PrintsTables-append key [] qs t u a b = subst (λ x. PrintsTables key qs (x ++ u)) (sym a) b
+PrintsTables-append key ((above, d) ∷ ps) qs t u (piece, rest, whole, skipped, printed, left) b =
+    (piece, rest ++ u, ap (λ (x : List ℕ). x ++ u) whole ∙ append_assoc above (piece ++ rest) u ∙ ap (λ (x : List ℕ). above ++ x) (append_assoc piece rest u), skipped, printed, PrintsTables-append key ps qs rest u left b)
 
-pub with_more : (key : List ℕ) (ds es : List Data) (a b c : List ℕ) → IsWithTables a b key ds → IsWithTables b c key es → IsWithTables a c key (ds ++ es)
-with_more key ds es a b c (t, first_whole, first_printed) (u, whole, printed) =
-    (t ++ u, whole ∙ ap (λ (x : List ℕ). x ++ u) first_whole ∙ append_assoc a t u, PrintsTables-append key ds es t u first_printed printed)
+pub with_more : (key : List ℕ) (ps qs : List (List ℕ × Data)) (a b c : List ℕ) → IsWithTables a b key ps → IsWithTables b c key qs → IsWithTables a c key (ps ++ qs)
+with_more key ps qs a b c (t, first_whole, first_printed) (u, whole, printed) =
+    (t ++ u, whole ∙ ap (λ (x : List ℕ). x ++ u) first_whole ∙ append_assoc a t u, PrintsTables-append key ps qs t u first_printed printed)
 
 pub with_none : (key : List ℕ) (a : List ℕ) → IsWithTables a a key []
 with_none key a = ([], sym (append-nil a), refl)
 
-pub with_table : (key : List ℕ) (d : Data) (ms : Members) (old middle new : List ℕ) → IsWithSkipped old middle → (piece : List ℕ) → new ≡ middle ++ piece → IsDocumentText false ms piece → ms ≡ alone key d → IsWithTables old new key (d ∷ [])
-with_table key d ms old middle new (above, before, skipped) piece whole printed same = (
+pub with_table : (key : List ℕ) (d : Data) (ms : Members) (old middle new above : List ℕ) → middle ≡ old ++ above → IsSkipped above → (piece : List ℕ) → new ≡ middle ++ piece → IsDocumentText false ms piece → ms ≡ alone key d
+    → IsWithTables old new key ((above, d) ∷ [])
+with_table key d ms old middle new above before skipped piece whole printed same = (
   above ++ (piece ++ []),
   whole ∙ ap (λ (x : List ℕ). x ++ piece) before ∙ append_assoc old above piece ∙ ap (λ (x : List ℕ). old ++ (above ++ x)) (sym (append-nil piece)),
-  (above, piece, [], refl, skipped, subst (λ x. IsDocumentText false x piece) same printed, refl),
+  (piece, [], refl, skipped, subst (λ x. IsDocumentText false x piece) same printed, refl),
 )
 
 -- ---- the pairs above all tables
@@ -424,41 +460,11 @@ head_is rows known a b c d sources receivers groups knows first_is s_count r_cou
     empty_put (codes "group") gs groups c d with_receivers c_is
     (before_empty (codes "group") (codes "receiver") rs with_sources (before_empty (codes "group") (codes "source") ss version_alone refl refl) refl) g_all g
 
--- ---- comments
+pub with_stated : (key : List ℕ) (p : ℕ × ImportRow → Bool) (f : ℕ × ImportRow → List ℕ × Data) (x : ℕ × ImportRow) (old new : List ℕ) → p x ≡ true → IsWithTables old new key (f x ∷ []) → IsWithTables old new key (map f (filter p (x ∷ [])))
+with_stated key p f x old new stated h = rw stated h
 
-in_comment : (line rest : List ℕ) → list_all is_non_eol line ≡ true → skip_from true true (line ++ 10 ∷ rest) ≡ skip_blank rest
-unfolding skip_from
-in_comment [] rest all = refl
-in_comment (c ∷ cs) rest all =
-    let (here, more) = and_parts (is_non_eol c) (list_all is_non_eol cs) all in
-    let turn : skip_turn true true c (first (cs ++ 10 ∷ rest)) ≡ Some true = grind (arith, nat_tests) in
-    rw turn (in_comment cs rest more)
-
-comment_skipped : (line : List ℕ) → list_all is_non_eol line ≡ true → IsSkipped (codes "# " ++ (line ++ codes "\n"))
-unfolding skip_from
-comment_skipped line all rest = ap (λ (x : List ℕ). skip_from true true x) (append_assoc line (10 ∷ []) rest) ∙ in_comment line rest all
-
-pub with_comment : (line old a b new : List ℕ) → list_all is_non_eol line ≡ true → a ≡ old ++ codes "# " → b ≡ a ++ line → new ≡ b ++ codes "\n" → IsWithSkipped old new
-with_comment line old a b new all first_is then last =
-    (codes "# " ++ (line ++ codes "\n"), last ∙ ap (λ (x : List ℕ). x ++ codes "\n") (then ∙ ap (λ (x : List ℕ). x ++ line) first_is) ∙ simp append_assoc refl, comment_skipped line all)
-
-pub none_skipped : (old : List ℕ) → IsWithSkipped old old
-none_skipped old = ([], sym (append-nil old), λ rest. refl)
-
-pub below_empty_line : (old a new : List ℕ) → a ≡ old ++ codes "\n" → IsWithSkipped a new → IsWithSkipped old new
-below_empty_line old a new first_is (text, whole, skipped) =
-    (codes "\n" ++ text, whole ∙ ap (λ (x : List ℕ). x ++ text) first_is ∙ append_assoc old (codes "\n") text, λ rest. skip_newline (text ++ rest) ∙ skipped rest)
-
--- a text that is pushed last
-pub on_pushed : {T E : Type 0} (r : Result T E) (old new s : List ℕ) → new ≡ cond (is_ok r) (old ++ s) old → OnOk r (new ≡ old ++ s)
-on_pushed (Ok x) old new s h = h
-on_pushed (Err e) old new s h = tt
-
-pub with_stated : (key : List ℕ) (p : ImportRow → Bool) (f : ImportRow → Data) (row : ImportRow) (old new : List ℕ) → p row ≡ true → IsWithTables old new key (f row ∷ []) → IsWithTables old new key (map f (filter p (row ∷ [])))
-with_stated key p f row old new stated h = rw stated h
-
-pub with_unstated : (key : List ℕ) (p : ImportRow → Bool) (f : ImportRow → Data) (row : ImportRow) (old : List ℕ) → p row ≡ false → IsWithTables old old key (map f (filter p (row ∷ [])))
-with_unstated key p f row old none = rw none (with_none key old)
+pub with_unstated : (key : List ℕ) (p : ℕ × ImportRow → Bool) (f : ℕ × ImportRow → List ℕ × Data) (x : ℕ × ImportRow) (old : List ℕ) → p x ≡ false → IsWithTables old old key (map f (filter p (x ∷ [])))
+with_unstated key p f x old none = rw none (with_none key old)
 
 pub pieces_whole : (a b c d e head groups receivers sources : List ℕ) → a ≡ [] → b ≡ a ++ head → c ≡ b ++ groups → d ≡ c ++ receivers → e ≡ d ++ sources → e ≡ head ++ (groups ++ (receivers ++ sources))
 pieces_whole a b c d e head groups receivers sources none first_is then later last =

@@ -22,6 +22,7 @@ use Rattle.a429_import.specs.ImportMaps.{AreNamedBy}
 use Rattle.a429_import.specs.ImportRows.{◌>>=◌, CsvFault, has_label, next_row, rows_after, rows_stated, with_row, without_notes, wrong_column}
 use Rattle.a429_import.specs.Imports.{States, separated}
 use Rattle.a429_import.specs.ImportWords.{trimmed}
+use Rattle.a429_import.specs.KeptFields.{KeepsTexts}
 use Rattle.a429_import.specs.Known.{Knows, are_full}
 
 -- the library `csv` has read these lines of a text whose fields this separates; the lines have no blanks round fields
@@ -109,10 +110,11 @@ AreTaken (Err fault) heading below read notes = States {X = List ImportRow} (λ 
 pub record SayRows (heading : CsvLine) (below : List CsvLine) (read : LinesRead) : Type 0 where
   pub named : wrong_column (fields_of heading.fields) ≡ None
   pub are : AreBelow (fields_of heading.fields) below read.rows read.notes
+  pub kept : KeepsTexts read.kept (fields_of heading.fields) below
 
 -- nothing was read yet, or a heading and the lines below it
 abbrev pub HaveRows : Option Heading → LinesRead → List CsvLine → Type 0
-HaveRows None read lines = (lines ≡ []) × HasRows read.rows [] × HasNoRow read.notes
+HaveRows None read lines = (lines ≡ []) × HasRows read.rows [] × HasNoRow read.notes × ((heading : List (List ℕ)) → KeepsTexts read.kept heading [])
 HaveRows (Some heading) read lines = (below : List CsvLine) × (lines ≡ heading.line ∷ below) × SayRows heading.line below read
 
 abbrev pub AreRead : Option ImportFault → LinesRead → List CsvLine → Type 0

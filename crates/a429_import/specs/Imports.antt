@@ -27,7 +27,9 @@ use Rattle.a429_import.specs.ImportWords.{trimmed}
 use Rattle.a429_import.specs.ImportLimits.{limit_fault}
 use Rattle.a429_import.specs.FilledLines.{AreFilledBelow}
 use Rattle.a429_import.specs.KeyedLines.{AreKeyed}
+use Rattle.a429_import.specs.KeptFields.{kept_of}
 use Rattle.a429_import.specs.Renamed.{all_renamed}
+use Rattle.a429_import.specs.TableTexts.{IsTableText}
 
 -- the result is the one of the rows, unless an allocation failed; the fault of a table cannot come here
 abbrev pub States : {X Y : Type 0} → (X → Y) → Result X ImportFault → Result Y CsvFault → Type 0
@@ -91,11 +93,12 @@ has_row_above maps text = has_data_above (separated (separator_in maps text)) ma
 abbrev pub table_made : Imported → MadeTable
 table_made imported = record { text = imported.text; equipment = imported.equipment }
 
--- the import of lines: the text is read as the record of the rows, and the notes are counted; a table is refused for its first fault
+-- The import of lines: the text is read as the record of the rows, and has the comments of the columns that go along. The notes are counted. A table is
+-- refused for its first fault
 abbrev pub IsImportOf : List CsvLine → Result Imported ImportFault → Type 0
 IsImportOf lines (Ok imported) =
     (rows : List ImportRow) × (rows_stated lines ≡ Ok rows) × (reading imported.text.items ≡ Ok (record_stated rows)) × (imported.notes ≡ note_count lines)
-    × (imported.equipment ≡ record_stated rows)
+    × (imported.equipment ≡ record_stated rows) × IsTableText (kept_of lines) None rows imported.text.items
 IsImportOf lines (Err NoMemory) = Unit {0}
 IsImportOf lines (Err (Csv line kind column)) = rows_stated lines ≡ Err (line, kind, column)
 IsImportOf lines (Err (Wide line)) = ⊥
@@ -103,12 +106,12 @@ IsImportOf lines (Err (Table fault.NoMemory)) = ⊥
 IsImportOf lines (Err (Table (fault.At kind place))) =
     (rows : List ImportRow) × (rows_stated lines ≡ Ok rows) × (first (faults (table (root_members rows))) ≡ Some (kind, place))
 
--- a table is read as the record of rows; it is refused for its first fault
-abbrev pub IsTableOf : List ImportRow → Result MadeTable ImportFault → Type 0
-IsTableOf rows (Ok made) = (reading made.text.items ≡ Ok (record_stated rows)) × (made.equipment ≡ record_stated rows)
-IsTableOf rows (Err NoMemory) = Unit {0}
-IsTableOf rows (Err (Table (fault.At kind place))) = first (faults (table (root_members rows))) ≡ Some (kind, place)
-IsTableOf rows (Err _) = ⊥
+-- a table is read as the record of rows, with these lines of sources, and the rows before names were made; it is refused for its first fault
+abbrev pub IsTableOf : (List ℕ → List ℕ) → Option (List ImportRow) → List ImportRow → Result MadeTable ImportFault → Type 0
+IsTableOf kept before rows (Ok made) = (reading made.text.items ≡ Ok (record_stated rows)) × (made.equipment ≡ record_stated rows) × IsTableText kept before rows made.text.items
+IsTableOf kept before rows (Err NoMemory) = Unit {0}
+IsTableOf kept before rows (Err (Table (fault.At kind place))) = first (faults (table (root_members rows))) ≡ Some (kind, place)
+IsTableOf kept before rows (Err _) = ⊥
 
 -- rows with names; rows with a wrong bit rate, or with too much of something, stay: their table is refused
 abbrev pub rows_by : Bool → List ImportRow → List ImportRow
@@ -116,17 +119,17 @@ rows_by false rows = rows
 rows_by true rows = if is_some (limit_fault rows) then rows else all_renamed rows
 
 -- the table of rows, with names if the flag is set
-abbrev pub IsTableBy : Bool → List ImportRow → Result MadeTable ImportFault → Type 0
-IsTableBy makes_names rows result = IsTableOf (rows_by makes_names rows) result
+abbrev pub IsTableBy : (List ℕ → List ℕ) → Bool → List ImportRow → Result MadeTable ImportFault → Type 0
+IsTableBy kept makes_names rows result = IsTableOf kept (if makes_names then Some rows else None) (rows_by makes_names rows) result
 
 -- the same, of the rows that lines state
 abbrev pub IsNamedImport : List CsvLine → Result Imported ImportFault → Type 0
 IsNamedImport lines (Ok imported) =
-    (rows : List ImportRow) × (rows_stated lines ≡ Ok rows) × IsTableBy true rows (Ok (table_made imported)) × (imported.notes ≡ note_count lines)
+    (rows : List ImportRow) × (rows_stated lines ≡ Ok rows) × IsTableBy (kept_of lines) true rows (Ok (table_made imported)) × (imported.notes ≡ note_count lines)
 IsNamedImport lines (Err NoMemory) = Unit {0}
 IsNamedImport lines (Err (Csv line kind column)) = rows_stated lines ≡ Err (line, kind, column)
 IsNamedImport lines (Err (Wide line)) = ⊥
-IsNamedImport lines (Err (Table fault)) = (rows : List ImportRow) × (rows_stated lines ≡ Ok rows) × IsTableBy true rows (Err (Table fault))
+IsNamedImport lines (Err (Table fault)) = (rows : List ImportRow) × (rows_stated lines ≡ Ok rows) × IsTableBy (kept_of lines) true rows (Err (Table fault))
 
 -- the same, with names if the flag is set
 abbrev pub IsImportFrom : Bool → List CsvLine → Result Imported ImportFault → Type 0

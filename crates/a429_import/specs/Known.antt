@@ -67,6 +67,12 @@ pub record Knows (known : Known) (rows : List ImportRow) : Type 0 where
   pub sources : KnowsSources known.sources rows
   pub groups : KnowsGroups known.groups rows
 
+-- the receivers, the sources or the groups
+abbrev pub named_of : Part → Known → NamedRows
+named_of Receivers known = known.receivers.named
+named_of Sources known = known.sources.named
+named_of Groups known = known.groups.named
+
 -- too many groups, or too many outputs of a group
 abbrev pub are_groups_full : List ImportRow → Bool
 are_groups_full rows = nat_lt 8 (length (groups_of rows)) || is_some (position_from (has_too_many_outputs rows) 0 (groups_of rows))

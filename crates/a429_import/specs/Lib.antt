@@ -29,3 +29,5 @@ pub mod RenamedReading
 pub mod FilledReading
 pub mod Names
 pub mod Known
+pub mod KeptFields
+pub mod TableTexts

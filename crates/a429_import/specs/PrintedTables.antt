@@ -11,28 +11,23 @@ use Rattle.a429_import.specs.ImportTables.{listed, number, part_trees}
 abbrev pub IsSkipped : List ℕ → Type 0
 IsSkipped text = (rest : List ℕ) → skip_blank (text ++ rest) ≡ skip_blank rest
 
--- a text that is skipped is written at the end
-abbrev pub IsWithSkipped : List ℕ → List ℕ → Type 0
-IsWithSkipped old new = (text : List ℕ) × (new ≡ old ++ text) × IsSkipped text
-
 -- a document with this table alone, at a key
 abbrev pub alone : List ℕ → Data → Members
 alone key d = member key (listed (d ∷ [])) no_members
 
--- the text prints the tables at a key, each below a text that is skipped
-abbrev pub PrintsTables : List ℕ → List Data → List ℕ → Type 0
+-- the text prints the tables at a key, each below this text, which is skipped
+abbrev pub PrintsTables : List ℕ → List (List ℕ × Data) → List ℕ → Type 0
 PrintsTables key [] text = text ≡ []
-PrintsTables key (d ∷ ds) text =
-    (above : List ℕ) × (piece : List ℕ) × (rest : List ℕ) × (text ≡ above ++ (piece ++ rest)) × IsSkipped above
-    × IsDocumentText false (alone key d) piece × PrintsTables key ds rest
+PrintsTables key (p ∷ ps) text =
+    (piece : List ℕ) × (rest : List ℕ) × (text ≡ p.0 ++ (piece ++ rest)) × IsSkipped p.0 × IsDocumentText false (alone key p.1) piece × PrintsTables key ps rest
 
 -- the text prints a document at its end
 abbrev pub GainsDocument : {T E : Type 0} → Result T E → List ℕ → List ℕ → Members → Type 0
 GainsDocument result old new members = OnOk result ((text : List ℕ) × (new ≡ old ++ text) × IsDocumentText false members text)
 
--- the text prints these tables at its end
-abbrev pub IsWithTables : List ℕ → List ℕ → List ℕ → List Data → Type 0
-IsWithTables old new key ds = (text : List ℕ) × (new ≡ old ++ text) × PrintsTables key ds text
+-- the text prints these tables at its end, each below its text
+abbrev pub IsWithTables : List ℕ → List ℕ → List ℕ → List (List ℕ × Data) → Type 0
+IsWithTables old new key ps = (text : List ℕ) × (new ≡ old ++ text) × PrintsTables key ps text
 
 -- an array that has no table is written at its key, before all tables
 abbrev pub with_empty : List ℕ → List Data → Members → Members

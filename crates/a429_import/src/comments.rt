@@ -1,14 +1,22 @@
-//! What is above each table of a text: an empty line, and for a made name a comment with the text that it is made of.
-ghost use Rattle.std.specs.Prelude.{◌≡◌, OnOk, string_bytes};
+//! What is above each table of a text: an empty line, for a made name a comment with the text that it is made of, and for a
+//! source the columns that go along.
+ghost use Rattle.std.specs.Prelude.{◌≡◌, ◌++◌, ◌∷◌, [], IfSome, OnOk, Some, codes, slice_get, string_bytes};
+ghost use Rattle.std.specs.Option.{option_copied};
 ghost use Rattle.std.specs.List.{list_all};
 ghost use Rattle.toml_parser.specs.Lexical.{is_non_eol};
-ghost use Rattle.a429_import.specs.PrintedTables.{IsWithSkipped};
+ghost use Rattle.a429_import.specs.KeptFields.{AreKept, comment_line, comment_of, kept_comments, lines_kept};
+ghost use Rattle.a429_import.specs.Known.{Knows, named_of};
+ghost use Rattle.a429_import.specs.TableTexts.{above_of, before_at, column_comments, made_comment, name_comment, rows_before};
 
+use crate::fields::utf8_in;
 use crate::firsts::Part;
+use crate::kept::{KeptTexts, put_shown};
 use crate::known::Known;
 use crate::named_rows::NamedRows;
 use crate::renamed::{name_in, text_of};
 use crate::rows::ImportRow;
+use a429_text::Text;
+use a429_text::cut::cut_at;
 use std::alloc::{AllocError, Global};
 
 /// The rows of a table as they are written, before names are made.
@@ -23,24 +31,54 @@ pub struct MadeOf<'a> {
 pub struct Comments<'a> {
     /// The rows before names are made. `None` if no names are made.
     pub made_of: Option<MadeOf<'a>>,
+    /// What sources say in the columns that go along.
+    pub kept: &'a KeptTexts,
 }
 
 /// The receivers, the sources or the groups of the rows.
-fn named_rows(made: MadeOf<'_>, part: Part) -> &NamedRows {
+fn named_rows(known: &Known, part: Part) -> &NamedRows
+    ensures { result.now ≡ named_of part known.now }
+{
     match part {
-        Part::Receivers => &made.known.receivers.named,
-        Part::Sources => &made.known.sources.named,
-        Part::Groups => &made.known.groups.named,
+        Part::Receivers => &known.receivers.named,
+        Part::Sources => &known.sources.named,
+        Part::Groups => &known.groups.named,
     }
 }
 
-/// A text with spaces for its control characters. Error: an allocation failed.
-fn one_line(alloc: Global, text: &str) -> Result<String, AllocError> {
-    let mut line = String::new(alloc);
-    for c in text.chars() {
-        line.push(if c.is_control() { ' ' } else { c })?;
+/// The row of a number. `None` if there is none.
+fn row_at(rows: &[ImportRow], number: usize) -> Option<&ImportRow>
+    ensures { option_copied result ≡ slice_get rows.now number }
+{
+    rows.get(number)
+}
+
+/// The first row of the receiver, the source or the group at a place. `None` if there are fewer.
+fn first_row<'a>(made: MadeOf<'a>, part: Part, place: usize) -> Option<&'a ImportRow>
+    requires { Knows made.known.now made.rows.now }
+    ensures { option_copied result ≡ before_at (rows_before (Some made.entry)) part place }
+{
+    let named = named_rows(made.known, part);
+    if place < named.len() {
+        row_at(made.rows, named.first_at(place))
+    } else {
+        None
     }
-    Ok(line)
+}
+
+/// The same before names are made. `None` if no names are made.
+pub fn row_before<'a>(
+    made_of: Option<MadeOf<'a>>,
+    part: Part,
+    place: usize,
+) -> Option<&'a ImportRow>
+    requires { IfSome made_of (λ made. Knows made.known.now made.rows.now) }
+    ensures { option_copied result ≡ before_at (rows_before made_of.entry) part place }
+{
+    match made_of {
+        Some(made) => first_row(made, part, place),
+        None => None,
+    }
 }
 
 /// Whether a byte can be in a comment.
@@ -57,71 +95,136 @@ fn is_comment(bytes: &[u8]) -> bool
     bytes.iter().all(|byte| fits_comment(*byte))
 }
 
-/// Writes a comment, if the line can be one. Error: an allocation failed.
-#[tactic(auto, using(crate::proofs::PrintedTables::none_skipped))]
-fn put_comment(shown: &mut String, line: &str) -> Result<(), AllocError>
-    ensures { OnOk result (IsWithSkipped (string_bytes shown.old) (string_bytes shown.new)) }
+/// Writes a comment. Error: an allocation failed.
+fn push_comment(shown: &mut String, line: &str) -> Result<(), AllocError>
+    ensures { OnOk result (string_bytes shown.new ≡ string_bytes shown.old ++ 35 ∷ (line.now ++ 10 ∷ [])) }
 {
-    if !is_comment(line.as_bytes()) {
-        return Ok(());
-    }
-    shown.push_str("# ")?;
+    shown.push_str("#")?;
     shown.push_str(line)?;
     shown.push_str("\n")
 }
 
+/// Writes a comment, unless a byte cannot be in one. Error: an allocation failed.
+fn push_fitting(shown: &mut String, line: &str) -> Result<(), AllocError>
+    ensures { OnOk result (string_bytes shown.new ≡ string_bytes shown.old ++ comment_of line.now) }
+{
+    if is_comment(line.as_bytes()) {
+        push_comment(shown, line)
+    } else {
+        Ok(())
+    }
+}
+
+/// Writes a comment, if the line can be one. Error: an allocation failed.
+#[tactic(auto, unfolding(crate::specs::KeptFields::comment_line))]
+fn put_comment(shown: &mut String, line: &[u8]) -> Result<(), AllocError>
+    ensures { OnOk result (string_bytes shown.new ≡ string_bytes shown.old ++ comment_line line.now) }
+{
+    match utf8_in(line) {
+        Some(text) => push_fitting(shown, text),
+        None => Ok(()),
+    }
+}
+
 /// Writes a comment with the text of a name, if it differs from the name. Error: an allocation failed.
-#[tactic(auto, using(crate::proofs::PrintedTables::none_skipped))]
 fn put_text(alloc: Global, shown: &mut String, text: &[u8], name: &[u8]) -> Result<(), AllocError>
-    ensures { OnOk result (IsWithSkipped (string_bytes shown.old) (string_bytes shown.new)) }
+    ensures { OnOk result (string_bytes shown.new ≡ string_bytes shown.old ++ name_comment text.now name.now) }
 {
     if text == name {
         return Ok(());
     }
-    match str::from_utf8(text) {
-        Ok(text) => {
-            let line = one_line(alloc, text)?;
-            put_comment(shown, line.as_str())
-        }
-        Err(_) => Ok(()),
-    }
+    let mut line = Text::new(alloc);
+    line.put(" ");
+    put_shown(&mut line, false, text);
+    let bytes = line.into_bytes()?;
+    put_comment(shown, &bytes)
 }
 
-/// Writes a comment with the text that the name at a place is made of, if they differ. Error: an allocation failed.
-#[tactic(auto, using(crate::proofs::PrintedTables::none_skipped))]
+/// Writes a comment with the text that the name of a row is made of, if they differ. Error: an allocation failed.
 fn put_made_of(
     alloc: Global,
     shown: &mut String,
-    made: MadeOf<'_>,
     part: Part,
-    place: usize,
-    name: &str,
+    before: Option<&ImportRow>,
+    row: &ImportRow,
 ) -> Result<(), AllocError>
-    ensures { OnOk result (IsWithSkipped (string_bytes shown.old) (string_bytes shown.new)) }
+    ensures { OnOk result (string_bytes shown.new ≡ string_bytes shown.old
+        ++ made_comment part (option_copied before.entry) row.now) }
 {
-    match made.rows.get(named_rows(made, part).first_at(place)) {
-        Some(row) => {
-            let text = text_of(alloc, part, row)?;
-            put_text(alloc, shown, text, name.as_bytes())
+    match before {
+        Some(before) => {
+            let text = text_of(alloc, part, before)?;
+            put_text(alloc, shown, text, name_in(part, row).as_bytes())
         }
         None => Ok(()),
     }
 }
 
-/// Writes what is above the table of the receiver, the source or the group at a place. Error: an allocation failed.
+/// Writes a comment `#: NAME | LINE`, if it can be one. Error: an allocation failed.
+fn put_line(alloc: Global, shown: &mut String, name: &str, line: &[u8]) -> Result<(), AllocError>
+    ensures { OnOk result (string_bytes shown.new ≡ string_bytes shown.old
+        ++ comment_line (codes ": " ++ (name.now ++ (codes " | " ++ line.now)))) }
+{
+    let mut comment = Text::new(alloc);
+    comment.put(": ");
+    comment.put(name);
+    comment.put(" | ");
+    comment.put_bytes(line);
+    let bytes = comment.into_bytes()?;
+    put_comment(shown, &bytes)
+}
+
+/// Writes a comment `#: NAME | LINE` for each of these lines. Error: an allocation failed.
+fn put_lines(alloc: Global, shown: &mut String, name: &str, lines: &[u8]) -> Result<(), AllocError>
+    ensures { OnOk result (string_bytes shown.new ≡ string_bytes shown.old ++ kept_comments name.now lines.now) }
+{
+    let mut rest = lines;
+    while let Some((line, next)) = cut_at(rest, b'\n') {
+        put_line(alloc, shown, name, line)?;
+        rest = next;
+    }
+    Ok(())
+}
+
+/// Writes the comments of the columns that go along, if the row is that of a source. Error: an allocation failed.
+fn put_columns(
+    alloc: Global,
+    shown: &mut String,
+    kept: &KeptTexts,
+    part: Part,
+    before: Option<&ImportRow>,
+    row: &ImportRow,
+) -> Result<(), AllocError>
+    requires { AreKept kept.now }
+    ensures { OnOk result (string_bytes shown.new ≡ string_bytes shown.old
+        ++ column_comments (lines_kept kept.now) part (option_copied before.entry) row.now) }
+{
+    let name = row.texts.source.as_str();
+    match (part, before) {
+        (Part::Sources, Some(before)) => {
+            let source = before.texts.source.as_str().as_bytes();
+            put_lines(alloc, shown, name, kept.text_of(source))
+        }
+        (Part::Sources, None) => put_lines(alloc, shown, name, kept.text_of(name.as_bytes())),
+        _ => Ok(()),
+    }
+}
+
+/// Writes what is above the table of the receiver, the source or the group of a row. Its row before names are made is given,
+/// if names are made. Error: an allocation failed.
 pub fn put_above(
     alloc: Global,
     shown: &mut String,
-    comments: Comments<'_>,
+    kept: &KeptTexts,
     part: Part,
-    place: usize,
+    before: Option<&ImportRow>,
     row: &ImportRow,
 ) -> Result<(), AllocError>
-    ensures { OnOk result (IsWithSkipped (string_bytes shown.old) (string_bytes shown.new)) }
+    requires { AreKept kept.now }
+    ensures { OnOk result (string_bytes shown.new ≡ string_bytes shown.old
+        ++ above_of (lines_kept kept.now) part (option_copied before.entry) row.now) }
 {
     shown.push_str("\n")?;
-    match comments.made_of {
-        Some(made) => put_made_of(alloc, shown, made, part, place, name_in(part, row)),
-        None => Ok(()),
-    }
+    put_made_of(alloc, shown, part, before, row)?;
+    put_columns(alloc, shown, kept, part, before, row)
 }

@@ -1,5 +1,5 @@
 //! An equipment table from rows of comma-separated values.
-ghost use Rattle.std.specs.Prelude.{◌≡◌, ◌||◌, [], false, IfOk, is_some, List, None, true};
+ghost use Rattle.std.specs.Prelude.{◌≡◌, ◌||◌, [], false, IfOk, is_some, List, None, Some, true};
 ghost use Rattle.a429_import.specs.declared.lines.CsvLine.{CsvLine};
 ghost use Rattle.a429_import.specs.declared.rows.ImportRow.{ImportRow};
 ghost use Rattle.a429_import.specs.ImportAbove.{has_data_above};
@@ -9,15 +9,18 @@ ghost use Rattle.a429_import.specs.ImportMaps.{given_texts};
 ghost use Rattle.a429_import.specs.ImportQuotes.{has_wrong_quotes};
 ghost use Rattle.a429_import.specs.ImportReading.{HasRows, HaveRows, StandsFor};
 ghost use Rattle.a429_import.specs.Imports.{IsImport, IsImportFrom, IsTableBy, IsTableOf, IsTextFault, separated};
+ghost use Rattle.a429_import.specs.KeptFields.{AreKept, lines_kept};
 ghost use Rattle.a429_import.specs.Known.{Knows};
 ghost use Rattle.a429_import.specs.NumberRanges.{HaveRanges};
 ghost use Rattle.a429_import.specs.Renamed.{all_renamed};
+ghost use Rattle.a429_import.specs.TableTexts.{AreSound, rows_before};
 
 use crate::above::line_above;
 use crate::comments::{Comments, MadeOf};
 use crate::fault::{CsvFaultKind, ImportColumn, ImportFault};
 use crate::filled_reading::SheetRead;
 use crate::forms::{Form, form_of};
+use crate::kept::KeptTexts;
 use crate::known::Known;
 use crate::limits::limit_fault;
 use crate::quotes::misquoted_line_of;
@@ -66,8 +69,10 @@ fn table_of_rows(
     comments: Comments<'_>,
     read: &RowsRead,
 ) -> Result<MadeTable, ImportFault>
-    requires { (rows : List ImportRow) × HasRows read.now rows }
-    ensures { (rows : List ImportRow) → HasRows read.now rows → HaveRanges rows → IsTableOf rows result }
+    requires rows { (rows : List ImportRow) × HasRows read.now rows }
+    requires comments { AreSound comments }
+    ensures { (rows : List ImportRow) → HasRows read.now rows → HaveRanges rows
+        → IsTableOf (lines_kept comments.entry.kept.now) (rows_before comments.entry.made_of) rows result }
 {
     match limit_fault(&read.known) {
         Some((kind, place)) => return Err(ImportFault::Table(TableFault::At(kind, place))),
@@ -87,39 +92,54 @@ fn table_of_rows(
 fn table_with_names(
     alloc: Global,
     known: &Known,
+    kept: &KeptTexts,
     rows: &[ImportRow],
 ) -> Result<MadeTable, ImportFault>
-    requires { Knows known.now rows.now }
-    ensures { HaveRanges rows.now → IsTableOf (all_renamed rows.now) result }
+    requires known { Knows known.now rows.now }
+    requires kept { AreKept kept.now }
+    ensures { HaveRanges rows.now → IsTableOf (lines_kept kept.now) (Some rows.now) (all_renamed rows.now) result }
 {
     let names = all_names(alloc, known, rows)?;
     let read = all_renamed(alloc, known, &names, rows)?;
     let comments = Comments {
         made_of: Some(MadeOf { known, rows }),
+        kept,
     };
     table_of_rows(alloc, comments, &read)
 }
 
 /// The table that rows describe with names, unless it has too much of something.
-fn named_table(alloc: Global, read: &RowsRead) -> Result<MadeTable, ImportFault>
-    requires { (rows : List ImportRow) × HasRows read.now rows }
-    ensures { (rows : List ImportRow) → HasRows read.now rows → HaveRanges rows → IsTableBy true rows result }
+fn named_table(alloc: Global, kept: &KeptTexts, read: &RowsRead) -> Result<MadeTable, ImportFault>
+    requires rows { (rows : List ImportRow) × HasRows read.now rows }
+    requires kept { AreKept kept.now }
+    ensures { (rows : List ImportRow) → HasRows read.now rows → HaveRanges rows → IsTableBy (lines_kept kept.now) true rows result }
 {
     match limit_fault(&read.known) {
         Some((kind, place)) => Err(ImportFault::Table(TableFault::At(kind, place))),
-        None => table_with_names(alloc, &read.known, &read.kept),
+        None => table_with_names(alloc, &read.known, kept, &read.kept),
     }
 }
 
 /// The table that rows describe, with names if the flag is set.
-fn table_by(alloc: Global, makes_names: bool, read: &RowsRead) -> Result<MadeTable, ImportFault>
-    requires { (rows : List ImportRow) × HasRows read.now rows }
-    ensures { (rows : List ImportRow) → HasRows read.now rows → HaveRanges rows → IsTableBy makes_names rows result }
+fn table_by(
+    alloc: Global,
+    makes_names: bool,
+    kept: &KeptTexts,
+    read: &RowsRead,
+) -> Result<MadeTable, ImportFault>
+    requires rows { (rows : List ImportRow) × HasRows read.now rows }
+    requires kept { AreKept kept.now }
+    ensures { (rows : List ImportRow) → HasRows read.now rows → HaveRanges rows
+        → IsTableBy (lines_kept kept.now) makes_names rows result }
 {
     if makes_names {
-        named_table(alloc, read)
+        named_table(alloc, kept, read)
     } else {
-        table_of_rows(alloc, Comments { made_of: None }, read)
+        let comments = Comments {
+            made_of: None,
+            kept,
+        };
+        table_of_rows(alloc, comments, read)
     }
 }
 
@@ -134,7 +154,7 @@ fn table_below_heading(
 {
     match &read.heading {
         None => Err(wrong_heading(1, ImportColumn::Group)),
-        Some(_heading) => match table_by(alloc, makes_names, &read.rows) {
+        Some(_heading) => match table_by(alloc, makes_names, &read.kept, &read.rows) {
             Ok(MadeTable { text, equipment }) => Ok(Imported {
                 text,
                 equipment,

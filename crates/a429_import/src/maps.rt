@@ -1,14 +1,15 @@
 //! The heading of rows, by texts HEADING=COLUMN: such a text says that a heading is the name of a column.
-ghost use Rattle.std.specs.Prelude.{◌≡◌, ◌++◌, ◌∷◌, [], IfOk, List, OnOk, map, option_map, true};
+ghost use Rattle.std.specs.Prelude.{◌≡◌, ◌++◌, ◌∷◌, [], IfOk, List, OnOk, codes, map, option_map, true};
 ghost use Rattle.std.specs.List.{find, list_all, list_any};
 ghost use Rattle.csv.specs.Records.{fields_of, partial_of};
 ghost use Rattle.a429_import.specs.declared.lines.CsvLine.{CsvLine};
 ghost use Rattle.a429_import.specs.ImportRows.{is_column};
-ghost use Rattle.a429_import.specs.ImportMaps.{AreNamedBy, IsNamedBy, column_in, is_about, is_met, mapped, names_by, given_texts};
+ghost use Rattle.a429_import.specs.ImportMaps.{AreNamedBy, IsNamedBy, can_keep, column_in, counts, is_about, is_keep, is_met, is_once, keeps, mapped, names_by, given_texts, titled};
 
 use crate::columns::is_column;
 use crate::lines::CsvLine;
 use crate::plain::same_heading;
+use a429_text::Text;
 use a429_text::renames::halves;
 use csv::ByteRecord;
 use std::alloc::{AllocError, Global};
@@ -55,8 +56,37 @@ pub fn names_column_by(maps: &[&str], field: &[u8]) -> bool
     }
 }
 
-/// Adds the name of a field of a heading: COLUMN of the first text that is about it, or its own. Error: an allocation
-/// failed.
+/// Whether COLUMN of a text is `#:`, which means that the column of HEADING goes along as comments.
+fn is_keep(text: &str) -> bool
+    ensures { result ≡ is_keep text.now }
+{
+    column_in(text) == "#:".as_bytes()
+}
+
+/// Whether the first text that is about a field says that its column goes along.
+fn keeps(maps: &[&str], field: &[u8]) -> bool
+    ensures { result ≡ keeps (given_texts maps.now) field.now }
+{
+    match text_about(maps, field) {
+        Some(text) => is_keep(text),
+        None => false,
+    }
+}
+
+/// Adds a name of a column that goes along: `#:` and its heading. Error: an allocation failed.
+fn push_kept(alloc: Global, names: &mut ByteRecord, field: &[u8]) -> Result<(), AllocError>
+    requires { partial_of names.old ≡ [] }
+    ensures fields { OnOk result (fields_of names.new ≡ fields_of names.old ++ (codes "#:" ++ field.now) ∷ []) }
+    ensures partial { OnOk result (partial_of names.new ≡ []) }
+{
+    let mut name = Text::new(alloc);
+    name.put("#:");
+    name.put_bytes(field);
+    let name = name.into_bytes()?;
+    names.push_field(&name)
+}
+
+/// Adds the name of a field: COLUMN of the first text that is about it, or its own. Error: an allocation failed.
 fn push_mapped(names: &mut ByteRecord, maps: &[&str], field: &[u8]) -> Result<(), AllocError>
     requires { partial_of names.old ≡ [] }
     ensures fields { OnOk result (fields_of names.new ≡ fields_of names.old ++ mapped (given_texts maps.now) field.now ∷ []) }
@@ -65,6 +95,24 @@ fn push_mapped(names: &mut ByteRecord, maps: &[&str], field: &[u8]) -> Result<()
     match text_about(maps, field) {
         Some(text) => names.push_field(column_in(text)),
         None => names.push_field(field),
+    }
+}
+
+/// Adds the name of a field in a heading, after `#:` if its column goes along. Error: an allocation failed.
+fn push_titled(
+    alloc: Global,
+    names: &mut ByteRecord,
+    maps: &[&str],
+    field: &[u8],
+) -> Result<(), AllocError>
+    requires { partial_of names.old ≡ [] }
+    ensures fields { OnOk result (fields_of names.new ≡ fields_of names.old ++ titled (given_texts maps.now) field.now ∷ []) }
+    ensures partial { OnOk result (partial_of names.new ≡ []) }
+{
+    if keeps(maps, field) {
+        push_kept(alloc, names, field)
+    } else {
+        push_mapped(names, maps, field)
     }
 }
 
@@ -80,19 +128,49 @@ fn has_heading(heading: &CsvLine, text: &str) -> bool
     false
 }
 
-/// Whether COLUMN of a text is the name of a column, and HEADING a field of the heading.
-pub fn is_met(heading: &CsvLine, text: &str) -> bool
-    ensures { result ≡ is_met (fields_of heading.now.fields) text.now }
+/// Whether a column can go along: it has a heading, which is no name of a column, and the first text about it says so.
+fn can_keep(maps: &[&str], field: &[u8]) -> bool
+    ensures { result ≡ can_keep (given_texts maps.now) field.now }
 {
-    is_column(column_in(text)) && has_heading(heading, text)
+    keeps(maps, field) && !(field.is_empty() || is_column(field))
 }
 
-/// Whether for each text COLUMN is the name of a column, and HEADING a field of the heading.
+/// Whether a text is about a field; if the flag is set, whether also its column can go along.
+fn counts(maps: &[&str], text: &str, is_kept: bool, field: &[u8]) -> bool
+    ensures { result ≡ counts (given_texts maps.now) text.now is_kept field.now }
+{
+    is_about(field, text) && (!is_kept || can_keep(maps, field))
+}
+
+/// Whether there is one such field in a heading.
+fn is_once(maps: &[&str], heading: &CsvLine, text: &str, is_kept: bool) -> bool
+    ensures { result ≡ is_once (given_texts maps.now) (fields_of heading.now.fields) text.now is_kept }
+{
+    let mut count = 0;
+    for place in 0..heading.len() {
+        count += usize::from(counts(maps, text, is_kept, heading.field(place)));
+    }
+    count == 1
+}
+
+/// Whether COLUMN of a text is the name of a column, and HEADING a field of the heading. Or COLUMN is `#:`, and HEADING is one
+/// field, whose column can go along as comments.
+pub fn is_met(maps: &[&str], heading: &CsvLine, text: &str) -> bool
+    ensures { result ≡ is_met (given_texts maps.now) (fields_of heading.now.fields) text.now }
+{
+    if is_keep(text) {
+        is_once(maps, heading, text, false) && is_once(maps, heading, text, true)
+    } else {
+        is_column(column_in(text)) && has_heading(heading, text)
+    }
+}
+
+/// Whether all texts are met.
 fn are_met(heading: &CsvLine, maps: &[&str]) -> bool
-    ensures { result ≡ list_all (is_met (fields_of heading.now.fields)) (given_texts maps.now) }
+    ensures { result ≡ list_all (is_met (given_texts maps.now) (fields_of heading.now.fields)) (given_texts maps.now) }
 {
     for text in maps {
-        if !is_met(heading, *text) {
+        if !is_met(maps, heading, *text) {
             return false;
         }
     }
@@ -100,30 +178,36 @@ fn are_met(heading: &CsvLine, maps: &[&str]) -> bool
 }
 
 /// Adds the names of the fields of a heading. Error: an allocation failed.
-fn push_all_mapped(
+fn push_all_titled(
+    alloc: Global,
     names: &mut ByteRecord,
     maps: &[&str],
     heading: &CsvLine,
 ) -> Result<(), AllocError>
     requires none { fields_of names.old ≡ [] }
     requires partial { partial_of names.old ≡ [] }
-    ensures { OnOk result (fields_of names.new ≡ map (mapped (given_texts maps.now)) (fields_of heading.now.fields)) }
+    ensures { OnOk result (fields_of names.new ≡ map (titled (given_texts maps.now)) (fields_of heading.now.fields)) }
 {
     for place in 0..heading.len() {
-        push_mapped(names, maps, heading.field(place))?;
+        push_titled(alloc, names, maps, heading.field(place))?;
     }
     Ok(())
 }
 
 /// Adds the names of the fields of a heading by texts, if all texts are met; otherwise adds nothing. Error: an allocation
 /// failed.
-fn push_names(names: &mut ByteRecord, maps: &[&str], heading: &CsvLine) -> Result<(), AllocError>
+fn push_names(
+    alloc: Global,
+    names: &mut ByteRecord,
+    maps: &[&str],
+    heading: &CsvLine,
+) -> Result<(), AllocError>
     requires none { fields_of names.old ≡ [] }
     requires partial { partial_of names.old ≡ [] }
     ensures { OnOk result (fields_of names.new ≡ names_by (given_texts maps.now) (fields_of heading.now.fields)) }
 {
     if are_met(heading, maps) {
-        push_all_mapped(names, maps, heading)
+        push_all_titled(alloc, names, maps, heading)
     } else {
         Ok(())
     }
@@ -134,12 +218,12 @@ fn names_of(alloc: Global, maps: &[&str], heading: &CsvLine) -> Result<ByteRecor
     ensures { IfOk result (λ names. fields_of names ≡ names_by (given_texts maps.now) (fields_of heading.now.fields)) }
 {
     let mut names = ByteRecord::new(alloc);
-    push_names(&mut names, maps, heading)?;
+    push_names(alloc, &mut names, maps, heading)?;
     Ok(names)
 }
 
-/// A heading with its names by texts HEADING=COLUMN. It has no name if one of the texts is not met: its COLUMN is no
-/// column, or the heading has not its HEADING. Error: an allocation failed.
+/// A heading with its names by texts HEADING=COLUMN. It has no name if one of the texts is not met. Error: an allocation
+/// failed.
 pub fn named_by(alloc: Global, maps: &[&str], heading: &CsvLine) -> Result<CsvLine, AllocError>
     ensures { IfOk result (λ named. IsNamedBy (given_texts maps.now) heading.now named) }
 {

@@ -8,11 +8,13 @@ ghost use Rattle.a429_import.specs.ImportClashes.{Agree};
 ghost use Rattle.a429_import.specs.ImportReading.{AreBelow, AreRead, AreTaken, HasRows, HaveRows, IsHeadingOf, IsKept, IsTaken, StandsFor, heading_fault, with_line};
 ghost use Rattle.a429_import.specs.ImportRows.{has_label, next_row, with_row};
 ghost use Rattle.a429_import.specs.ImportTexts.{row_view};
+ghost use Rattle.a429_import.specs.KeptFields.{AreKept, KeepsTexts};
 ghost use Rattle.a429_import.specs.Known.{Knows};
 
 use crate::clashes::first_clash;
 use crate::columns::{Heading, wrong_column};
 use crate::fault::{CsvFaultKind, ImportColumn, ImportFault};
+use crate::kept::KeptTexts;
 use crate::known::Known;
 use crate::lines::CsvLine;
 use crate::notes::{Notes, has_label};
@@ -37,6 +39,8 @@ pub struct LinesRead {
     pub rows: RowsRead,
     /// Those of them that may be notes.
     pub notes: Notes,
+    /// What sources say in the columns that go along.
+    pub kept: KeptTexts,
     /// The first fault, after which lines are not looked at.
     pub fault: Option<ImportFault>,
 }
@@ -60,10 +64,12 @@ impl LinesRead {
         ensures read { IfOk result (λ read. StandsFor read []) }
         ensures heading { IfOk result (λ read. read.heading ≡ None) }
     {
+        let kept = KeptTexts::new(alloc)?;
         Ok(LinesRead {
             heading: None,
             rows: RowsRead::new(alloc, chains)?,
             notes: Notes::new(alloc),
+            kept,
             fault: None,
         })
     }
@@ -196,6 +202,26 @@ fn take_row_or_note(
     }
 }
 
+/// Takes a line below the heading, and what it says in the columns that go along.
+fn take_kept(
+    alloc: Global,
+    read: &mut RowsRead,
+    notes: &mut Notes,
+    kept: &mut KeptTexts,
+    heading: &Heading,
+    line: &CsvLine,
+) -> Result<(), ImportFault>
+    requires below { (below : List CsvLine) × AreBelow (fields_of heading.now.line.fields) below read.old notes.old }
+    requires kept { AreKept kept.old }
+    ensures taken { (below : List CsvLine) → AreBelow (fields_of heading.now.line.fields) below read.old notes.old
+        → AreTaken result (fields_of heading.now.line.fields) (below ++ line.now ∷ []) read.new notes.new }
+    ensures kept { OnOk result ((below : List CsvLine) → KeepsTexts kept.old (fields_of heading.now.line.fields) below
+        → KeepsTexts kept.new (fields_of heading.now.line.fields) (below ++ line.now ∷ [])) }
+{
+    kept.note(alloc, heading, line)?;
+    take_row_or_note(alloc, read, notes, heading, line)
+}
+
 /// The fault of a heading that lacks a column, or has it twice.
 pub fn wrong_heading(line: u64, column: ImportColumn) -> ImportFault
     ensures { result ≡ ImportFault.Csv line CsvFaultKind.Column (Some column) }
@@ -230,7 +256,15 @@ fn next_line(alloc: Global, read: &mut LinesRead, line: CsvLine) -> Option<Impor
             fault
         }
         Some(heading) => {
-            take_row_or_note(alloc, &mut read.rows, &mut read.notes, heading, &line).err()
+            take_kept(
+                alloc,
+                &mut read.rows,
+                &mut read.notes,
+                &mut read.kept,
+                heading,
+                &line,
+            )
+            .err()
         }
     }
 }

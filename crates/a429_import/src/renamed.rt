@@ -79,16 +79,10 @@ fn plain_of(alloc: Global, part: Part, row: &ImportRow) -> Result<Vec<u8>, Alloc
 fn base_of(alloc: Global, part: Part, row: &ImportRow) -> Result<Vec<u8>, AllocError>
     ensures { IfOk result (λ base. base.items ≡ base_of part row.now) }
 {
+    let receiver = row.texts.receiver.as_str().as_bytes();
     match part {
-        Part::Receivers => {
-            in_room_or(
-                alloc,
-                "receiver",
-                16,
-                row.texts.receiver.as_str().as_bytes(),
-            )
-        }
-        Part::Sources => in_room_or(alloc, "r", 10, row.texts.receiver.as_str().as_bytes()),
+        Part::Receivers => in_room_or(alloc, "receiver", 16, receiver),
+        Part::Sources => in_room_or(alloc, "r", 10, receiver),
         Part::Groups => in_room_or(alloc, "group", 16, row.texts.group.as_str().as_bytes()),
     }
 }

@@ -1,19 +1,22 @@
 //! The equipment table that rows describe, as TOML.
-ghost use Rattle.std.specs.Prelude.{◌≡◌, IfOk, List, OnOk, [], ◌∷◌, Some, codes, filter, if◌then◌else◌, map, string_bytes};
+ghost use Rattle.std.specs.Prelude.{◌≡◌, IfOk, List, OnOk, [], ◌∷◌, codes, filter, if◌then◌else◌, map, string_bytes};
+ghost use Rattle.std.specs.Option.{option_copied};
 ghost use Rattle.toml.specs.Data.{string};
 ghost use Rattle.toml.specs.View.{table_view, view};
 ghost use Rattle.a429_word.specs.Texts.{octal};
 ghost use Rattle.a429_word.specs.Written.{Gains};
-ghost use Rattle.toml.specs.Parse.{parse_document};
 ghost use Rattle.a429_import.specs.ImportBuilding.{GainsTables, Puts, PutsFilters, PutsHold};
 ghost use Rattle.a429_import.specs.declared.rows.ImportRow.{ImportRow};
+ghost use Rattle.a429_import.specs.KeptFields.{AreKept, lines_kept};
 ghost use Rattle.a429_import.specs.PrintedTables.{GainsDocument, IsWithTables, PutsEmpty, alone, head_members};
-ghost use Rattle.a429_import.specs.ImportTables.{group_tree, is_stated, is_word, output_tree, part_tree, part_trees, receiver_tree, root_members, rows_of_group, sdi_data, source_tree, words};
+ghost use Rattle.a429_import.specs.ImportTables.{group_tree, is_stated, is_word, output_tree, part_tree, receiver_tree, rows_of_group, sdi_data, source_tree, words};
 ghost use Rattle.a429_import.specs.Known.{Knows, KnowsFirsts};
+ghost use Rattle.a429_import.specs.TableTexts.{AreSound, IsTableText, above_of, is_placed, piece_of, pieces, rows_before};
 
 use crate::building::{put, put_number, put_text};
-use crate::comments::{Comments, put_above};
+use crate::comments::{Comments, put_above, row_before};
 use crate::firsts::Part;
+use crate::kept::KeptTexts;
 use crate::known::Known;
 use crate::named_rows::NamedRows;
 use crate::rows::ImportRow;
@@ -222,17 +225,21 @@ fn put_document(alloc: Global, shown: &mut String, table: &Table) -> Result<(), 
 fn put_table(
     alloc: Global,
     shown: &mut String,
-    comments: Comments<'_>,
+    kept: &KeptTexts,
     named: NamedPart<'_>,
-    place: usize,
+    before: Option<&ImportRow>,
     row: &ImportRow,
 ) -> Result<(), AllocError>
+    requires { AreKept kept.now }
     ensures { OnOk result (IsWithTables (string_bytes shown.old) (string_bytes shown.new) named.entry.key.now
-        (part_tree named.entry.part named.entry.rows.now row.now ∷ [])) }
+        ((
+          above_of (lines_kept kept.now) named.entry.part (option_copied before.entry) row.now,
+          part_tree named.entry.part named.entry.rows.now row.now,
+        ) ∷ [])) }
 {
     let value = part_table(alloc, named.part, named.rows, row)?;
     let table = table_alone(alloc, named.key, value)?;
-    put_above(alloc, shown, comments, named.part, place, row)?;
+    put_above(alloc, shown, kept, named.part, before, row)?;
     put_document(alloc, shown, &table)
 }
 
@@ -245,11 +252,14 @@ fn put_stated(
     place: usize,
     row: &ImportRow,
 ) -> Result<(), AllocError>
+    requires { AreSound comments }
     ensures { OnOk result (IsWithTables (string_bytes shown.old) (string_bytes shown.new) named.entry.key.now
-        (map (part_tree named.entry.part named.entry.rows.now) (filter (is_stated named.entry.part) (row.now ∷ [])))) }
+        (map (piece_of (lines_kept comments.entry.kept.now) (rows_before comments.entry.made_of) named.entry.part named.entry.rows.now)
+        (filter (is_placed named.entry.part) ((place, row.now) ∷ [])))) }
 {
     if is_stated(named.part, row) {
-        put_table(alloc, shown, comments, named, place, row)
+        let before = row_before(comments.made_of, named.part, place);
+        put_table(alloc, shown, comments.kept, named, before, row)
     } else {
         Ok(())
     }
@@ -272,9 +282,10 @@ fn put_tables(
     comments: Comments<'_>,
     named: NamedPart<'_>,
 ) -> Result<(), AllocError>
-    requires { KnowsFirsts named.part named.named.now named.rows.now }
+    requires known { KnowsFirsts named.part named.named.now named.rows.now }
+    requires comments { AreSound comments }
     ensures { OnOk result (IsWithTables (string_bytes shown.old) (string_bytes shown.new) named.entry.key.now
-        (part_trees named.entry.part named.entry.rows.now)) }
+        (pieces (lines_kept comments.entry.kept.now) (rows_before comments.entry.made_of) named.entry.part named.entry.rows.now)) }
 {
     let names = named.named;
     let rows = named.rows;
@@ -321,8 +332,10 @@ pub fn table_text(
     known: &Known,
     rows: &[ImportRow],
 ) -> Result<String, AllocError>
-    requires { Knows known.now rows.now }
-    ensures { IfOk result (λ text. parse_document (string_bytes text) ≡ Some (root_members rows.now)) }
+    requires known { Knows known.now rows.now }
+    requires comments { AreSound comments }
+    ensures { IfOk result (λ text. IsTableText (lines_kept comments.entry.kept.now) (rows_before comments.entry.made_of) rows.now
+        (string_bytes text)) }
 {
     let head = head_table(alloc, known)?;
     let mut shown = String::new(alloc);

@@ -10,15 +10,16 @@ use Rattle.a429_console.specs.declared.refusals.CommandRefusal.TheVariants as re
 use Rattle.a429_console.proofs.Refused.{or_memory_weaker}
 use Rattle.a429_judge.specs.Recordings.{Recording}
 use Rattle.a429_recordings.specs.BoxLogs.{IsNoting, overlap}
-use Rattle.a429_recordings.specs.JudgeReplies.{AreBoxFiles, BoxFiles, IsJudgeAnswer, IsJudging, IsJudgingOf, IsNoRecording, IsPrinting, IsRecorded, IsUnjudged, IsUnjudgedBy, IsUnjudgedOf, heard_words, no_group_of, sent_reading, sent_words}
+use Rattle.a429_recordings.specs.JudgeReplies.{AreBoxFiles, BoxFiles, IsJudgeAnswer, IsJudging, IsJudgingOf, IsNoRecording, IsPrinting, IsRecorded, IsUnjudged, IsUnjudgedBy, IsUnjudgedOf, heard_words, no_group_of, sent_words}
 use Rattle.a429_recordings.specs.JudgedPlans.{is_any_wide}
+use Rattle.a429_recordings.specs.LogItems.{reading_behind}
 use Rattle.a429_recordings.specs.declared.judge.JudgeForm.{JudgeForm}
 use Rattle.a429_recordings.specs.declared.judge.sheets.Judged.{Judged}
 use Rattle.a429_recordings.specs.declared.judge.words.BoxWord.{BoxWord}
 
 -- logs with these words
-pub recorded : (q : Proposed) (i : BoxFiles (List ℕ)) (reading : Reading) (heard sent : List BoxWord) (result : Result Recording CommandRefusal) → heard_words q i.channels reading i.heard ≡ Ok heard
-    → sent_words q i.channels (sent_reading reading i.heard) i.sent ≡ Ok sent → IsNoting q.station heard sent result → IsRecorded q i reading result
+pub recorded : (q : Proposed) (i : BoxFiles (List ℕ)) (reading : Reading) (heard sent : List BoxWord) (result : Result Recording CommandRefusal) → heard_words q i.heard_view reading i.heard ≡ Ok heard
+    → sent_words q i.sent_view (reading_behind reading i.heard) i.sent ≡ Ok sent → IsNoting q.station heard sent result → IsRecorded q i reading result
 recorded q i reading heard sent (Ok r) h s is = record { heard = heard; sent = sent; heard_are = h; sent_are = s; common = is.0; recorded = is.1 }
 recorded q i reading heard sent (Err e) h s bad =
     or_memory_weaker (λ (refusal : CommandRefusal). (overlap heard sent ≡ false) × (refusal ≡ refused.Apart)) (IsNoRecording q i reading) e (λ one. inr (inr (heard, sent, h, s, one.0, one.1))) bad

@@ -1,6 +1,6 @@
 -- Logs that are read one after another: their items.
-use Rattle.std.proofs.Common.{◌≡◌, ◌∙◌, ◌+◌, ◌<◌, ℕ, inl, inr, List, [], ◌∷◌, length, refl, sym, ap, subst, append_assoc, drop, Vec, Global}
-use Rattle.std.specs.Prelude.{Option, Some, None, Result, Ok, Err, slice_index_or}
+use Rattle.std.proofs.Common.{◌≡◌, ◌∙◌, ◌+◌, ◌<◌, ℕ, inl, inr, List, [], ◌∷◌, ◌++◌, length, refl, sym, ap, subst, append-nil, append_assoc, drop, Vec, Global}
+use Rattle.std.specs.Prelude.{Option, Some, None, Result, Ok, Err, option_map, slice_index_or}
 use Rattle.std.proofs.lemmas.List.{drop_more}
 use Rattle.a429_logs.specs.LogRows.{Stated}
 use Rattle.a429_logs.specs.Logs.{WordAt, and_then, log_entries, reading_after, series_entries}
@@ -11,9 +11,31 @@ use Rattle.a429_console.specs.Lines.{entries_before}
 use Rattle.a429_console.specs.RefusalText.{OrMemory}
 use Rattle.a429_console.specs.declared.refusals.CommandRefusal.{CommandRefusal}
 use Rattle.a429_console.proofs.EntryLines.{entries_before-nil}
-use Rattle.a429_recordings.specs.LogItems.{IsItemFault, RefusesLog, item_then, items_from, items_of}
+use Rattle.a429_recordings.specs.LogItems.{AreKept, IsItemFault, IsKept, RefusesLog, items_from, items_of, items_then}
+use Rattle.a429_recordings.specs.LogViews.{items_by}
+use Rattle.a429_recordings.specs.declared.logs.keeping.KeepFault.{KeepFault}
+use Rattle.a429_recordings.specs.declared.logs.keeping.KeepFault.TheVariants as fault
 
-module _ {A : Type 0} (item : Stated → Option A) where
+module _ {A : Type 0} (item : Stated → Option (List A)) where
+  entries_more : (done xs : List A) (r : Result (List A) ℕ) → entries_before done (entries_before xs r) ≡ entries_before (done ++ xs) r
+  entries_more done xs (Ok later) = ap Ok (sym (append_assoc done xs later))
+  entries_more done xs (Err n) = refl
+
+  -- the items of one word more
+  pub kept_more : (all : Result (List A) ℕ) (done new : List A) (w : WordAt) (later : List (Result WordAt LogFault))
+      → all ≡ entries_before done (items_from item (Ok w ∷ later)) → (xs : List A) × (item w.word ≡ Some xs) × (new ≡ done ++ xs)
+      → all ≡ entries_before new (items_from item later)
+  kept_more all done new w later before (xs, is, added) =
+      before
+      ∙ ap (λ (o : Option (List A)). entries_before done (items_then w.line o (items_from item later))) is
+      ∙ entries_more done xs (items_from item later)
+      ∙ ap (λ (l : List A). entries_before l (items_from item later)) (sym added)
+
+  -- a word that is refused
+  pub kept_none : (all : Result (List A) ℕ) (done : List A) (w : WordAt) (later : List (Result WordAt LogFault))
+      → all ≡ entries_before done (items_from item (Ok w ∷ later)) → item w.word ≡ None → all ≡ Err w.line
+  kept_none all done w later before is = before ∙ ap (λ (o : Option (List A)). entries_before done (items_then w.line o (items_from item later))) is
+
   -- some items and then others, or the first fault
   abbrev joined : Result (List A) ℕ → Result (List A) ℕ → Result (List A) ℕ
   joined (Ok items) later = entries_before items later
@@ -24,15 +46,15 @@ module _ {A : Type 0} (item : Stated → Option A) where
   joined_before done (Ok more) (Err n) = refl
   joined_before done (Err n) later = refl
 
-  joined_item : (n : ℕ) (o : Option A) (r later : Result (List A) ℕ) → item_then n o (joined r later) ≡ joined (item_then n o r) later
+  joined_item : (n : ℕ) (o : Option (List A)) (r later : Result (List A) ℕ) → items_then n o (joined r later) ≡ joined (items_then n o r) later
   joined_item n None r later = refl
-  joined_item n (Some x) r later = joined_before (x ∷ []) r later
+  joined_item n (Some xs) r later = joined_before xs r later
 
   items_joined : (es later : List (Result WordAt LogFault)) → items_from item (and_then es later) ≡ joined (items_from item es) (items_from item later)
   items_joined [] later = sym (entries_before-nil (items_from item later))
   items_joined (Err bad ∷ es) later = refl
   items_joined (Ok w ∷ es) later =
-      ap (item_then w.line (item w.word)) (items_joined es later) ∙ joined_item w.line (item w.word) (items_from item es) (items_from item later)
+      ap (items_then w.line (item w.word)) (items_joined es later) ∙ joined_item w.line (item w.word) (items_from item es) (items_from item later)
 
   -- the items so far, before those of the logs that are left
   abbrev pub AreBefore : Reading → List (List ℕ) → Reading → List (List ℕ) → List A → Type 0
@@ -58,6 +80,18 @@ module _ {A : Type 0} (item : Stated → Option A) where
       ∙ ap (entries_before done)
       (items_joined (log_entries next text) (series_entries (reading_after next text) left)
       ∙ ap (λ (r : Result (List A) ℕ). joined r (items_of item (reading_after next text) left)) bad))
+
+module _ {A B : Type 0} (item : Stated → Option A) where
+  -- what is kept of a word, as it is taken
+  pub kept_items : (v : Option Stated) (w : Stated) (old new : List A) (r : Result B KeepFault) → v ≡ Some w → IsKept (item w) old new r
+      → AreKept (items_by item v) old new r
+  kept_items v w old new (Ok b) is (x, its, added) = (x ∷ [], ap (items_by item) is ∙ ap (option_map (λ (a : A). a ∷ [])) its, added)
+  kept_items v w old new (Err (fault.Line why)) is none = ap (items_by item) is ∙ ap (option_map (λ (a : A). a ∷ [])) none
+  kept_items v w old new (Err fault.NoMemory) is kept = tt
+
+  -- nothing, if it is passed over
+  pub kept_nothing : (v : Option Stated) (old : List A) (b : B) → v ≡ None → AreKept {B = B} (items_by item v) old old (Ok b)
+  kept_nothing v old b is = ([], ap (items_by item) is, sym (append-nil old))
 
 -- the bytes of the logs that are left, from one on
 pub logs_left : (logs : List (Vec ℕ Global)) (k : ℕ) (log : Vec ℕ Global) (text : List ℕ) → k < length logs → log ≡ slice_index_or logs k log → text ≡ log.items

@@ -1,6 +1,6 @@
 -- The times of the words of logs: they never fall, and each is below 10^14 microseconds.
-use Rattle.std.proofs.Common.{◌≡◌, ◌+◌, ◌<◌, ◌≤◌, ℕ, zero, suc, true, false, Bool, List, [], ◌∷◌, refl, sym, arith, subst}
-use Rattle.std.specs.Prelude.{⊤, Option, Some, None, Result, Ok, Err, if◌then◌else◌, nat_lt, option_map, slice_get}
+use Rattle.std.proofs.Common.{◌≡◌, ◌∙◌, ◌+◌, ◌-◌, ◌++◌, ◌^◌, ◌<◌, ◌≤◌, ℕ, zero, suc, true, false, Bool, List, [], ◌∷◌, ap, refl, sym, arith, subst}
+use Rattle.std.specs.Prelude.{⊤, Option, Some, None, Result, Ok, Err, if◌then◌else◌, nat_lt, option_and_then, option_map, slice_get}
 use Rattle.std.proofs.lemmas.Bool.Decides.{nat_tests}
 use Rattle.std.proofs.lemmas.Option.{none-some, same_Some}
 use Rattle.a429_word.proofs.Lists.{same_Ok}
@@ -9,7 +9,62 @@ use Rattle.a429_logs.specs.Logs.{NoneBefore, WordAt, series_entries}
 use Rattle.a429_logs.specs.declared.reader.LogFault.{LogFault}
 use Rattle.a429_logs.specs.declared.reading.Reading.{Reading}
 use Rattle.a429_logs.proofs.NeverFall.{series_fall}
-use Rattle.a429_recordings.specs.LogItems.{item_then, items_from, items_of}
+use Rattle.a429_arguments.specs.declared.times.Shift.{Shift}
+use Rattle.a429_arguments.specs.declared.times.Shift.TheVariants as shift
+use Rattle.a429_recordings.specs.LogItems.{items_from, items_of, items_then}
+use Rattle.a429_recordings.specs.LogViews.{View, is_ignored, items_by, moved, since, taken, taken_at, time_in, up_to, viewed}
+
+-- ---- times as they are taken
+
+-- a time that is moved, or 0 if it is moved to before that
+abbrev shifted : Shift → ℕ → ℕ
+shifted (shift.Later by) t = t + by
+shifted (shift.Earlier by) t = t - by
+
+-- the same as it is counted, or 0 if it is before the time from which that is
+abbrev pub moved_to : View → ℕ → ℕ
+moved_to view t = shifted view.shift t - view.from
+
+later_shifted : (by : Shift) (s t : ℕ) → s ≤ t → shifted by s ≤ shifted by t
+later_shifted (shift.Later by) s t after = omega (arith, after)
+later_shifted (shift.Earlier by) s t after = omega (arith, after)
+
+later_moved : (view : View) (s t : ℕ) → s ≤ t → moved_to view s ≤ moved_to view t
+later_moved view s t after = omega (arith, later_shifted view.shift s t after)
+
+taken_within : (small : Bool) (n t : ℕ) → (if small then Some n else None) ≡ Some t → t ≡ n
+taken_within false n t is = absurd (cc is)
+taken_within true n t is = sym (same_Some n t is)
+
+taken_without : (out : Bool) (n t : ℕ) → (if out then None else Some n) ≡ Some t → t ≡ n
+taken_without true n t is = absurd (cc is)
+taken_without false n t is = sym (same_Some n t is)
+
+is_shifted : (by : Shift) (t u : ℕ) → moved by t ≡ Some u → u ≡ shifted by t
+is_shifted (shift.Later by) t u is = taken_within (nat_lt (t + by) (2 ^ 64)) (t + by) u is
+is_shifted (shift.Earlier by) t u is = taken_without (nat_lt t by) (t - by) u is
+
+is_up_to : (until : Option ℕ) (t u : ℕ) → up_to until t ≡ Some u → u ≡ t
+is_up_to None t u is = sym (same_Some t u is)
+is_up_to (Some last) t u is = taken_without (nat_lt last t) t u is
+
+is_counted : (view : View) (m t : ℕ) (s : Option ℕ) → since view.from m ≡ s → option_and_then (up_to view.until) s ≡ Some t → t ≡ m - view.from
+is_counted view m t None first is = absurd (cc is)
+is_counted view m t (Some s) first is = is_up_to view.until s t is ∙ taken_without (nat_lt m view.from) (m - view.from) s first
+
+is_time_in : (view : View) (t u : ℕ) (m : Option ℕ) → moved view.shift t ≡ m
+    → option_and_then (up_to view.until) (option_and_then (since view.from) m) ≡ Some u → u ≡ moved_to view t
+is_time_in view t u None first is = absurd (cc is)
+is_time_in view t u (Some m) first is =
+    is_counted view m u (since view.from m) refl is ∙ ap (λ (n : ℕ). n - view.from) (is_shifted view.shift t m first)
+
+-- a word that is taken has its time moved
+has_moved : (view : View) (w v : Stated) (ignored : Bool) (t : Option ℕ) → time_in view w.time ≡ t
+    → (if ignored then None else option_map (taken_at view w) t) ≡ Some v → v.time ≡ moved_to view w.time
+has_moved view w v true t at is = absurd (cc is)
+has_moved view w v false None at is = absurd (cc is)
+has_moved view w v false (Some t) at is =
+    ap (λ (u : Stated). u.time) (sym (same_Some (taken_at view w t) v is)) ∙ is_time_in view w.time t (moved view.shift w.time) refl at
 
 module _ {A : Type 0} (time : A → ℕ) where
   -- no time is below this one, nor below the time before it, and each is below 10^14
@@ -20,6 +75,10 @@ module _ {A : Type 0} (time : A → ℕ) where
   -- an item has this time, which is below 10^14
   abbrev pub HasTime : ℕ → A → Type 0
   HasTime t x = (time x ≡ t) × (t < 100000000000000)
+
+  abbrev pub HaveTime : ℕ → List A → Type 0
+  HaveTime t [] = ⊤
+  HaveTime t (x ∷ xs) = HasTime t x × HaveTime t xs
 
   timed_by : {P : Type 0} (small : Bool) (t : ℕ) (make : P → A) (o : Option P) (x : A) → nat_lt t 100000000000000 ≡ small → ((p : P) → time (make p) ≡ t)
       → (if small then option_map make o else None) ≡ Some x → HasTime t x
@@ -32,29 +91,59 @@ module _ {A : Type 0} (time : A → ℕ) where
       → (if nat_lt t 100000000000000 then option_map make o else None) ≡ Some x → HasTime t x
   timed_if t make o x made is = timed_by (nat_lt t 100000000000000) t make o x refl made is
 
-  by_item : (last n t : ℕ) (o : Option A) (r : Result (List A) ℕ) (xs : List A) → ((x : A) → o ≡ Some x → HasTime t x) → last ≤ t
-      → ((more : List A) → r ≡ Ok more → AreTimed t more) → item_then n o r ≡ Ok xs → AreTimed last xs
-  by_item last n t None r xs has later known is = absurd (cc is)
-  by_item last n t (Some x) (Err m) xs has later known is = absurd (cc is)
-  by_item last n t (Some x) (Ok more) xs has later known is =
-      let same : time x ≡ t = (has x refl).0 in
-      subst (AreTimed last) (same_Ok (x ∷ more) xs is) (
-        subst (λ (s : ℕ). last ≤ s) (sym same) later,
-        subst (λ (s : ℕ). s < 100000000000000) (sym same) (has x refl).1,
-        subst (λ (s : ℕ). AreTimed s more) (sym same) (known more refl),
-      )
+  -- ---- words as they are taken
 
-  timed_from : (item : Stated → Option A) → ((w : Stated) (x : A) → item w ≡ Some x → HasTime w.time x)
-      → (last : ℕ) (entries : List (Result WordAt LogFault)) (xs : List A) → NoneBefore last entries → items_from item entries ≡ Ok xs → AreTimed last xs
-  timed_from item has last [] xs fall is = subst (AreTimed last) (same_Ok [] xs is) tt
-  timed_from item has last (Err bad ∷ entries) xs fall is = absurd (cc is)
-  timed_from item has last (Ok w ∷ entries) xs fall is =
-      by_item last w.line w.word.time (item w.word) (items_from item entries) xs (has w.word) fall.0 (λ more its. timed_from item has w.word.time entries more fall.1 its) is
+  items_have : (t : ℕ) (o : Option A) (xs : List A) → ((x : A) → o ≡ Some x → HasTime t x) → option_map (λ x. x ∷ []) o ≡ Some xs → HaveTime t xs
+  items_have t None xs has is = absurd (cc is)
+  items_have t (Some x) xs has is = subst (HaveTime t) (same_Some (x ∷ []) xs is) (has x refl, tt)
+
+  taken_have : (view : View) (item : Stated → Option A) (s : ℕ) (v : Option Stated) (xs : List A) → ((w : Stated) (x : A) → item w ≡ Some x → HasTime w.time x)
+      → ((w : Stated) → v ≡ Some w → w.time ≡ moved_to view s) → items_by item v ≡ Some xs → HaveTime (moved_to view s) xs
+  taken_have view item s None xs has at is = subst (HaveTime (moved_to view s)) (same_Some [] xs is) tt
+  taken_have view item s (Some w) xs has at is = subst (λ (t : ℕ). HaveTime t xs) (at w refl) (items_have w.time (item w) xs (has w) is)
+
+  viewed_have : (view : View) (item : Stated → Option A) → ((w : Stated) (x : A) → item w ≡ Some x → HasTime w.time x)
+      → (w : Stated) (xs : List A) → viewed view item w ≡ Some xs → HaveTime (moved_to view w.time) xs
+  viewed_have view item has w xs is =
+      taken_have view item w.time (taken view w) xs has
+      (λ v taken_is. has_moved view w v (is_ignored view.ignored w.name) (time_in view w.time) refl taken_is) is
+
+  -- ---- all words
+
+  timed_later : (last t : ℕ) (xs : List A) → last ≤ t → AreTimed t xs → AreTimed last xs
+  timed_later last t [] after are = tt
+  timed_later last t (x ∷ xs) after are = (omega (arith, after, are.0), are.1, are.2)
+
+  timed_then : (last t : ℕ) (xs more : List A) → last ≤ t → HaveTime t xs → AreTimed t more → AreTimed last (xs ++ more)
+  timed_then last t [] more after have are = timed_later last t more after are
+  timed_then last t (x ∷ xs) more after have are = (
+    subst (λ (s : ℕ). last ≤ s) (sym have.0.0) after,
+    subst (λ (s : ℕ). s < 100000000000000) (sym have.0.0) have.0.1,
+    subst (λ (s : ℕ). AreTimed s (xs ++ more)) (sym have.0.0) (timed_then t t xs more (omega arith) have.1 are),
+  )
+
+  by_items : (last n t : ℕ) (o : Option (List A)) (r : Result (List A) ℕ) (xs : List A) → ((own : List A) → o ≡ Some own → HaveTime t own) → last ≤ t
+      → ((more : List A) → r ≡ Ok more → AreTimed t more) → items_then n o r ≡ Ok xs → AreTimed last xs
+  by_items last n t None r xs has later known is = absurd (cc is)
+  by_items last n t (Some own) (Err m) xs has later known is = absurd (cc is)
+  by_items last n t (Some own) (Ok more) xs has later known is =
+      subst (AreTimed last) (same_Ok (own ++ more) xs is) (timed_then last t own more later (has own refl) (known more refl))
+
+  timed_from : (view : View) (item : Stated → Option (List A)) → ((w : Stated) (xs : List A) → item w ≡ Some xs → HaveTime (moved_to view w.time) xs)
+      → (last : ℕ) (entries : List (Result WordAt LogFault)) (xs : List A) → NoneBefore last entries → items_from item entries ≡ Ok xs
+      → AreTimed (moved_to view last) xs
+  timed_from view item has last [] xs fall is = subst (AreTimed (moved_to view last)) (same_Ok [] xs is) tt
+  timed_from view item has last (Err bad ∷ entries) xs fall is = absurd (cc is)
+  timed_from view item has last (Ok w ∷ entries) xs fall is =
+      by_items (moved_to view last) w.line (moved_to view w.word.time) (item w.word) (items_from item entries) xs (has w.word)
+      (later_moved view last w.word.time fall.0) (λ more its. timed_from view item has w.word.time entries more fall.1 its) is
 
   -- the items of logs
-  pub items_timed : (item : Stated → Option A) (reading : Reading) (logs : List (List ℕ)) (xs : List A) → ((w : Stated) (x : A) → item w ≡ Some x → HasTime w.time x)
-      → items_of item reading logs ≡ Ok xs → AreTimed reading.clock.last xs
-  items_timed item reading logs xs has is = timed_from item has reading.clock.last (series_entries reading logs) xs (series_fall reading logs) is
+  pub items_timed : (view : View) (item : Stated → Option A) (reading : Reading) (logs : List (List ℕ)) (xs : List A)
+      → ((w : Stated) (x : A) → item w ≡ Some x → HasTime w.time x) → items_of (viewed view item) reading logs ≡ Ok xs
+      → AreTimed (moved_to view reading.clock.last) xs
+  items_timed view item reading logs xs has is =
+      timed_from view (viewed view item) (viewed_have view item has) reading.clock.last (series_entries reading logs) xs (series_fall reading logs) is
 
   -- ---- by their places
 

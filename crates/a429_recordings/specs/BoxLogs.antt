@@ -16,7 +16,8 @@ use Rattle.a429_judge.specs.declared.facts.Mark.{Mark}
 use Rattle.a429_console.specs.RefusalText.{OrMemory}
 use Rattle.a429_console.specs.declared.refusals.CommandRefusal.{CommandRefusal}
 use Rattle.a429_console.specs.declared.refusals.CommandRefusal.TheVariants as refused
-use Rattle.a429_recordings.specs.LogItems.{IsItemFault, items_of, named, reading_behind}
+use Rattle.a429_recordings.specs.LogItems.{IsItemFault, items_of, reading_behind}
+use Rattle.a429_recordings.specs.LogViews.{View, viewed}
 use Rattle.a429_recordings.specs.declared.judge.words.BoxLog.{BoxLog}
 use Rattle.a429_recordings.specs.declared.judge.words.BoxLog.TheVariants as log
 use Rattle.a429_recordings.specs.declared.judge.words.BoxWord.{BoxWord}
@@ -58,16 +59,21 @@ box_word names l w =
     if nat_lt w.time 100000000000000 then option_map (λ place. record { time = w.time; place = place; raw = w.raw }) (place_named names l w.name)
     else None
 
--- the same, with channels taken as names
-abbrev pub box_word_by : Naming → List (List ℕ) → BoxLog → Stated → Option BoxWord
-box_word_by names channels l = named channels (box_word names l)
+-- the same, of a word as it is taken
+abbrev pub box_word_by : Naming → View → BoxLog → Stated → Option (List BoxWord)
+box_word_by names view l = viewed view (box_word names l)
 
 -- ---- how logs are read
 
--- how the first log of what was sent is read, after those of what came in: times are counted from the same one, and begin again
+-- How the first log of what was sent is read, after those of what came in: its times begin again. They are moved and then counted from the same one
+-- (`view_after`); without a word that came in, from that of its first word.
 abbrev pub restarted : Reading → Reading
 restarted reading =
-    record reading { shape = None; calendar = begun_again reading.calendar; clock = record { base = reading.clock.base; last = 0 } }
+    record reading {
+      shape = None;
+      calendar = begun_again reading.calendar;
+      clock = record { base = option_map (λ _. 0) reading.clock.base; last = 0 };
+    }
 
 -- the first word of a log comes no later than the last of another
 abbrev pub begins_by : List BoxWord → List BoxWord → Bool
@@ -78,7 +84,7 @@ abbrev pub overlap : List BoxWord → List BoxWord → Bool
 overlap words other = begins_by words other && begins_by other words
 
 -- the words of logs and how the next log is read, or the first faulty line
-abbrev pub IsLogsReading : (Stated → Option BoxWord) → Reading → List (List ℕ) → Result BoxWords CommandRefusal → Type 0
+abbrev pub IsLogsReading : (Stated → Option (List BoxWord)) → Reading → List (List ℕ) → Result BoxWords CommandRefusal → Type 0
 IsLogsReading item reading texts result =
     MatchResult result (λ read. (items_of item reading texts ≡ Ok read.words.items) × (read.next ≡ reading_behind reading texts)) (OrMemory (IsItemFault item reading texts))
 

@@ -22,6 +22,7 @@ use Rattle.a429_judge.specs.Recordings.{Recording}
 use Rattle.a429_recordings.specs.BoxLogs.{box_word_by, overlap, recording_of, restarted}
 use Rattle.a429_recordings.specs.JudgedPlans.{event_columns, is_any_wide, is_found, judge_columns, judge_events, judged_rows}
 use Rattle.a429_recordings.specs.LogItems.{IsItemFault, items_of, reading_behind}
+use Rattle.a429_recordings.specs.LogViews.{View, view_after, view_of}
 use Rattle.a429_recordings.specs.SimulationReplies.{reading_for}
 use Rattle.a429_recordings.specs.declared.judge.JudgeForm.{JudgeForm}
 use Rattle.a429_recordings.specs.declared.judge.JudgeInput.{JudgeInput}
@@ -38,20 +39,21 @@ judge_form given = record { events = has_given given option.Events; form = form_
 
 -- ---- files
 
--- the names of the files: a table, the logs of what came in, and those of what was sent; or their bytes. And as which names channels in the logs are
--- taken, and the tolerances that are given.
+-- the names of the files: a table, the logs of what came in, and those of what was sent; or their bytes. And which words of either are taken, and the
+-- tolerances that are given.
 pub record BoxFiles (A : Type 0) : Type 0 where
   pub table : A
   pub heard : List A
   pub sent : List A
-  pub channels : List (List ℕ)
+  pub heard_view : View
+  pub sent_view : View
   pub tolerances : List (List ℕ)
 
 -- these are the bytes of the files of these names, and what is given with them is the same
 abbrev pub AreBoxFiles : (List ℕ → Option (List ℕ)) → BoxFiles (List ℕ) → BoxFiles (List ℕ) → Type 0
 AreBoxFiles file names i =
     (readable (file names.table) ≡ Some i.table) × AreReadLogs file names.heard i.heard × AreReadLogs file names.sent i.sent
-    × (i.channels ≡ names.channels) × (i.tolerances ≡ names.tolerances)
+    × (i.heard_view ≡ names.heard_view) × (i.sent_view ≡ names.sent_view) × (i.tolerances ≡ names.tolerances)
 
 -- of these files the first that cannot be read
 abbrev pub IsUnreadBoxFile : (List ℕ → Option (List ℕ)) → BoxFiles (List ℕ) → CommandRefusal → Type 0
@@ -63,45 +65,45 @@ IsUnreadBoxFile file names refusal =
 
 -- ---- logs
 
--- a word of a log, with channels taken as names
-abbrev pub word_by : Proposed → List (List ℕ) → BoxLog → Stated → Option BoxWord
-word_by q channels l = box_word_by (naming_of q.station) channels l
+-- a word of a log, as it is taken
+abbrev pub word_by : Proposed → View → BoxLog → Stated → Option (List BoxWord)
+word_by q view l = box_word_by (naming_of q.station) view l
 
 -- the words that came in, or the first faulty line
-abbrev pub heard_words : Proposed → List (List ℕ) → Reading → List (List ℕ) → Result (List BoxWord) ℕ
-heard_words q channels reading texts = items_of (word_by q channels log.Heard) reading texts
+abbrev pub heard_words : Proposed → View → Reading → List (List ℕ) → Result (List BoxWord) ℕ
+heard_words q view reading texts = items_of (word_by q view log.Heard) reading texts
 
--- how the logs of what was sent are read, after these
-abbrev pub sent_reading : Reading → List (List ℕ) → Reading
-sent_reading reading heard = restarted (reading_behind reading heard)
+-- a word that was sent, in a log after those that are read so
+abbrev pub sent_by : Proposed → View → Reading → Stated → Option (List BoxWord)
+sent_by q view after = word_by q (view_after after view) log.Sent
 
 -- the words that were sent
-abbrev pub sent_words : Proposed → List (List ℕ) → Reading → List (List ℕ) → Result (List BoxWord) ℕ
-sent_words q channels reading texts = items_of (word_by q channels log.Sent) reading texts
+abbrev pub sent_words : Proposed → View → Reading → List (List ℕ) → Result (List BoxWord) ℕ
+sent_words q view after texts = items_of (sent_by q view after) (restarted after) texts
 
 -- the logs have these words, and a time in common; this is the recording of them
 pub record IsRecording (q : Proposed) (i : BoxFiles (List ℕ)) (reading : Reading) (r : Recording) : Type 0 where
   pub heard : List BoxWord
   pub sent : List BoxWord
-  pub heard_are : heard_words q i.channels reading i.heard ≡ Ok heard
-  pub sent_are : sent_words q i.channels (sent_reading reading i.heard) i.sent ≡ Ok sent
+  pub heard_are : heard_words q i.heard_view reading i.heard ≡ Ok heard
+  pub sent_are : sent_words q i.sent_view (reading_behind reading i.heard) i.sent ≡ Ok sent
   pub common : overlap heard sent ≡ true
   pub recorded : r ≡ recording_of q.station heard sent
 
 -- a line of what came in is faulty
 abbrev pub IsHeardFault : Proposed → BoxFiles (List ℕ) → Reading → CommandRefusal → Type 0
-IsHeardFault q i reading refusal = IsItemFault (word_by q i.channels log.Heard) reading i.heard refusal
+IsHeardFault q i reading refusal = IsItemFault (word_by q i.heard_view log.Heard) reading i.heard refusal
 
 -- none is, but a line of what was sent
 abbrev pub IsSentFault : Proposed → BoxFiles (List ℕ) → Reading → CommandRefusal → Type 0
 IsSentFault q i reading refusal =
-    (heard : List BoxWord) × (heard_words q i.channels reading i.heard ≡ Ok heard)
-    × IsItemFault (word_by q i.channels log.Sent) (sent_reading reading i.heard) i.sent refusal
+    (heard : List BoxWord) × (heard_words q i.heard_view reading i.heard ≡ Ok heard)
+    × IsItemFault (sent_by q i.sent_view (reading_behind reading i.heard)) (restarted (reading_behind reading i.heard)) i.sent refusal
 
 -- no line is faulty, but the logs have no time in common
 abbrev pub AreApart : Proposed → BoxFiles (List ℕ) → Reading → CommandRefusal → Type 0
 AreApart q i reading refusal =
-    (heard sent : List BoxWord) × (heard_words q i.channels reading i.heard ≡ Ok heard) × (sent_words q i.channels (sent_reading reading i.heard) i.sent ≡ Ok sent)
+    (heard sent : List BoxWord) × (heard_words q i.heard_view reading i.heard ≡ Ok heard) × (sent_words q i.sent_view (reading_behind reading i.heard) i.sent ≡ Ok sent)
     × (overlap heard sent ≡ false) × (refusal ≡ refused.Apart)
 
 abbrev pub IsNoRecording : Proposed → BoxFiles (List ℕ) → Reading → CommandRefusal → Type 0
@@ -171,7 +173,8 @@ names_of n = record {
   table = n.table.now;
   heard = n.heard.now ∷ texts_of n.more_heard.now;
   sent = n.sent.now ∷ texts_of n.more_sent.now;
-  channels = texts_of n.channels.now;
+  heard_view = view_of n.heard_view;
+  sent_view = view_of n.sent_view;
   tolerances = texts_of n.tolerances.now;
 }
 
@@ -180,7 +183,8 @@ files_of i = record {
   table = i.table.items;
   heard = bytes_of i.heard.items;
   sent = bytes_of i.sent.items;
-  channels = texts_of i.channels.now;
+  heard_view = view_of i.heard_view;
+  sent_view = view_of i.sent_view;
   tolerances = texts_of i.tolerances.now;
 }
 

@@ -1,4 +1,5 @@
 pub mod LogItems
+pub mod LogViews
 pub mod SimulationLog
 pub mod Timeline
 pub mod Tracks

@@ -1,6 +1,5 @@
--- Logs as commands take them: what each word becomes is given, and a word that becomes nothing makes its line faulty (profile: log).
+-- Logs as commands take them: which items each word becomes is given, and a word that is refused makes its line faulty (profile: log).
 use Rattle.std.specs.Prelude.{◌≡◌, ◌∷◌, ◌++◌, [], ◌⊎◌, ⊤, ℕ, List, Option, Some, None, Result, Ok, Err, MatchResult, fold}
-use Rattle.a429_text.specs.Renames.{renamed}
 use Rattle.a429_logs.specs.Logs.{WordAt, log_entries, reading_after, series_entries}
 use Rattle.a429_logs.specs.LogRows.{Stated}
 use Rattle.a429_logs.specs.declared.reader.LogFault.{LogFault}
@@ -10,6 +9,7 @@ use Rattle.a429_console.specs.Lines.{entries_before}
 use Rattle.a429_console.specs.RefusalText.{OrMemory}
 use Rattle.a429_console.specs.declared.refusals.CommandRefusal.{CommandRefusal}
 use Rattle.a429_console.specs.declared.refusals.CommandRefusal.TheVariants as refused
+use Rattle.a429_recordings.specs.LogViews.{View, view_of}
 use Rattle.a429_recordings.specs.declared.logs.LogNames.{LogNames}
 use Rattle.a429_recordings.specs.declared.logs.keeping.KeepFault.{KeepFault}
 use Rattle.a429_recordings.specs.declared.logs.keeping.KeepFault.TheVariants as fault
@@ -20,36 +20,28 @@ use Rattle.a429_recordings.specs.declared.logs.keeping.KeepFault.TheVariants as 
 abbrev pub logs_named : LogNames → List (List ℕ)
 logs_named n = n.first.now ∷ texts_of n.more.now
 
--- as which names channels in them are taken, each FROM=TO
-abbrev pub channels_named : LogNames → List (List ℕ)
-channels_named n = texts_of n.channels.now
-
--- a word by the name as which its channel is taken (`--channel`)
-abbrev pub with_name : List (List ℕ) → Stated → Stated
-with_name channels w = record w { name = renamed channels w.name }
-
--- what a word becomes by that name
-abbrev pub named : {A : Type 0} → List (List ℕ) → (Stated → Option A) → Stated → Option A
-named channels item w = item (with_name channels w)
+-- which words of them are taken, and how
+abbrev pub view_named : LogNames → View
+view_named n = view_of n.view
 
 -- ---- items
 
-abbrev pub item_then : {A : Type 0} → ℕ → Option A → Result (List A) ℕ → Result (List A) ℕ
-item_then line None later = Err line
-item_then line (Some x) later = entries_before (x ∷ []) later
+abbrev pub items_then : {A : Type 0} → ℕ → Option (List A) → Result (List A) ℕ → Result (List A) ℕ
+items_then line None later = Err line
+items_then line (Some xs) later = entries_before xs later
 
--- the items of what logs state, or the number of the first line that is faulty or whose word becomes nothing
-abbrev pub items_from : {A : Type 0} → (Stated → Option A) → List (Result WordAt LogFault) → Result (List A) ℕ
+-- the items of what logs state, or the number of the first line that is faulty or whose word is refused
+abbrev pub items_from : {A : Type 0} → (Stated → Option (List A)) → List (Result WordAt LogFault) → Result (List A) ℕ
 items_from item [] = Ok []
 items_from item (Err fault ∷ later) = Err fault.line
-items_from item (Ok w ∷ later) = item_then w.line (item w.word) (items_from item later)
+items_from item (Ok w ∷ later) = items_then w.line (item w.word) (items_from item later)
 
 -- the items of several logs, read as if they were one; a line is numbered from 1 in the log that has it
-abbrev pub items_of : {A : Type 0} → (Stated → Option A) → Reading → List (List ℕ) → Result (List A) ℕ
+abbrev pub items_of : {A : Type 0} → (Stated → Option (List A)) → Reading → List (List ℕ) → Result (List A) ℕ
 items_of item reading texts = items_from item (series_entries reading texts)
 
 -- the refusal names the first faulty line
-abbrev pub IsItemFault : {A : Type 0} → (Stated → Option A) → Reading → List (List ℕ) → CommandRefusal → Type 0
+abbrev pub IsItemFault : {A : Type 0} → (Stated → Option (List A)) → Reading → List (List ℕ) → CommandRefusal → Type 0
 IsItemFault item reading texts (refused.LogLine n) = items_of item reading texts ≡ Err n
 IsItemFault item reading texts _ = ⊥
 
@@ -65,18 +57,24 @@ IsKept {A = A} item old new (Ok _) = (x : A) × (item ≡ Some x) × (new ≡ ol
 IsKept item old new (Err (fault.Line why)) = item ≡ None
 IsKept item old new (Err fault.NoMemory) = ⊤
 
+-- the items of a word come after what was kept before, unless the word makes its line faulty
+abbrev pub AreKept : {A B : Type 0} → Option (List A) → List A → List A → Result B KeepFault → Type 0
+AreKept {A = A} items old new (Ok _) = (xs : List A) × (items ≡ Some xs) × (new ≡ old ++ xs)
+AreKept items old new (Err (fault.Line why)) = items ≡ None
+AreKept items old new (Err fault.NoMemory) = ⊤
+
 -- the refusal names the first faulty line of a log, or an allocation failed
-abbrev pub RefusesLog : {A : Type 0} → (Stated → Option A) → Reading → List ℕ → CommandRefusal → Type 0
+abbrev pub RefusesLog : {A : Type 0} → (Stated → Option (List A)) → Reading → List ℕ → CommandRefusal → Type 0
 RefusesLog item reading text refusal =
     (refusal ≡ refused.Memory) ⊎ ((n : ℕ) × (refusal ≡ refused.LogLine n) × (items_from item (log_entries reading text) ≡ Err n))
 
 -- the items of a log come after those that there are, and the next log is read so; or the log is faulty
-abbrev pub KeepsLog : {A : Type 0} → (Stated → Option A) → Reading → List ℕ → List A → List A → Result Reading CommandRefusal → Type 0
+abbrev pub KeepsLog : {A : Type 0} → (Stated → Option (List A)) → Reading → List ℕ → List A → List A → Result Reading CommandRefusal → Type 0
 KeepsLog item reading text old new result =
     MatchResult result (λ next. (next ≡ reading_after reading text) × (entries_before old (items_from item (log_entries reading text)) ≡ Ok new))
     (RefusesLog item reading text)
 
 -- these are the items of logs, and the next log is read so; or a log is faulty
-abbrev pub KeepsLogs : {A : Type 0} → (Stated → Option A) → Reading → List (List ℕ) → List A → Result Reading CommandRefusal → Type 0
+abbrev pub KeepsLogs : {A : Type 0} → (Stated → Option (List A)) → Reading → List (List ℕ) → List A → Result Reading CommandRefusal → Type 0
 KeepsLogs item reading texts items result =
     MatchResult result (λ next. (items_of item reading texts ≡ Ok items) × (next ≡ reading_behind reading texts)) (OrMemory (IsItemFault item reading texts))

@@ -7,7 +7,8 @@ use Rattle.a429_logs.specs.declared.reading.Reading.{Reading}
 use Rattle.a429_console.specs.Names.{Naming, number_named}
 use Rattle.a429_console.specs.RefusalText.{OrMemory}
 use Rattle.a429_console.specs.declared.refusals.CommandRefusal.{CommandRefusal}
-use Rattle.a429_recordings.specs.LogItems.{IsItemFault, items_of, named}
+use Rattle.a429_recordings.specs.LogItems.{IsItemFault, items_of}
+use Rattle.a429_recordings.specs.LogViews.{View, viewed}
 use Rattle.a429_recordings.specs.declared.simulate.log.LogWord.{LogWord}
 
 -- a word at the receiver of this name; its time is below 10^14 microseconds
@@ -16,22 +17,22 @@ word_for names w =
     if nat_lt w.time 100000000000000 then option_map (λ r. record { time = w.time; receiver = r; raw = w.raw }) (number_named names.receivers w.name)
     else None
 
--- the same, with channels taken as names
-abbrev pub log_word_by : Naming → List (List ℕ) → Stated → Option LogWord
-log_word_by names channels = named channels (word_for names)
+-- the same, of a word as it is taken
+abbrev pub log_word_by : Naming → View → Stated → Option (List LogWord)
+log_word_by names view = viewed view (word_for names)
 
--- the words of logs in order, with channels taken as names, or the number of the first faulty line, from 1
-unfoldable pub log_words : Naming → List (List ℕ) → Reading → List (List ℕ) → Result (List LogWord) ℕ
-log_words names channels reading texts = items_of (log_word_by names channels) reading texts
+-- the words of logs in order, as they are taken, or the number of the first faulty line, from 1
+unfoldable pub log_words : Naming → View → Reading → List (List ℕ) → Result (List LogWord) ℕ
+log_words names view reading texts = items_of (log_word_by names view) reading texts
 
 -- the number is that of the first faulty line
-abbrev pub IsLogFault : Naming → List (List ℕ) → Reading → List (List ℕ) → CommandRefusal → Type 0
-IsLogFault names channels reading texts refusal = IsItemFault (log_word_by names channels) reading texts refusal
+abbrev pub IsLogFault : Naming → View → Reading → List (List ℕ) → CommandRefusal → Type 0
+IsLogFault names view reading texts refusal = IsItemFault (log_word_by names view) reading texts refusal
 
 -- what reading logs gives: their words, or the number of the first faulty line
-abbrev pub IsLogReading : Naming → List (List ℕ) → Reading → List (List ℕ) → Result (Vec LogWord Global) CommandRefusal → Type 0
-IsLogReading names channels reading texts result =
-    MatchResult result (λ words. log_words names channels reading texts ≡ Ok words.items) (OrMemory (IsLogFault names channels reading texts))
+abbrev pub IsLogReading : Naming → View → Reading → List (List ℕ) → Result (Vec LogWord Global) CommandRefusal → Type 0
+IsLogReading names view reading texts result =
+    MatchResult result (λ words. log_words names view reading texts ≡ Ok words.items) (OrMemory (IsLogFault names view reading texts))
 
 -- no word comes in before the one above it, and each time has at most fourteen digits
 pub record AreInTime (words : List LogWord) : Type 0 where

@@ -20,7 +20,8 @@ use Rattle.a429_console.specs.Tables.{IsProposedBy, IsTableRefusal}
 use Rattle.a429_console.specs.declared.refusals.CommandRefusal.{CommandRefusal}
 use Rattle.a429_console.specs.declared.refusals.CommandRefusal.TheVariants as refused
 use Rattle.a429_recordings.specs.CloseWords.{AreSpaced}
-use Rattle.a429_recordings.specs.LogItems.{channels_named, logs_named}
+use Rattle.a429_recordings.specs.LogItems.{logs_named, view_named}
+use Rattle.a429_recordings.specs.LogViews.{View, view_of}
 use Rattle.a429_recordings.specs.SimulationLog.{IsLogFault, log_words}
 use Rattle.a429_recordings.specs.Timeline.{TimelineIsBegun, IsTimeline, SendsTooMuch, end_of}
 use Rattle.a429_recordings.specs.Simulating.{happenings_of, steps_of, text_of}
@@ -38,9 +39,9 @@ use Rattle.a429_recordings.specs.declared.simulate.machine.Happening.{Happening}
 use Rattle.a429_recordings.specs.declared.simulate.moments.Moment.{Moment}
 use Rattle.a429_recordings.specs.declared.simulate.playing.Player.{Player}
 
--- times are counted from a time on, or from that of the first word
+-- times are read as they are, and then counted from a time on (`from_of`); or they are counted from that of the first word
 abbrev pub clock_from : LogOrigin → Clock
-clock_from (origin.Time base) = record { base = Some base; last = 0 }
+clock_from (origin.Time base) = record { base = Some 0; last = 0 }
 clock_from origin.First = record { base = None; last = 0 }
 
 -- how the first line of a log is read
@@ -63,15 +64,15 @@ simulation_form given = record {
   reading = reading_for given;
 }
 
--- the bytes of the files that a simulation reads, and as which names channels in the logs are taken
+-- the bytes of the files that a simulation reads, and which words of the logs are taken
 pub record SimulationFiles : Type 0 where
   pub table : List ℕ
   pub logs : List (List ℕ)
-  pub channels : List (List ℕ)
+  pub view : View
 
 -- they are those of the files of these names, which are all read before any is looked at
-abbrev pub AreSimulationFiles : (List ℕ → Option (List ℕ)) → List ℕ → List (List ℕ) → List (List ℕ) → SimulationFiles → Type 0
-AreSimulationFiles file table logs channels i = (readable (file table) ≡ Some i.table) × AreReadLogs file logs i.logs × (i.channels ≡ channels)
+abbrev pub AreSimulationFiles : (List ℕ → Option (List ℕ)) → List ℕ → List (List ℕ) → View → SimulationFiles → Type 0
+AreSimulationFiles file table logs view i = (readable (file table) ≡ Some i.table) × AreReadLogs file logs i.logs × (i.view ≡ view)
 
 -- of these files the first that cannot be read
 abbrev pub IsUnreadFile : (List ℕ → Option (List ℕ)) → List ℕ → List (List ℕ) → CommandRefusal → Type 0
@@ -81,11 +82,11 @@ IsUnreadFile file table logs refusal =
 -- the table has a plan, at whose slot 0 the station opens, and the log these words
 pub record IsSimulated (i : SimulationFiles) (reading : Reading) (q : Proposed) (words : List LogWord) : Type 0 where
   pub proposed : IsProposedBy i.table q
-  pub words_are : log_words (naming_of q.station) i.channels reading i.logs ≡ Ok words
+  pub words_are : log_words (naming_of q.station) i.view reading i.logs ≡ Ok words
 
 -- of a table with a plan, the log has a fault
 abbrev pub IsLogRefusal : SimulationFiles → Reading → CommandRefusal → Type 0
-IsLogRefusal i reading refusal = (q : Proposed) × IsProposedBy i.table q × IsLogFault (naming_of q.station) i.channels reading i.logs refusal
+IsLogRefusal i reading refusal = (q : Proposed) × IsProposedBy i.table q × IsLogFault (naming_of q.station) i.view reading i.logs refusal
 
 -- why there is no simulation of these bytes: the table or its plan, or the log
 abbrev pub IsNoSimulation : SimulationFiles → Reading → CommandRefusal → Type 0
@@ -102,10 +103,10 @@ abbrev pub IsUnsimulated : SimulationFiles → SimulationForm → CommandRefusal
 IsUnsimulated i form refusal = IsNoSimulation i form.reading refusal ⊎ IsLongRefusal i form refusal
 
 -- why there is no simulation: a file, the bytes, or that it would be too long
-abbrev pub IsSimulationRefusal : (List ℕ → Option (List ℕ)) → List ℕ → List (List ℕ) → List (List ℕ) → SimulationForm → CommandRefusal → Type 0
-IsSimulationRefusal file table logs channels form refusal =
+abbrev pub IsSimulationRefusal : (List ℕ → Option (List ℕ)) → List ℕ → List (List ℕ) → View → SimulationForm → CommandRefusal → Type 0
+IsSimulationRefusal file table logs view form refusal =
     IsUnreadFile file table logs refusal
-    ⊎ ((i : SimulationFiles) × AreSimulationFiles file table logs channels i × IsUnsimulated i form refusal)
+    ⊎ ((i : SimulationFiles) × AreSimulationFiles file table logs view i × IsUnsimulated i form refusal)
 
 -- what comes before the lines: with commas the names of the fields
 abbrev pub heading : LineStyle → List ℕ
@@ -140,30 +141,30 @@ IsWritten q words last true style form = IsSummary q words last form
 IsWritten q words last false style form = IsPrinting q words last style
 
 -- what `simulate` writes, and its status: the line of a refusal, or what the simulation prints
-abbrev pub IsSimulation : (List ℕ → Option (List ℕ)) → List ℕ → List (List ℕ) → List (List ℕ) → SimulationForm → ℕ → List ℕ → Type 0
-IsSimulation file table logs channels form status bytes =
-    ((refusal : CommandRefusal) × OrMemory (IsSimulationRefusal file table logs channels form) refusal × (status ≡ 1) × (bytes ≡ refusal_line refusal ++ 10 ∷ []))
-    ⊎ ((i : SimulationFiles) × (q : Proposed) × (words : List LogWord) × AreSimulationFiles file table logs channels i × IsSimulated i form.reading q words
+abbrev pub IsSimulation : (List ℕ → Option (List ℕ)) → List ℕ → List (List ℕ) → View → SimulationForm → ℕ → List ℕ → Type 0
+IsSimulation file table logs view form status bytes =
+    ((refusal : CommandRefusal) × OrMemory (IsSimulationRefusal file table logs view form) refusal × (status ≡ 1) × (bytes ≡ refusal_line refusal ++ 10 ∷ []))
+    ⊎ ((i : SimulationFiles) × (q : Proposed) × (words : List LogWord) × AreSimulationFiles file table logs view i × IsSimulated i form.reading q words
     × IsWritten q words (end_of q words form.until) form.summary form.style form.form status bytes)
 
 -- the words of the logs that are simulated are apart
-abbrev pub SimulatesSpacedWords : (List ℕ → Option (List ℕ)) → List ℕ → List (List ℕ) → List (List ℕ) → SimulationForm → Type 0
-SimulatesSpacedWords file table logs channels form =
-    (i : SimulationFiles) (q : Proposed) (words : List LogWord) → AreSimulationFiles file table logs channels i → IsSimulated i form.reading q words → AreSpaced words
+abbrev pub SimulatesSpacedWords : (List ℕ → Option (List ℕ)) → List ℕ → List (List ℕ) → View → SimulationForm → Type 0
+SimulatesSpacedWords file table logs view form =
+    (i : SimulationFiles) (q : Proposed) (words : List LogWord) → AreSimulationFiles file table logs view i → IsSimulated i form.reading q words → AreSpaced words
 
 -- ---- by the values of the program
 
 abbrev pub files_of : SimulationInput → SimulationFiles
-files_of i = record { table = i.table.items; logs = bytes_of i.logs.items; channels = texts_of i.channels.now }
+files_of i = record { table = i.table.items; logs = bytes_of i.logs.items; view = view_of i.view }
 
 -- what it writes of the logs of these names
 abbrev pub IsSimulationOf : (List ℕ → Option (List ℕ)) → List ℕ → LogNames → SimulationForm → ℕ → List ℕ → Type 0
-IsSimulationOf file table names form = IsSimulation file table (logs_named names) (channels_named names) form
+IsSimulationOf file table names form = IsSimulation file table (logs_named names) (view_named names) form
 
 -- what reading the files gives: their bytes, or the first that cannot be read
 abbrev pub IsSimulationReading : (List ℕ → Option (List ℕ)) → List ℕ → LogNames → Result SimulationInput CommandRefusal → Type 0
 IsSimulationReading file table names result =
-    MatchResult result (λ i. AreSimulationFiles file table (logs_named names) (channels_named names) (files_of i))
+    MatchResult result (λ i. AreSimulationFiles file table (logs_named names) (view_named names) (files_of i))
     (OrMemory (IsUnreadFile file table (logs_named names)))
 
 -- a station of a table's bytes, with its names
@@ -173,13 +174,13 @@ IsSettingOf table style s = IsProposedBy table s.proposal × HasStationNames s.n
 -- a beginning with the words of the logs
 abbrev pub BeginsLog : Setting → SimulationFiles → SimulationForm → Player → Type 0
 BeginsLog s i form p =
-    (words : List LogWord) × (log_words s.names i.channels form.reading i.logs ≡ Ok words) × IsBegin s.proposal words (end_of s.proposal words form.until) p
+    (words : List LogWord) × (log_words s.names i.view form.reading i.logs ≡ Ok words) × IsBegin s.proposal words (end_of s.proposal words form.until) p
 
 -- why there is none: the log, or that a group would send too much
 abbrev pub BeginsNoLog : Setting → SimulationFiles → SimulationForm → CommandRefusal → Type 0
 BeginsNoLog s i form refusal =
-    IsLogFault s.names i.channels form.reading i.logs refusal
-    ⊎ ((words : List LogWord) × (log_words s.names i.channels form.reading i.logs ≡ Ok words) × (refusal ≡ refused.TooMuch)
+    IsLogFault s.names i.view form.reading i.logs refusal
+    ⊎ ((words : List LogWord) × (log_words s.names i.view form.reading i.logs ≡ Ok words) × (refusal ≡ refused.TooMuch)
     × SendsTooMuch s.proposal words (end_of s.proposal words form.until))
 
 -- it has the names of its station, and can be played

@@ -14,7 +14,8 @@ use Rattle.a429_console.specs.RefusalText.{OrMemory}
 use Rattle.a429_arguments.specs.Given.{Given, form_of, has_given, number_given}
 use Rattle.a429_arguments.specs.declared.options.OptionName.TheVariants as option
 use Rattle.a429_console.specs.declared.refusals.CommandRefusal.{CommandRefusal}
-use Rattle.a429_recordings.specs.LogItems.{IsItemFault, channels_named, items_of, logs_named, named}
+use Rattle.a429_recordings.specs.LogItems.{IsItemFault, items_of, logs_named, view_named}
+use Rattle.a429_recordings.specs.LogViews.{View, viewed}
 use Rattle.a429_recordings.specs.SimulationReplies.{reading_for}
 use Rattle.a429_recordings.specs.declared.logs.LogNames.{LogNames}
 use Rattle.a429_recordings.specs.declared.survey.SurveyForm.{SurveyForm}
@@ -27,9 +28,9 @@ text_in name = if is_utf8 name then Some name else None
 unfoldable pub noted_of : Stated → Option Noted
 noted_of w = option_map (λ name. record { time = w.time; name = name; raw = w.raw }) (text_in w.name)
 
--- the same, with channels taken as names
-abbrev pub noted_by : List (List ℕ) → Stated → Option Noted
-noted_by channels = named channels noted_of
+-- the same, of a word as it is taken
+abbrev pub noted_by : View → Stated → Option (List Noted)
+noted_by view = viewed view noted_of
 
 -- what the options ask for: a bit rate of 100000 bit/s, and intervals widened by 25 per cent, unless others are given
 -- (profile: docs/RULES.md, Limits)
@@ -46,19 +47,19 @@ abbrev pub survey_text : SurveyForm → Option ℕ → List Noted → List ℕ
 survey_text f None words = sheet_text f.form survey_columns (survey_rows f.rate words)
 survey_text f (Some slack) words = sheet_text form.Csv start_columns (start_rows slack f.rate words)
 
--- what `survey` prints of the logs of these names, with channels taken as names
-abbrev pub IsSurvey : (List ℕ → Option (List ℕ)) → List (List ℕ) → List (List ℕ) → SurveyForm → List ℕ → Type 0
-IsSurvey file names channels f bytes =
-    (logs : List (List ℕ)) × (words : List Noted) × AreReadLogs file names logs × (items_of (noted_by channels) f.reading logs ≡ Ok words) × (bytes ≡ survey_text f f.slack words)
+-- what `survey` prints of the logs of these names, whose words are taken so
+abbrev pub IsSurvey : (List ℕ → Option (List ℕ)) → List (List ℕ) → View → SurveyForm → List ℕ → Type 0
+IsSurvey file names view f bytes =
+    (logs : List (List ℕ)) × (words : List Noted) × AreReadLogs file names logs × (items_of (noted_by view) f.reading logs ≡ Ok words) × (bytes ≡ survey_text f f.slack words)
 
 -- why it prints nothing: a log that cannot be read, or the first faulty line
-abbrev pub IsNoSurvey : (List ℕ → Option (List ℕ)) → List (List ℕ) → List (List ℕ) → SurveyForm → CommandRefusal → Type 0
-IsNoSurvey file names channels f refusal =
+abbrev pub IsNoSurvey : (List ℕ → Option (List ℕ)) → List (List ℕ) → View → SurveyForm → CommandRefusal → Type 0
+IsNoSurvey file names view f refusal =
     IsFirstUnreadLog file names refusal
-    ⊎ ((logs : List (List ℕ)) × AreReadLogs file names logs × IsItemFault (noted_by channels) f.reading logs refusal)
+    ⊎ ((logs : List (List ℕ)) × AreReadLogs file names logs × IsItemFault (noted_by view) f.reading logs refusal)
 
 -- what the call answers
 abbrev pub IsSurveyAnswer : (List ℕ → Option (List ℕ)) → LogNames → SurveyForm → Result (Vec ℕ Global) CommandRefusal → Type 0
 IsSurveyAnswer file names f result =
-    MatchResult result (λ text. IsSurvey file (logs_named names) (channels_named names) f text.items)
-    (OrMemory (IsNoSurvey file (logs_named names) (channels_named names) f))
+    MatchResult result (λ text. IsSurvey file (logs_named names) (view_named names) f text.items)
+    (OrMemory (IsNoSurvey file (logs_named names) (view_named names) f))

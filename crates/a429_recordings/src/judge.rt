@@ -6,6 +6,7 @@ ghost use Rattle.a429_console.specs.Names.{naming_of};
 ghost use Rattle.a429_console.specs.Readings.{HasRead};
 ghost use Rattle.a429_recordings.specs.BoxLogs.{AreOrdered, IsLogsReading, IsNoting, box_word_by, restarted};
 ghost use Rattle.a429_recordings.specs.JudgeReplies.{IsBoxReading, IsJudgeAnswer, IsJudging, IsJudgingOf, IsPrinting, IsRecorded, files_of, is_no_group, names_of, no_group_of};
+ghost use Rattle.a429_recordings.specs.LogViews.{view_after, view_of};
 ghost use Rattle.a429_recordings.specs.declared.judge.words.BoxLog.TheVariants.{Sent};
 
 mod duties;
@@ -21,6 +22,7 @@ pub use crate::judge::sheets::Judged;
 use crate::judge::sheets::judge_sheet;
 use crate::judge::words::{BoxLog, BoxWord, BoxWords, read_words};
 use crate::logs::reading_for;
+pub use crate::logs::views::LogView;
 use a429_arguments::options::OptionName;
 use a429_arguments::requests::Asked;
 use a429_arguments::tolerances::tolerance_group;
@@ -64,7 +66,7 @@ impl JudgeForm {
     }
 }
 
-/// The names of the files that are judged, as which names channels in the logs are taken, and how far times may be wrong.
+/// The names of the files that are judged, which words of the logs are taken, and how far times may be wrong.
 #[derive(Clone, Copy)]
 pub struct JudgeNames<'a> {
     pub table: &'a str,
@@ -74,20 +76,21 @@ pub struct JudgeNames<'a> {
     /// The first log of what was sent, and the others.
     pub sent: &'a str,
     pub more_sent: &'a [&'a str],
-    /// Each is FROM=TO: a word with the name FROM is taken as one with the name TO.
-    pub channels: &'a [&'a str],
+    pub heard_view: LogView<'a>,
+    pub sent_view: LogView<'a>,
     /// Each is US, or GROUP=US for one group, in microseconds. The tolerance of a group without one is two slots, or half its
     /// shortest period if that is less.
     pub tolerances: &'a [&'a str],
 }
 
-/// The bytes of those files, these channels and these tolerances.
+/// The bytes of those files, which words of the logs are taken, and these tolerances.
 #[derive(Drop)]
 struct JudgeInput<'a> {
     table: Vec<u8>,
     heard: Vec<Vec<u8>>,
     sent: Vec<Vec<u8>>,
-    channels: &'a [&'a str],
+    heard_view: LogView<'a>,
+    sent_view: LogView<'a>,
     tolerances: &'a [&'a str],
 }
 
@@ -106,40 +109,43 @@ fn read_input<'a, F: FileReader>(
         table,
         heard,
         sent,
-        channels: names.channels,
+        heard_view: names.heard_view,
+        sent_view: names.sent_view,
         tolerances: names.tolerances,
     })
 }
 
-/// How the first line of the logs of what was sent is read, after those of what came in: on the same clock, from its
-/// beginning.
+/// How the first line of the logs of what was sent is read, after those of what came in: its times begin again. If no word
+/// came in, they are counted from the first.
 fn restarted(reading: Reading) -> Reading
     ensures { result ≡ restarted reading }
 {
+    let base = match reading.clock.base {
+        Some(_) => Some(0),
+        None => None,
+    };
     Reading {
         shape: None,
         calendar: reading.calendar.begun_again(),
-        clock: Clock {
-            base: reading.clock.base,
-            last: 0,
-        },
+        clock: Clock { base, last: 0 },
         ..reading
     }
 }
 
-/// Reads the logs of what was sent. Error: the first faulty line.
+/// Reads the logs of what was sent, after those of what came in. Error: the first faulty line.
 fn read_sent<'a>(
     alloc: Global,
     names: &Names,
-    reading: Reading,
+    after: Reading,
     input: &'a JudgeInput<'a>,
 ) -> Result<BoxWords, Refused>
-    ensures read { IsLogsReading (box_word_by names.now (texts_of input.now.channels.now) Sent) reading
+    ensures read { IsLogsReading (box_word_by names.now (view_after after (view_of input.now.sent_view)) Sent) (restarted after)
         (bytes_of input.now.sent.items) result }
     ensures ordered { IfOk result (λ read. AreOrdered read.words.items) }
 {
-    let channels = input.channels;
-    match read_words(alloc, names, channels, BoxLog::Sent, reading, &input.sent) {
+    let view = input.sent_view.after(after);
+    let next = restarted(after);
+    match read_words(alloc, names, view, BoxLog::Sent, next, &input.sent) {
         Ok(words) => Ok(words),
         Err(refusal) => Err(refusal.after_logs(input.heard.len())),
     }
@@ -176,13 +182,12 @@ fn read_notes<'a>(
     let heard = read_words(
         alloc,
         names,
-        input.channels,
+        input.heard_view,
         BoxLog::Heard,
         reading,
         &input.heard,
     )?;
-    let next = restarted(heard.next);
-    let sent = read_sent(alloc, names, next, input)?;
+    let sent = read_sent(alloc, names, heard.next, input)?;
     note_words(alloc, proposal.equipment(), &heard.words, &sent.words)
 }
 

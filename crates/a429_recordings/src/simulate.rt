@@ -7,7 +7,7 @@ ghost use Rattle.a429_console.specs.Replying.{HasReplied};
 ghost use Rattle.a429_console.specs.Tables.{IsTableRefusal};
 ghost use Rattle.a429_recordings.specs.CellLines.{IsBeginOfSlot};
 ghost use Rattle.a429_recordings.specs.CloseWords.{AreSpaced};
-ghost use Rattle.a429_recordings.specs.LogItems.{channels_named, logs_named};
+ghost use Rattle.a429_recordings.specs.LogItems.{logs_named, view_named};
 ghost use Rattle.a429_recordings.specs.SimulationReplies.{BeginsLog, BeginsNoLog, HasPrinted, HasPrintedLines, HasPrintedSummary, HasSummary, IsPreparedFor, IsSettingOf, IsSimulationOf, IsSimulationReading, IsUnsimulated, PutsLines, SimulatesSpacedWords, SimulationIsReady, files_of, line_style};
 ghost use Rattle.a429_recordings.specs.SimulationRuns.{CanBePlayed, HasStationNames};
 
@@ -23,6 +23,7 @@ mod tracks;
 
 pub use crate::logs::LogNames;
 use crate::logs::reading_for;
+pub use crate::logs::views::LogView;
 use crate::simulate::close::close_receiver;
 use crate::simulate::figures::Summary;
 pub use crate::simulate::lines::LineStyle;
@@ -87,12 +88,12 @@ fn line_style(sent: bool, form: SheetForm) -> LineStyle
     }
 }
 
-/// The bytes of the files that a simulation reads, and as which names channels in the logs are taken.
+/// The bytes of the files that a simulation reads, and which words of the logs are taken.
 #[derive(Drop)]
 struct SimulationInput<'a> {
     table: Vec<u8>,
     logs: Vec<Vec<u8>>,
-    channels: &'a [&'a str],
+    view: LogView<'a>,
 }
 
 /// What is simulated, before anything has happened: what the lines are written with, and a timeline on a station.
@@ -125,7 +126,7 @@ fn read_input<'a, F: FileReader>(
     Ok(SimulationInput {
         table,
         logs,
-        channels: names.channels,
+        view: names.view,
     })
 }
 
@@ -153,13 +154,7 @@ fn read_player<'a>(
     ensures { MatchResult result (BeginsLog setting.now (files_of input.now) form)
         (OrMemory (BeginsNoLog setting.now (files_of input.now) form)) }
 {
-    let words = read_words(
-        alloc,
-        &setting.names,
-        input.channels,
-        form.reading,
-        &input.logs,
-    )?;
+    let words = read_words(alloc, &setting.names, input.view, form.reading, &input.logs)?;
     Player::open(alloc, &setting.proposal, words, form.until)
 }
 
@@ -307,7 +302,7 @@ pub fn simulate<'a, F: FileReader, O: Output>(
     ensures simulated { HasReplied F.answers O.contents (λ file. IsSimulationOf file table.now names.entry form)
         files.old files.new out.old out.new result }
     ensures silent { HasRead F.answers
-        (λ file. SimulatesSpacedWords file table.now (logs_named names.entry) (channels_named names.entry) form
+        (λ file. SimulatesSpacedWords file table.now (logs_named names.entry) (view_named names.entry) form
         → warnings.new.items ≡ warnings.old.items) files.old files.new }
     ensures status { IfOk result (λ status. status ≤ 1) }
     ensures flushed { OnOk result (IsTrue (O.is_flushed out.new)) }

@@ -1,15 +1,16 @@
 //! The command `survey`.
 ghost use Rattle.std.specs.Prelude.{◌≡◌, Ok, IfOk, MatchResult, option_map};
 ghost use Rattle.a429_console.specs.Files.{bytes_of};
-ghost use Rattle.a429_arguments.specs.Texts.{texts_of};
 ghost use Rattle.a429_console.specs.Readings.{HasRead};
 ghost use Rattle.a429_console.specs.RefusalText.{OrMemory};
 ghost use Rattle.a429_recordings.specs.LogItems.{IsItemFault, items_of};
+ghost use Rattle.a429_recordings.specs.LogViews.{view_of};
 ghost use Rattle.a429_recordings.specs.Surveys.{IsSurveyAnswer, noted_by, survey_text, text_in};
 
 pub use crate::logs::LogNames;
 use crate::logs::keeping::{KeepFault, WordKeeper, keep_logs};
 use crate::logs::reading_for;
+pub use crate::logs::views::LogView;
 use a429_arguments::options::OptionName;
 use a429_arguments::requests::Asked;
 use a429_console::files::FileReader;
@@ -103,15 +104,15 @@ impl WordKeeper for Survey {
 /// The survey of logs, read one after another as if they were one. Error: the first faulty line.
 fn survey_of<'a>(
     alloc: Global,
-    channels: &'a [&'a str],
+    view: LogView<'a>,
     reading: Reading,
     logs: &'a [Vec<u8>],
 ) -> Result<Survey, Refused>
-    ensures { MatchResult result (λ survey. items_of (noted_by (texts_of channels.now)) reading (bytes_of logs.now) ≡ Ok survey)
-        (OrMemory (IsItemFault (noted_by (texts_of channels.now)) reading (bytes_of logs.now))) }
+    ensures { MatchResult result (λ survey. items_of (noted_by (view_of view.entry)) reading (bytes_of logs.now) ≡ Ok survey)
+        (OrMemory (IsItemFault (noted_by (view_of view.entry)) reading (bytes_of logs.now))) }
 {
     let mut survey = Survey::new(alloc);
-    match keep_logs(alloc, &mut survey, channels, reading, logs) {
+    match keep_logs(alloc, &mut survey, view, reading, logs) {
         Ok(_) => Ok(survey),
         Err(refusal) => Err(refusal),
     }
@@ -145,6 +146,6 @@ pub fn survey_logs<'a, F: FileReader>(
     ensures { HasRead F.answers (λ file. IsSurveyAnswer file names.entry form result) files.old files.new }
 {
     let logs = read_logs(alloc, files, names.first, names.more)?;
-    let survey = survey_of(alloc, names.channels, form.reading, &logs)?;
+    let survey = survey_of(alloc, names.view, form.reading, &logs)?;
     Ok(text_of(alloc, &survey, form)?)
 }

@@ -64,6 +64,32 @@ pub struct FurtherFault {
     pub table: TableEvidence,
 }
 
+/// How many outputs of a plan stay at their places, are at another place, are new, and are gone.
+#[derive(Clone, Copy)]
+pub struct KeptCounts {
+    pub stay: usize,
+    pub moved: usize,
+    pub added: usize,
+    pub gone: usize,
+}
+
+/// The place of an output, as a plan text states it: the period and the offset in slots, and the bus.
+#[derive(Clone, Copy)]
+pub struct StatedPlace {
+    pub period: u64,
+    pub bus: u64,
+    pub offset: u64,
+}
+
+/// An output that is at another place than before.
+#[derive(Drop)]
+pub struct MovedOutput {
+    pub group: String,
+    pub source: String,
+    pub before: StatedPlace,
+    pub after: StatedPlace,
+}
+
 /// What an answer that is no refusal warns of.
 #[derive(Drop)]
 pub enum Warning {
@@ -77,6 +103,10 @@ pub enum Warning {
     MillisGroup(Name),
     /// This number of rows below the imported ones have no label, and were passed over as notes.
     Notes(usize),
+    /// How many outputs of a plan stay at their places.
+    Kept(KeptCounts),
+    /// This output does not stay.
+    Moved(MovedOutput),
 }
 
 /// Notes a warning, unless an allocation fails.
@@ -115,6 +145,16 @@ impl Warning {
     /// Notes a group with the finding `milliseconds` of `lint`, unless an allocation fails.
     pub fn note_millis_group(warnings: &mut Vec<Warning>, group: Name) {
         note(warnings, Warning::MillisGroup(group));
+    }
+
+    /// Notes how many outputs of a plan stay, unless an allocation fails.
+    pub fn note_kept(warnings: &mut Vec<Warning>, counts: KeptCounts) {
+        note(warnings, Warning::Kept(counts));
+    }
+
+    /// Notes an output that does not stay, unless an allocation fails.
+    pub fn note_moved(warnings: &mut Vec<Warning>, output: MovedOutput) {
+        note(warnings, Warning::Moved(output));
     }
 
     /// Notes a number of rows that were passed over, unless an allocation fails.

@@ -1,11 +1,12 @@
 //! Words of the logs of a box.
 ghost use Rattle.std.specs.Prelude.{◌≡◌, ◌==◌, ◌<◌, length, option_map, position, IfOk, IfSome};
 ghost use Rattle.a429_console.specs.Files.{bytes_of};
-ghost use Rattle.a429_arguments.specs.Texts.{texts_of};
 ghost use Rattle.a429_recordings.specs.BoxLogs.{AreOrdered, IsLogsReading, at_number, box_word_by, bus_named, bus_place, place_named, sent_place};
 ghost use Rattle.a429_console.specs.Names.{number_named};
+ghost use Rattle.a429_recordings.specs.LogViews.{view_of};
 
 use crate::logs::keeping::{KeepFault, WordKeeper, keep_logs};
+use crate::logs::views::LogView;
 use a429_console::refusals::Refused;
 use a429_console::refusals::evidence::{LineEvidence, LogRefusal};
 use a429_logs::{Reading, StatedWord};
@@ -171,18 +172,18 @@ impl WordKeeper for PlaceWords<'_> {
     }
 }
 
-/// Reads logs, one after another as if they were one, with channels taken as names. Error: the number of the first faulty
+/// Reads logs, one after another as if they were one, with words as they are taken. Error: the number of the first faulty
 /// line, from 1 in its log, or an allocation failed. A line is faulty as the reader of logs says, or if there is no place
 /// of its name, or its word is at 10^14 us or later.
 pub fn read_words<'a>(
     alloc: Global,
     names: &Names,
-    channels: &'a [&'a str],
+    view: LogView<'a>,
     log: BoxLog,
     reading: Reading,
     texts: &'a [Vec<u8>],
 ) -> Result<BoxWords, Refused>
-    ensures read { IsLogsReading (box_word_by names.now (texts_of channels.now) log) reading (bytes_of texts.now) result }
+    ensures read { IsLogsReading (box_word_by names.now (view_of view.entry) log) reading (bytes_of texts.now) result }
     ensures ordered { IfOk result (λ read. AreOrdered read.words.items) }
 {
     let mut kept = PlaceWords {
@@ -190,7 +191,7 @@ pub fn read_words<'a>(
         log,
         words: Vec::new(alloc),
     };
-    match keep_logs(alloc, &mut kept, channels, reading, texts) {
+    match keep_logs(alloc, &mut kept, view, reading, texts) {
         Ok(next) => Ok(BoxWords {
             words: kept.words,
             next,

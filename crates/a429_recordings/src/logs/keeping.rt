@@ -2,11 +2,11 @@
 ghost use Rattle.std.specs.Prelude.{◌≡◌, [], Option, List};
 ghost use Rattle.a429_logs.specs.LogRows.{Stated, stated_by};
 ghost use Rattle.a429_console.specs.Files.{bytes_of};
-ghost use Rattle.a429_arguments.specs.Texts.{texts_of};
 ghost use Rattle.a429_console.specs.declared.refusals.CommandRefusal.TheVariants.{LogLine};
-ghost use Rattle.a429_recordings.specs.LogItems.{IsKept, KeepsLog, KeepsLogs, named};
+ghost use Rattle.a429_recordings.specs.LogItems.{AreKept, IsKept, KeepsLog, KeepsLogs};
+ghost use Rattle.a429_recordings.specs.LogViews.{view_of, viewed};
 
-use crate::logs::with_name;
+use crate::logs::views::LogView;
 use a429_console::refusals::evidence::{Evidence, LineEvidence, LogEvidence, LogRefusal};
 use a429_console::refusals::{CommandRefusal, Refused};
 use a429_logs::{LogReader, Reading, Shape, StatedWord};
@@ -83,28 +83,46 @@ fn refuse_line<T: WordKeeper>(
     )
 }
 
-/// Keeps the words of a log, with channels taken as names. The answer is how the next log is read. Error: the first faulty
-/// line of the log, or an allocation failed.
+/// Keeps a word as it is taken, unless it is passed over. Error: it makes its line faulty, or an allocation failed.
+#[tactic(auto, using(crate::proofs::LogLines::kept_items, crate::proofs::LogLines::kept_nothing))]
+fn keep_taken<'a, T: WordKeeper>(
+    keeper: &mut T,
+    view: LogView<'a>,
+    word: StatedWord<'a>,
+) -> Result<(), KeepFault>
+    ensures kept { AreKept (viewed (view_of view.entry) (T.item keeper.old) (stated_by word.entry))
+        (T.kept keeper.old) (T.kept keeper.new) result }
+    ensures same { T.item keeper.new ≡ T.item keeper.old }
+{
+    match view.taken(word) {
+        Some(word) => keeper.keep(word),
+        None => Ok(()),
+    }
+}
+
+/// Keeps the words of a log as they are taken. The answer is how the next log is read. Error: the first faulty line of the
+/// log, or an allocation failed.
+#[tactic(auto, using(crate::proofs::LogLines::kept_more, crate::proofs::LogLines::kept_none))]
 fn keep_log<'a, T: WordKeeper>(
     alloc: Global,
     keeper: &mut T,
-    channels: &'a [&'a str],
+    view: LogView<'a>,
     log: NumberedLog<'a>,
 ) -> Result<Reading, Refused>
-    ensures kept { KeepsLog (named (texts_of channels.now) (T.item keeper.old)) log.entry.reading log.entry.text.now
+    ensures kept { KeepsLog (viewed (view_of view.entry) (T.item keeper.old)) log.entry.reading log.entry.text.now
         (T.kept keeper.old) (T.kept keeper.new) result }
     ensures same { T.item keeper.new ≡ T.item keeper.old }
 {
     let mut reader = LogReader::open(log.reading, log.text);
     while let Some(entry) = reader.next() {
         let entry = match entry {
-            Ok(entry) => with_name(channels, entry),
+            Ok(entry) => entry,
             Err(fault) => {
                 let why = LogRefusal::Line(fault.why);
                 return Err(refuse_line(alloc, keeper, log, reader.shape(), fault.line, why));
             }
         };
-        match keeper.keep(entry.word) {
+        match keep_taken(keeper, view, entry.word) {
             Ok(()) => {}
             Err(KeepFault::Line(why)) => {
                 return Err(refuse_line(alloc, keeper, log, reader.shape(), entry.line, why));
@@ -115,18 +133,18 @@ fn keep_log<'a, T: WordKeeper>(
     Ok(reader.for_next_log())
 }
 
-/// Keeps the words of logs, one after another as if they were one, with channels taken as names. The answer is how the next
-/// log would be read. Error: the number of the first faulty line, from 1 in its log, or an allocation failed.
+/// Keeps the words of logs as they are taken, one after another as if they were one. The answer is how the next log would be
+/// read. Error: the number of the first faulty line, from 1 in its log, or an allocation failed.
 #[tactic(auto, using(crate::proofs::LogLines::before_more, crate::proofs::LogLines::logs_left))]
 pub fn keep_logs<'a, T: WordKeeper>(
     alloc: Global,
     keeper: &mut T,
-    channels: &'a [&'a str],
+    view: LogView<'a>,
     reading: Reading,
     logs: &'a [Vec<u8>],
 ) -> Result<Reading, Refused>
     requires { T.kept keeper.old ≡ [] }
-    ensures { KeepsLogs (named (texts_of channels.now) (T.item keeper.old)) reading (bytes_of logs.now) (T.kept keeper.new) result }
+    ensures { KeepsLogs (viewed (view_of view.entry) (T.item keeper.old)) reading (bytes_of logs.now) (T.kept keeper.new) result }
 {
     let mut next = reading;
     for number in 0..logs.len() {
@@ -135,7 +153,7 @@ pub fn keep_logs<'a, T: WordKeeper>(
             text: &logs[number],
             reading: next,
         };
-        match keep_log(alloc, keeper, channels, log) {
+        match keep_log(alloc, keeper, view, log) {
             Ok(after) => next = after,
             Err(refusal) => return Err(refusal),
         }

@@ -1,10 +1,11 @@
 //! Logs of words at receivers of a station.
 ghost use Rattle.std.specs.Prelude.{IfOk};
 ghost use Rattle.a429_console.specs.Files.{bytes_of};
-ghost use Rattle.a429_arguments.specs.Texts.{texts_of};
+ghost use Rattle.a429_recordings.specs.LogViews.{view_of};
 ghost use Rattle.a429_recordings.specs.SimulationLog.{AreInTime, IsLogReading};
 
 use crate::logs::keeping::{KeepFault, WordKeeper, keep_logs};
+use crate::logs::views::LogView;
 use a429_console::refusals::Refused;
 use a429_console::refusals::evidence::{LineEvidence, LogRefusal};
 use a429_logs::{Reading, StatedWord};
@@ -59,24 +60,24 @@ impl WordKeeper for ReceiverWords<'_> {
     }
 }
 
-/// Reads logs, one after another as if they were one, for the receivers of these names, with channels taken as names.
+/// Reads logs, one after another as if they were one, for the receivers of these names, with words as they are taken.
 /// Error: the number of the first faulty line, from 1 in its log, or an allocation failed. A line is faulty as the reader
 /// of logs says, or if its word is at no receiver, or at 10^14 us or later.
 pub fn read_words<'a>(
     alloc: Global,
     names: &Names,
-    channels: &'a [&'a str],
+    view: LogView<'a>,
     reading: Reading,
     logs: &'a [Vec<u8>],
 ) -> Result<Vec<LogWord>, Refused>
-    ensures words { IsLogReading names.now (texts_of channels.now) reading (bytes_of logs.now) result }
+    ensures words { IsLogReading names.now (view_of view.entry) reading (bytes_of logs.now) result }
     ensures in_time { IfOk result (λ words. AreInTime words.items) }
 {
     let mut kept = ReceiverWords {
         names,
         words: Vec::new(alloc),
     };
-    match keep_logs(alloc, &mut kept, channels, reading, logs) {
+    match keep_logs(alloc, &mut kept, view, reading, logs) {
         Ok(_) => Ok(kept.words),
         Err(refusal) => Err(refusal),
     }

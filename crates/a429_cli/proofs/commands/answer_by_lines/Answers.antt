@@ -3,8 +3,8 @@ use Rattle.std.proofs.Common.{◌∷◌, List, ℕ, inl, refl, subst, sym}
 use Rattle.std.proofs.lemmas.Result.{IfOk-weaker}
 use Rattle.a429_arguments.specs.Texts.{texts_of}
 use Rattle.a429_arguments.specs.Requests.{asked_of}
-use Rattle.a429_arguments.specs.declared.options.OptionName.TheVariants as option
-use Rattle.a429_recordings.specs.LogItems.{channels_named, logs_named}
+use Rattle.a429_recordings.specs.LogItems.{logs_named, view_named}
+use Rattle.a429_recordings.specs.LogViews.{View, whole_view}
 use Rattle.a429_recordings.specs.declared.simulate.SimulationForm.{SimulationForm}
 use Rattle.a429_recordings.specs.SimulationReplies.{IsSimulation, SimulatesSpacedWords, simulation_form}
 use Rattle.a429_arguments.specs.Given.{form_of}
@@ -41,12 +41,12 @@ returns-in-Simulate-clause-read g c =
     let a = c.args.asked.now in
     let names = c.simulated_logs.result in
     let form = simulation_form (asked_of a).given in
-    let by_form : IsSimulation file a.first.now (logs_named names) (channels_named names) form status told.0 =
-    subst (λ (f : SimulationForm). IsSimulation file a.first.now (logs_named names) (channels_named names) f status told.0) c.of-form.ensures told.1 in
-    let by_logs : IsSimulation file a.first.now (a.second.now ∷ texts_of a.more.items) (channels_named names) form status told.0 =
-    subst (λ (logs : List (List ℕ)). IsSimulation file a.first.now logs (channels_named names) form status told.0) c.simulated_logs.ensures.logs by_form in
-    let reply : IsSimulation file a.first.now (a.second.now ∷ texts_of a.more.items) ((asked_of a).given option.Channel) form status told.0 =
-    subst (λ (channels : List (List ℕ)). IsSimulation file a.first.now (a.second.now ∷ texts_of a.more.items) channels form status told.0) c.simulated_logs.ensures.channels by_logs in
+    let by_form : IsSimulation file a.first.now (logs_named names) (view_named names) form status told.0 =
+    subst (λ (f : SimulationForm). IsSimulation file a.first.now (logs_named names) (view_named names) f status told.0) c.of-form.ensures told.1 in
+    let by_logs : IsSimulation file a.first.now (a.second.now ∷ texts_of a.more.items) (view_named names) form status told.0 =
+    subst (λ (logs : List (List ℕ)). IsSimulation file a.first.now logs (view_named names) form status told.0) c.simulated_logs.ensures.logs by_form in
+    let reply : IsSimulation file a.first.now (a.second.now ∷ texts_of a.more.items) (whole_view (asked_of a).given) form status told.0 =
+    subst (λ (view : View). IsSimulation file a.first.now (a.second.now ∷ texts_of a.more.items) view form status told.0) c.simulated_logs.ensures.view by_logs in
     (told.0, inl reply, told.2))
     is))
 
@@ -60,13 +60,13 @@ returns-in-Simulate-clause-silent g c =
     let a = c.args.asked.now in
     let names = c.simulated_logs.result in
     let logs = a.second.now ∷ texts_of a.more.items in
-    let channels = (asked_of a).given option.Channel in
-    let by_form : SimulatesSpacedWords file a.first.now logs channels c.of-form.result =
-    subst (λ (f : SimulationForm). SimulatesSpacedWords file a.first.now logs channels f) (sym c.of-form.ensures) spaced in
-    let by_logs : SimulatesSpacedWords file a.first.now (logs_named names) channels c.of-form.result =
-    subst (λ (ls : List (List ℕ)). SimulatesSpacedWords file a.first.now ls channels c.of-form.result) (sym c.simulated_logs.ensures.logs) by_form in
-    let these : SimulatesSpacedWords file a.first.now (logs_named names) (channels_named names) c.of-form.result =
-    subst (λ (cs : List (List ℕ)). SimulatesSpacedWords file a.first.now (logs_named names) cs c.of-form.result) (sym c.simulated_logs.ensures.channels) by_logs in
+    let view = whole_view (asked_of a).given in
+    let by_form : SimulatesSpacedWords file a.first.now logs view c.of-form.result =
+    subst (λ (f : SimulationForm). SimulatesSpacedWords file a.first.now logs view f) (sym c.of-form.ensures) spaced in
+    let by_logs : SimulatesSpacedWords file a.first.now (logs_named names) view c.of-form.result =
+    subst (λ (ls : List (List ℕ)). SimulatesSpacedWords file a.first.now ls view c.of-form.result) (sym c.simulated_logs.ensures.logs) by_form in
+    let these : SimulatesSpacedWords file a.first.now (logs_named names) (view_named names) c.of-form.result =
+    subst (λ (v : View). SimulatesSpacedWords file a.first.now (logs_named names) v c.of-form.result) (sym c.simulated_logs.ensures.view) by_logs in
     is these))
 
 pub returns-in-Replay-clause-silent : goal.returns-in-Replay-clause-silent

@@ -1,4 +1,4 @@
-use Rattle.std.proofs.Common.{ℕ, List, ap, refl, subst, subst₂, sym}
+use Rattle.std.proofs.Common.{ℕ, List, ap, ap₂, refl, subst, subst₂, sym}
 use Rattle.a429_console.proofs.ReadingParts.{read_none, read_weaker}
 use Rattle.a429_arguments.specs.Requests.{asked_of}
 use Rattle.a429_arguments.specs.declared.forms.Verb.TheVariants as verb
@@ -9,6 +9,7 @@ use Rattle.a429_cli.specs.Encoding.{FieldBytes, IsEncoded, IsNotEncoded}
 use Rattle.a429_cli.specs.WholeReplies.{Replies}
 use Rattle.a429_import.specs.declared.import.ImportOptions.{ImportOptions}
 use Rattle.a429_cli.specs.Importing.{ImportsSilently, IsImportReply}
+use Rattle.a429_import.specs.ImportMaps.{heading_texts}
 use Rattle.a429_cli.proofs.PlanReplies.{on_plan}
 use Rattle.a429_cli.proofs.WholeAnswers.{given_by}
 use Rattle.a429_cli.proofs.commands.reply_to.Goals as goal
@@ -29,7 +30,7 @@ returns-in-Import-clause-replied g c =
     given_by g.F.FileReader.answers c.args.files.now c.import_reply.new.files (asked_of asked) c.import_reply.result asked.verb verb.Import c.in-Import.is
     (read_weaker c.import_reply.ensures.replied
     (λ file is.
-    subst₂ (λ (maps : List (List ℕ)) (options : ImportOptions). IsImportReply file maps options asked.first.now c.import_reply.result) (c.texts.ensures refl) c.import_options.ensures is))
+    subst₂ (λ (maps : List (List ℕ)) (options : ImportOptions). IsImportReply file maps options asked.first.now c.import_reply.result) (ap₂ heading_texts (c.texts.ensures refl) (c.texts-2.ensures refl)) c.import_options.ensures is))
 
 pub returns-in-Check-clause-replied : goal.returns-in-Check-clause-replied
 returns-in-Check-clause-replied g c =
@@ -65,7 +66,7 @@ returns-in-Import-clause-silent g c =
     rw c.in-Import.is
     (read_weaker c.import_reply.ensures.silent
     (λ file silent none.
-    silent (subst₂ (λ (maps : List (List ℕ)) (options : ImportOptions). ImportsSilently file maps options asked.first.now) (sym (c.texts.ensures refl)) (sym c.import_options.ensures) none)))
+    silent (subst₂ (λ (maps : List (List ℕ)) (options : ImportOptions). ImportsSilently file maps options asked.first.now) (sym (ap₂ heading_texts (c.texts.ensures refl) (c.texts-2.ensures refl))) (sym c.import_options.ensures) none)))
 
 pub returns-in-Check-clause-silent : goal.returns-in-Check-clause-silent
 returns-in-Check-clause-silent g c = read_weaker c.check_reply.ensures (λ file is silent. refl)
@@ -82,12 +83,19 @@ returns-in-Survey-clause-silent g c = read_weaker c.survey_reply.ensures (λ fil
 pub returns-in-Judge-clause-silent : goal.returns-in-Judge-clause-silent
 returns-in-Judge-clause-silent g c = read_weaker c.judge_reply.ensures (λ file is silent. refl)
 
+pub returns-in-Plan-clause-replied : goal.returns-in-Plan-clause-replied
+returns-in-Plan-clause-replied g c =
+    given_by g.F.FileReader.answers c.args.files.now c.plan_or_kept.new.files (asked_of c.args.asked.now) c.plan_or_kept.result c.args.asked.now.verb verb.Plan c.in-Plan.is c.plan_or_kept.ensures.replied
+
+pub returns-in-Plan-clause-silent : goal.returns-in-Plan-clause-silent
+returns-in-Plan-clause-silent g c = rw c.in-Plan.is c.plan_or_kept.ensures.silent
+
 pub returns-in_default-clause-replied : goal.returns-in_default-clause-replied
 returns-in_default-clause-replied g c =
     let n = c.in_default in
     let asked = c.args.asked.now in
     read_weaker c.plan_reply.ensures
-    (λ file is. on_plan file (asked_of asked) c.plan_reply.result asked.verb n.not-Word n.not-Encode n.not-Import n.not-Check n.not-Lint n.not-Diff n.not-Survey n.not-Judge is)
+    (λ file is. on_plan file (asked_of asked) c.plan_reply.result asked.verb n.not-Word n.not-Encode n.not-Import n.not-Check n.not-Lint n.not-Diff n.not-Survey n.not-Judge n.not-Plan is)
 
 pub returns-in_default-clause-silent : goal.returns-in_default-clause-silent
 returns-in_default-clause-silent g c = read_weaker c.plan_reply.ensures (λ file is silent. refl)

@@ -4,9 +4,8 @@ use Rattle.std.proofs.lemmas.Result.{err_from_is_err_and}
 use Rattle.a429_console.specs.RefusalText.{OrMemory}
 use Rattle.a429_console.proofs.Refused.{failed, or_memory_weaker}
 use Rattle.a429_recordings.specs.BoxLogs.{restarted}
-use Rattle.a429_recordings.specs.JudgeReplies.{IsHeardFault, IsNoRecording, files_of, heard_words, sent_reading, sent_words, word_by}
+use Rattle.a429_recordings.specs.JudgeReplies.{IsHeardFault, IsNoRecording, files_of, heard_words, sent_by, sent_words}
 use Rattle.a429_recordings.specs.LogItems.{IsItemFault, reading_behind}
-use Rattle.a429_recordings.specs.declared.judge.words.BoxLog.TheVariants as log
 use Rattle.a429_recordings.proofs.JudgedFiles.{recorded}
 use Rattle.a429_recordings.proofs.judge.read_notes.Goals as goal
 
@@ -29,13 +28,12 @@ returns-in_err-sent c =
     let e = c.in_err-sent.field-0.0 in
     let p = err_from_is_err_and c.from_residual-in_err-sent.result c.from_residual-in_err-sent.ensures.1 in
     let words = c.in_ok-heard.heard.words.items in
-    let its : heard_words q i.channels reading i.heard ≡ Ok words = rw (c.requires, c.deref.ensures.value) at c.in_ok-heard.ensures.read.0 in
+    let its : heard_words q i.heard_view reading i.heard ≡ Ok words = rw (c.requires, c.deref.ensures.value) at c.in_ok-heard.ensures.read.0 in
     let after : c.in_ok-heard.heard.next ≡ reading_behind reading i.heard = rw c.deref.ensures.value at c.in_ok-heard.ensures.read.1 in
-    let next : c.restarted-next.result ≡ sent_reading reading i.heard = c.restarted-next.ensures ∙ ap restarted after in
-    let fault : OrMemory (IsItemFault (word_by q i.channels log.Sent) (sent_reading reading i.heard) i.sent) e =
-    rw (c.requires, next) at c.in_err-sent.ensures.read in
+    let bad = IsItemFault (sent_by q i.sent_view (reading_behind reading i.heard)) (restarted (reading_behind reading i.heard)) i.sent in
+    let fault : OrMemory bad e = rw (c.requires, after) at c.in_err-sent.ensures.read in
     failed c.from_residual-in_err-sent.result _ (OrMemory (IsNoRecording q i reading)) e (p.1 ∙ ap Err p.2)
-    (or_memory_weaker (IsItemFault (word_by q i.channels log.Sent) (sent_reading reading i.heard) i.sent) (IsNoRecording q i reading) e (λ one. inr (inl (words, its, one))) fault)
+    (or_memory_weaker bad (IsNoRecording q i reading) e (λ one. inr (inl (words, its, one))) fault)
 
 pub returns : goal.returns
 returns c =
@@ -44,8 +42,7 @@ returns c =
     let reading = c.args.reading in
     let heard = c.in_ok-heard.heard.words.items in
     let sent = c.in_ok-sent.sent.words.items in
-    let its : heard_words q i.channels reading i.heard ≡ Ok heard = rw (c.requires, c.deref.ensures.value) at c.in_ok-heard.ensures.read.0 in
+    let its : heard_words q i.heard_view reading i.heard ≡ Ok heard = rw (c.requires, c.deref.ensures.value) at c.in_ok-heard.ensures.read.0 in
     let after : c.in_ok-heard.heard.next ≡ reading_behind reading i.heard = rw c.deref.ensures.value at c.in_ok-heard.ensures.read.1 in
-    let next : c.restarted-next.result ≡ sent_reading reading i.heard = c.restarted-next.ensures ∙ ap restarted after in
-    let others : sent_words q i.channels (sent_reading reading i.heard) i.sent ≡ Ok sent = rw (c.requires, next) at c.in_ok-sent.ensures.read.0 in
+    let others : sent_words q i.sent_view (reading_behind reading i.heard) i.sent ≡ Ok sent = rw (c.requires, after) at c.in_ok-sent.ensures.read.0 in
     recorded q i reading heard sent c.note_words.result its others (rw (c.equipment.ensures.equipment, c.deref-2.ensures.value, c.deref-3.ensures.value) at c.note_words.ensures)

@@ -28,11 +28,11 @@ returns-in_err-player c =
     let names = c.in_ok-setting.ensures.1 in
     let proposed = subst (λ (t : List ℕ). IsProposedBy t q) c.deref.ensures.value c.in_ok-setting.ensures.0 in
     let why : BeginsNoLog s i c.args.form e → IsUnsimulated i c.args.form e = λ why. elim why [
-      | inl one ↦ inl (inr (q, proposed, subst (λ (n : Naming). IsLogFault n i.channels c.args.form.reading i.logs e) names one))
+      | inl one ↦ inl (inr (q, proposed, subst (λ (n : Naming). IsLogFault n i.view c.args.form.reading i.logs e) names one))
       | inr more ↦ inr (
         q,
         more.0,
-        record { proposed = proposed; words_are = subst (λ (n : Naming). log_words n i.channels c.args.form.reading i.logs ≡ Ok more.0) names more.1 },
+        record { proposed = proposed; words_are = subst (λ (n : Naming). log_words n i.view c.args.form.reading i.logs ≡ Ok more.0) names more.1 },
         more.2,
         more.3,
       )
@@ -49,7 +49,7 @@ returns c =
     let start = c.in_ok-player.ensures in
     record {
       words = start.0;
-      simulated = record { proposed = proposed; words_are = subst (λ (n : Naming). log_words n i.channels c.args.form.reading i.logs ≡ Ok start.0) names start.1 };
+      simulated = record { proposed = proposed; words_are = subst (λ (n : Naming). log_words n i.view c.args.form.reading i.logs ≡ Ok start.0) names start.1 };
       style = c.in_ok-setting.ensures.2;
       begin = start.2.0;
       ready = record { names = names; playable = start.2.1 };

@@ -7,42 +7,42 @@ use Rattle.a429_console.specs.RefusalText.{OrMemory}
 use Rattle.a429_console.specs.declared.refusals.CommandRefusal.TheVariants as refused
 use Rattle.a429_console.proofs.ReadingParts.{read_weaker}
 use Rattle.a429_console.proofs.Refused.{failed, or_memory_weaker}
-use Rattle.a429_recordings.specs.LogItems.{IsItemFault, channels_named, items_of, logs_named}
+use Rattle.a429_recordings.specs.LogItems.{IsItemFault, items_of, logs_named, view_named}
 use Rattle.a429_recordings.specs.Surveys.{IsNoSurvey, noted_by}
 use Rattle.a429_recordings.proofs.survey.survey_logs.Goals as goal
 
 pub returns-in_err-logs : goal.returns-in_err-logs
 returns-in_err-logs g c =
     let names = logs_named c.args.names in
-    let channels = channels_named c.args.names in
+    let view = view_named c.args.names in
     let e = c.in_err-logs.field-0.0 in
     let p = err_from_is_err_and c.from_residual.result c.from_residual.ensures.1 in
-    read_weaker c.in_err-logs.ensures (λ file bad. failed c.from_residual.result _ (OrMemory (IsNoSurvey file names channels c.args.form)) e (p.1 ∙ ap Err p.2)
-    (or_memory_weaker (IsFirstUnreadLog file names) (IsNoSurvey file names channels c.args.form) e (λ one. inl one) bad))
+    read_weaker c.in_err-logs.ensures (λ file bad. failed c.from_residual.result _ (OrMemory (IsNoSurvey file names view c.args.form)) e (p.1 ∙ ap Err p.2)
+    (or_memory_weaker (IsFirstUnreadLog file names) (IsNoSurvey file names view c.args.form) e (λ one. inl one) bad))
 
 pub returns-in_err-survey : goal.returns-in_err-survey
 returns-in_err-survey g c =
     let names = logs_named c.args.names in
-    let channels = channels_named c.args.names in
+    let view = view_named c.args.names in
     let logs = bytes_of c.in_ok-logs.logs.items in
     let reading = c.args.form.reading in
-    let f = noted_by channels in
+    let f = noted_by view in
     let e = c.in_err-survey.field-0.0 in
     let p = err_from_is_err_and c.from_residual-in_err-survey.result c.from_residual-in_err-survey.ensures.1 in
     let bad : OrMemory (IsItemFault f reading logs) e = rw c.deref.ensures.value at c.in_err-survey.ensures in
-    read_weaker c.in_ok-logs.ensures (λ file read. failed c.from_residual-in_err-survey.result _ (OrMemory (IsNoSurvey file names channels c.args.form)) e (p.1 ∙ ap Err p.2)
-    (or_memory_weaker (IsItemFault f reading logs) (IsNoSurvey file names channels c.args.form) e (λ one. inr (logs, read, one)) bad))
+    read_weaker c.in_ok-logs.ensures (λ file read. failed c.from_residual-in_err-survey.result _ (OrMemory (IsNoSurvey file names view c.args.form)) e (p.1 ∙ ap Err p.2)
+    (or_memory_weaker (IsItemFault f reading logs) (IsNoSurvey file names view c.args.form) e (λ one. inr (logs, read, one)) bad))
 
 pub returns-in_err-text_of : goal.returns-in_err-text_of
 returns-in_err-text_of g c =
     let names = logs_named c.args.names in
-    let channels = channels_named c.args.names in
+    let view = view_named c.args.names in
     let p = err_from_is_err_and c.from_residual-in_err-text_of.result c.from_residual-in_err-text_of.ensures.1 in
-    read_weaker c.in_ok-logs.ensures (λ file read. failed c.from_residual-in_err-text_of.result _ (OrMemory (IsNoSurvey file names channels c.args.form)) refused.Memory (p.1 ∙ ap Err p.2) tt)
+    read_weaker c.in_ok-logs.ensures (λ file read. failed c.from_residual-in_err-text_of.result _ (OrMemory (IsNoSurvey file names view c.args.form)) refused.Memory (p.1 ∙ ap Err p.2) tt)
 
 pub returns : goal.returns
 returns g c =
     let logs = bytes_of c.in_ok-logs.logs.items in
     let words = c.in_ok-survey.survey in
-    let its : items_of (noted_by (channels_named c.args.names)) c.args.form.reading logs ≡ Ok words = rw c.deref.ensures.value at c.in_ok-survey.ensures in
+    let its : items_of (noted_by (view_named c.args.names)) c.args.form.reading logs ≡ Ok words = rw c.deref.ensures.value at c.in_ok-survey.ensures in
     read_weaker c.in_ok-logs.ensures (λ file read. (logs, words, read, its, c.in_ok-text_of.ensures))

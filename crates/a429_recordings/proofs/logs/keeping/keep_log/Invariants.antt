@@ -1,15 +1,15 @@
 use Rattle.std.proofs.Common.{◌≡◌, length}
-use Rattle.a429_arguments.specs.Texts.{texts_of}
 use Rattle.a429_console.specs.Lines.{entries_before}
 use Rattle.a429_logs.specs.Logs.{log_entries, reading_after}
 use Rattle.a429_logs.specs.LogsLeft.{entries_left, reading_left}
-use Rattle.a429_recordings.specs.LogItems.{items_from, named}
+use Rattle.a429_recordings.specs.LogItems.{items_from}
+use Rattle.a429_recordings.specs.LogViews.{view_of, viewed}
 use Rattle.a429_recordings.proofs.logs.keeping.keep_log.Given as goal
 
 abbrev pub invariant-loop-entry : goal.invariant-loop-entry
 invariant-loop-entry g l =
     let k = g.T.WordKeeper in
-    let f = named (texts_of l.channels) (k.item l.fn.keeper) in
+    let f = viewed (view_of l.view) (k.item l.fn.keeper) in
     record {
       same : k.item l.keeper ≡ k.item l.fn.keeper;
       read :

@@ -1,15 +1,13 @@
 use Rattle.std.proofs.Common.{◌≡◌, ◌+◌, ◌∷◌, drop}
 use Rattle.a429_console.specs.Files.{bytes_of}
-use Rattle.a429_arguments.specs.Texts.{texts_of}
-use Rattle.a429_recordings.specs.LogItems.{named}
+use Rattle.a429_recordings.specs.LogViews.{view_of, viewed}
 use Rattle.a429_recordings.proofs.LogLines.{before_fault, logs_left}
 use Rattle.a429_recordings.proofs.logs.keeping.keep_logs.Goals as goal
 
 pub returns-in-Err : goal.returns-in-Err
 returns-in-Err g c =
     let k = g.T.WordKeeper in
-    let channels = texts_of c.args.channels.now in
-    let f = named channels (k.item c.args.keeper.now) in
+    let f = viewed (view_of c.args.view) (k.item c.args.keeper.now) in
     let logs = c.args.logs.now in
     let now = c.loop-number in
     let text = c.deref.result.now in

@@ -1,7 +1,7 @@
 use Rattle.std.proofs.Common.{◌≡◌, drop}
 use Rattle.a429_console.specs.Files.{bytes_of}
-use Rattle.a429_arguments.specs.Texts.{texts_of}
-use Rattle.a429_recordings.specs.LogItems.{named, reading_behind}
+use Rattle.a429_recordings.specs.LogItems.{reading_behind}
+use Rattle.a429_recordings.specs.LogViews.{view_of, viewed}
 use Rattle.a429_recordings.proofs.LogLines.{AreBefore}
 use Rattle.a429_recordings.proofs.logs.keeping.keep_logs.Given as goal
 
@@ -11,6 +11,6 @@ invariant-loop-number g l =
     let left = bytes_of (drop l.number l.logs) in
     record {
       same : k.item l.keeper ≡ k.item l.fn.keeper;
-      items : AreBefore (named (texts_of l.channels) (k.item l.fn.keeper)) l.fn.reading (bytes_of l.logs) l.next left (k.kept l.keeper);
+      items : AreBefore (viewed (view_of l.view) (k.item l.fn.keeper)) l.fn.reading (bytes_of l.logs) l.next left (k.kept l.keeper);
       next : reading_behind l.fn.reading (bytes_of l.logs) ≡ reading_behind l.next left;
     }

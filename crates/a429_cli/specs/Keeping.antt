@@ -1,0 +1,68 @@
+-- The command `plan` with `--keep`: what it writes, and when it is refused (profile: output; docs/RULES.md, Plans that stay).
+use Rattle.std.specs.Prelude.{◌≡◌, ◌⊎◌, ◌∷◌, [], ℕ, List, Option, None, Some, Err}
+use Rattle.a429_arguments.specs.Given.{text_given}
+use Rattle.a429_arguments.specs.Requests.{AskedBytes}
+use Rattle.a429_arguments.specs.declared.options.OptionName.TheVariants as option
+use Rattle.a429_arguments.specs.declared.forms.Verb.TheVariants as verb
+use Rattle.a429_cli.specs.Plans.{IsNoPlanReply, IsPlanReply}
+use Rattle.a429_console.specs.FileReadings.{AreRead, IsFirstUnread}
+use Rattle.a429_console.specs.Tables.{IsProposedBy, IsTableRefusal}
+use Rattle.a429_console.specs.declared.refusals.CommandRefusal.{CommandRefusal}
+use Rattle.a429_console.specs.declared.refusals.CommandRefusal.TheVariants as refused
+use Rattle.a429_console.specs.declared.refusals.PlanKind.{PlanKind}
+use Rattle.a429_console.specs.declared.refusals.PlanKind.TheVariants as kinds
+use Rattle.a429_keep.specs.KeptPlans.{IsAccepted, IsKept}
+use Rattle.a429_keep.specs.Readings.{reading}
+use Rattle.a429_keep.specs.declared.fault.KeepFault.{KeepFault}
+use Rattle.a429_keep.specs.declared.fault.KeepFault.TheVariants as faults
+use Rattle.a429_keep.specs.declared.fault.KeepReason.{KeepReason}
+use Rattle.a429_keep.specs.declared.fault.KeepReason.TheVariants as reasons
+use Rattle.a429_slots.specs.Proposed.{Proposed}
+
+abbrev pub plan_kind : KeepReason → PlanKind
+plan_kind reasons.Form = kinds.Form
+plan_kind reasons.Rate = kinds.Rate
+plan_kind reasons.Place = kinds.Place
+plan_kind reasons.Shared = kinds.Shared
+
+abbrev pub keep_refusal : KeepFault → CommandRefusal
+keep_refusal (faults.Line line reason) = refused.PlanLine line (plan_kind reason)
+keep_refusal faults.NoMemory = refused.Memory
+
+-- the text of a plan of the table, in which the outputs of the earlier text stay, and which the check accepts; the status is 0
+abbrev pub IsKeptPlan : List ℕ → List ℕ → ℕ → List ℕ → Type 0
+IsKeptPlan table earlier status text =
+    (q : Proposed) × IsProposedBy table q × IsKept q.station q.plan earlier text × IsAccepted q.station text × (status ≡ 0)
+
+-- why there is none: the table or its plan, otherwise a line of the earlier text
+abbrev pub IsNoKeptPlan : List ℕ → List ℕ → CommandRefusal → Type 0
+IsNoKeptPlan table earlier refusal =
+    IsTableRefusal table refusal
+    ⊎ ((q : Proposed) × (line : ℕ) × (reason : KeepReason) × IsProposedBy table q × (reading q.station earlier ≡ Err (faults.Line line reason))
+    × (refusal ≡ refused.PlanLine line (plan_kind reason)))
+
+-- the same of two files
+abbrev pub IsKeptOf : (List ℕ → Option (List ℕ)) → List ℕ → List ℕ → ℕ → List ℕ → Type 0
+IsKeptOf file table earlier status text =
+    (a : List ℕ) × (b : List ℕ) × AreRead file (table ∷ earlier ∷ []) (a ∷ b ∷ []) × IsKeptPlan a b status text
+
+abbrev pub IsNoKept : (List ℕ → Option (List ℕ)) → List ℕ → List ℕ → CommandRefusal → Type 0
+IsNoKept file table earlier refusal =
+    IsFirstUnread file (table ∷ earlier ∷ []) refusal
+    ⊎ ((a : List ℕ) × (b : List ℕ) × AreRead file (table ∷ earlier ∷ []) (a ∷ b ∷ []) × IsNoKeptPlan a b refusal)
+
+-- the answer of `plan`: with `--keep` that of two files, otherwise the plan of one
+abbrev pub PlannedBy : Option (List ℕ) → (List ℕ → Option (List ℕ)) → AskedBytes → ℕ → List ℕ → Type 0
+PlannedBy None file r = IsPlanReply verb.Plan file r
+PlannedBy (Some earlier) file r = IsKeptOf file r.first earlier
+
+abbrev pub IsPlanned : (List ℕ → Option (List ℕ)) → AskedBytes → ℕ → List ℕ → Type 0
+IsPlanned file r = PlannedBy (text_given r.given option.Keep) file r
+
+-- why there is none
+abbrev pub UnplannedBy : Option (List ℕ) → (List ℕ → Option (List ℕ)) → AskedBytes → CommandRefusal → Type 0
+UnplannedBy None file r = IsNoPlanReply verb.Plan file r
+UnplannedBy (Some earlier) file r = IsNoKept file r.first earlier
+
+abbrev pub IsUnplanned : (List ℕ → Option (List ℕ)) → AskedBytes → CommandRefusal → Type 0
+IsUnplanned file r = UnplannedBy (text_given r.given option.Keep) file r

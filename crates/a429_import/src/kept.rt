@@ -1,0 +1,160 @@
+//! Columns of a sheet that go along as comments of the table.
+ghost use Rattle.std.specs.Prelude.{◌≡◌, ◌&&◌, ◌++◌, ◌∷◌, [], ℕ, IfOk, List, OnOk, option_map};
+ghost use Rattle.std.specs.Str.{is_utf8};
+ghost use Rattle.csv.specs.Records.{fields_of};
+ghost use Rattle.a429_import.specs.declared.lines.CsvLine.{CsvLine};
+ghost use Rattle.a429_import.specs.ImportRows.{has_label};
+ghost use Rattle.a429_import.specs.ImportTables.{is_word};
+ghost use Rattle.a429_import.specs.KeptFields.{AreKept, KeepsTexts, TakesText, kept_heading, kept_in, kept_line, lines_kept, shown, shown_byte};
+
+use crate::columns::Heading;
+use crate::fault::ImportColumn;
+use crate::fields::utf8_in;
+use crate::lines::CsvLine;
+use crate::names::Names;
+use crate::notes::has_label;
+use crate::texts::Texts;
+use a429_text::Text;
+use std::alloc::{AllocError, Global};
+
+/// The heading of a column that goes along: what follows `#:` in its name.
+fn kept_heading(name: &[u8]) -> Option<&[u8]>
+    ensures { option_map (λ heading. heading.now) result ≡ kept_heading name.now }
+{
+    match name {
+        [b'#', b':', heading @ ..] => Some(heading),
+        _ => None,
+    }
+}
+
+/// A byte as a comment has it.
+fn shown_byte(is_text: bool, is_heading: bool, byte: u8) -> u8
+    ensures { result ≡ shown_byte is_text is_heading byte }
+{
+    if byte < 32 || byte == 127 {
+        b' '
+    } else if byte == b'|' && is_heading {
+        b'/'
+    } else if byte < 128 || is_text {
+        byte
+    } else {
+        b'?'
+    }
+}
+
+/// Whether bytes are UTF-8.
+#[tactic(auto, unfolding(crate::specs::ImportFields::utf8_in))]
+fn is_utf8(bytes: &[u8]) -> bool
+    ensures { result ≡ is_utf8 bytes.now }
+{
+    utf8_in(bytes).is_some()
+}
+
+/// Writes a heading or a field as a comment has it: with spaces for control characters, and `?` for bytes above 127 if it is
+/// no UTF-8. In a heading `|` becomes `/`.
+pub fn put_shown(text: &mut Text, is_heading: bool, bytes: &[u8])
+    ensures { text.new ≡ text.old ++ shown is_heading bytes.now }
+{
+    let is_text = is_utf8(bytes);
+    for byte in bytes {
+        text.put_bytes(&[shown_byte(is_text, is_heading, *byte)]);
+    }
+}
+
+/// Writes the line of a field below a field of the heading, if its column goes along and the field is not empty.
+fn put_line(text: &mut Text, name: &[u8], field: &[u8])
+    ensures { text.new ≡ text.old ++ kept_line (kept_heading name.now) field.now }
+{
+    match kept_heading(name) {
+        Some(heading) if !field.is_empty() => {
+            put_shown(text, true, heading);
+            text.put(" | ");
+            put_shown(text, false, field);
+            text.put_bytes(b"\n");
+        }
+        _ => {}
+    }
+}
+
+/// What a row says in the columns that go along: a line `HEADING | FIELD` for each field that is not empty. Error: an
+/// allocation failed.
+fn kept_in(alloc: Global, heading: &CsvLine, line: &CsvLine) -> Result<Vec<u8>, AllocError>
+    ensures { IfOk result (λ text. text.items ≡ kept_in (fields_of heading.now.fields) (fields_of line.now.fields)) }
+{
+    let mut text = Text::new(alloc);
+    for place in 0..line.len() {
+        put_line(&mut text, heading.field(place), line.field(place));
+    }
+    text.into_bytes()
+}
+
+/// Whether the lines of a row count: the row has a label, so it is no note, and there are lines.
+fn counts(heading: &Heading, line: &CsvLine, text: &[u8]) -> bool
+    ensures { result ≡ (has_label (fields_of heading.now.line.fields) line.now && is_word text.now) }
+{
+    has_label(heading, line) && !text.is_empty()
+}
+
+/// For each source, what its first row says in the columns that go along, of those rows that say something there.
+#[derive(Drop)]
+pub struct KeptTexts {
+    sources: Names,
+    texts: Texts,
+}
+
+impl KeptTexts {
+    /// What is known before the first row. Error: an allocation failed.
+    pub fn new(alloc: Global) -> Result<KeptTexts, AllocError>
+        ensures { IfOk result (λ kept. (heading : List (List ℕ)) → KeepsTexts kept heading []) }
+    {
+        Ok(KeptTexts {
+            sources: Names::new(alloc, 256)?,
+            texts: Texts::new(alloc),
+        })
+    }
+
+    /// The lines of a source; nothing if there are none.
+    pub fn text_of(&self, source: &[u8]) -> &[u8]
+        requires { AreKept self.now }
+        ensures { result.now ≡ lines_kept self.now source.now }
+    {
+        match self.sources.find(source) {
+            Some(place) => self.texts.get(place),
+            None => &[],
+        }
+    }
+
+    /// Takes the lines of a source, unless it has some. Error: an allocation failed.
+    fn take(&mut self, source: &[u8], text: &[u8]) -> Result<(), AllocError>
+        requires { AreKept self.old }
+        ensures { OnOk result (TakesText self.old self.new source.now text.now) }
+    {
+        match self.sources.find(source) {
+            Some(_place) => Ok(()),
+            None => {
+                self.texts.push(text)?;
+                self.sources.push(source)?;
+                Ok(())
+            }
+        }
+    }
+
+    /// Takes what one more row says, unless it may be a note. Error: an allocation failed.
+    pub fn note(
+        &mut self,
+        alloc: Global,
+        heading: &Heading,
+        line: &CsvLine,
+    ) -> Result<(), AllocError>
+        requires { AreKept self.old }
+        ensures { OnOk result ((below : List CsvLine) → KeepsTexts self.old (fields_of heading.now.line.fields) below
+            → KeepsTexts self.new (fields_of heading.now.line.fields) (below ++ line.now ∷ [])) }
+    {
+        let text = kept_in(alloc, &heading.line, line)?;
+        if counts(heading, line, &text) {
+            self.take(heading.field_of(line, ImportColumn::Source), &text)
+        } else {
+            Ok(())
+        }
+    }
+}

@@ -1,0 +1,11 @@
+pub mod Blocks
+pub mod Changes
+pub mod KeepExamples
+pub mod KeptLines
+pub mod KeptPlans
+pub mod Laws
+pub mod Places
+pub mod Placing
+pub mod Readings
+pub mod Rows
+pub mod Spots
