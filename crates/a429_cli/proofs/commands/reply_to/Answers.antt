@@ -30,7 +30,7 @@ returns-in-Import-clause-replied g c =
     given_by g.F.FileReader.answers c.args.files.now c.import_reply.new.files (asked_of asked) c.import_reply.result asked.verb verb.Import c.in-Import.is
     (read_weaker c.import_reply.ensures.replied
     (λ file is.
-    subst₂ (λ (maps : List (List ℕ)) (options : ImportOptions). IsImportReply file maps options asked.first.now c.import_reply.result) (ap₂ heading_texts (c.texts.ensures refl) (c.texts-2.ensures refl)) c.import_options.ensures is))
+    subst₂ (λ (maps : List (List ℕ)) (options : ImportOptions). IsImportReply file maps options asked.first.now c.import_reply.result) (ap₂ heading_texts (c.texts.ensures refl) (c.texts-in-Import.ensures refl)) c.import_options.ensures is))
 
 pub returns-in-Check-clause-replied : goal.returns-in-Check-clause-replied
 returns-in-Check-clause-replied g c =
@@ -66,7 +66,7 @@ returns-in-Import-clause-silent g c =
     rw c.in-Import.is
     (read_weaker c.import_reply.ensures.silent
     (λ file silent none.
-    silent (subst₂ (λ (maps : List (List ℕ)) (options : ImportOptions). ImportsSilently file maps options asked.first.now) (sym (ap₂ heading_texts (c.texts.ensures refl) (c.texts-2.ensures refl))) (sym c.import_options.ensures) none)))
+    silent (subst₂ (λ (maps : List (List ℕ)) (options : ImportOptions). ImportsSilently file maps options asked.first.now) (sym (ap₂ heading_texts (c.texts.ensures refl) (c.texts-in-Import.ensures refl))) (sym c.import_options.ensures) none)))
 
 pub returns-in-Check-clause-silent : goal.returns-in-Check-clause-silent
 returns-in-Check-clause-silent g c = read_weaker c.check_reply.ensures (λ file is silent. refl)
