@@ -115,9 +115,9 @@ fits form.Drift text = is_some (drift_in text)
 abbrev pub form_of : Given → SheetForm
 form_of given = if has_given given option.Csv then sheet.Csv else (if has_given given option.Json then sheet.Json else sheet.Columns)
 
--- the unit of the times in a log
-abbrev pub unit_of : Given → TimeUnit
-unit_of given = unwrap_or (option_and_then unit_in (text_given given option.Time)) unit.Microseconds
+-- the unit of the times in a log, if one is given
+abbrev pub unit_of : Given → Option TimeUnit
+unit_of given = option_and_then unit_in (text_given given option.Time)
 
 -- the order in which the bits of words in a log are written
 abbrev pub order_of : Given → BitOrder

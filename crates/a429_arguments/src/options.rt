@@ -47,7 +47,6 @@ pub enum OptionName {
     Shift,
     Drift,
     Align,
-    Tick,
 }
 
 /// Which texts an option takes.
@@ -126,7 +125,7 @@ macro_rules! options {
 
 /// The options, in the order of `OptionName`: the name of each without the two hyphens, and what is given with it. The
 /// ranges are those of docs/RULES.md, Limits; that of `--rate` is the bit rate of a line (ARINC 429 Part 1).
-pub static OPTIONS: [(OptionName, &str, OptionKind); 43] = [
+pub static OPTIONS: [(OptionName, &str, OptionKind); 42] = [
     flag!(Csv, "csv"),
     flag!(Json, "json"),
     flag!(Stamp, "stamp"),
@@ -169,7 +168,6 @@ pub static OPTIONS: [(OptionName, &str, OptionKind); 43] = [
     text!(Shift, "shift", Shift),
     text!(Drift, "drift", Drift),
     flag!(Align, "align"),
-    number!(Tick, "tick", 1, 1_000_000_000),
 ];
 
 /// The options of the commands that have some, in the order in which help lists them.
@@ -192,16 +190,16 @@ pub const LOAD_OPTIONS: &[OptionName] = options![Limit, Csv, Json, Stamp];
 pub const DIFF_OPTIONS: &[OptionName] = options![All, Csv, Json, Stamp];
 
 pub const SIMULATE_OPTIONS: &[OptionName] = options![
-    Time, Tick, From, Map, Channel, Ignore, Reversed, Until, Sent, Summary, Csv, Json
+    Time, From, Channel, Ignore, Reversed, Until, Sent, Summary, Csv, Json
 ];
 
 pub const SURVEY_OPTIONS: &[OptionName] = options![
-    Time, Tick, From, Until, Map, Channel, Ignore, Reversed, Rate, Rows, Slack, Csv, Json
+    Time, From, Until, Channel, Ignore, Reversed, Rate, Rows, Slack, Csv, Json
 ];
 
 pub const JUDGE_OPTIONS: &[OptionName] = options![
-    In, Tolerance, Events, Time, Tick, From, Until, Align, Shift, Drift, Map, Channel, Ignore,
-    Reversed, Csv, Json
+    In, Tolerance, Events, Time, From, Until, Align, Shift, Drift, Channel, Ignore, Reversed, Csv,
+    Json
 ];
 
 pub const ENCODE_OPTIONS: &[OptionName] = options![Sdi, Ssm, Data, Bnr, Bits, Bcd, Csv, Json];

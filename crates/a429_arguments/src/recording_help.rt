@@ -107,13 +107,6 @@ pub const ALIGN: &str = "\
 Find --shift and --drift by the words that change, and
 print both";
 
-pub const TICK: &str = "\
-Times are hexadecimal counts of NS nanoseconds";
-
-pub const LOG_MAP: &str = "\
-Take a column with this heading as the column COLUMN,
-as in --map Line=channel; may be given again";
-
 pub const SENT: &str = "Only the words that are sent, as a log for `judge`";
 
 pub const SUMMARY: &str = "A row for each output instead of a line for each word";

@@ -93,13 +93,13 @@ impl<'a> Asked<'a> {
         }
     }
 
-    /// The unit of the times in a log: microseconds, unless `--time` is given.
-    pub fn unit(&self) -> TimeUnit
+    /// The unit of the times in a log, if `--time` gives one.
+    pub fn unit(&self) -> Option<TimeUnit>
         ensures { result ≡ unit_of (asked_of self.now).given }
     {
         match self.text(OptionName::Time) {
-            Some(text) => unit_in(text).unwrap_or(TimeUnit::Microseconds),
-            None => TimeUnit::Microseconds,
+            Some(text) => unit_in(text),
+            None => None,
         }
     }
 

@@ -32,7 +32,7 @@ pub enum Rule {
 }
 
 /// The rules, in the order in which they are checked. With a command: the rule is for that command alone.
-pub static RULES: [(Rule, Option<Verb>); 35] = [
+pub static RULES: [(Rule, Option<Verb>); 34] = [
     (
         Rule::OneOf(OptionName::Data, OptionName::Bnr, OptionName::Bcd),
         Some(Verb::Encode),
@@ -73,7 +73,6 @@ pub static RULES: [(Rule, Option<Verb>); 35] = [
     (Rule::Fits(OptionName::Drift), None),
     (Rule::Excludes(OptionName::Align, OptionName::Shift), None),
     (Rule::Excludes(OptionName::Align, OptionName::Drift), None),
-    (Rule::Excludes(OptionName::Tick, OptionName::Time), None),
 ];
 
 /// What is wrong with arguments that break a rule, for people.
@@ -117,7 +116,6 @@ fn message(rule: Rule) -> &'static str {
         Rule::Excludes(OptionName::Align, _) => {
             "'--align' cannot be used with '--shift' or '--drift'"
         }
-        Rule::Excludes(OptionName::Tick, _) => "'--tick' and '--time' cannot be used together",
         Rule::Excludes(OptionName::Csv, _) => "'--csv' and '--json' cannot be used together",
         Rule::Excludes(_, OptionName::Board) => "'--c' and '--board' cannot be used together",
         Rule::Excludes(OptionName::Board, _) => "'--all' and '--board' cannot be used together",

@@ -23,8 +23,10 @@ use Rattle.a429_live.specs.LiveReplies.{IsLiveReply, TakesLive}
 use Rattle.a429_replay.specs.Replaying.{IsReplay, TakesFurther}
 use Rattle.a429_replay.specs.Views.{view_given}
 use Rattle.a429_recordings.specs.LogViews.{whole_view}
-use Rattle.a429_recordings.specs.SimulationReplies.{IsSimulation, SimulatesSpacedWords, simulation_form}
-use Rattle.a429_cli.specs.JudgeAnswers.{IsJudgement, IsUnjudged}
+use Rattle.a429_recordings.specs.SimulationReplies.{IsSimulation, SimulatesSpacedWords, reading_for, simulation_form}
+use Rattle.a429_recordings.specs.JudgeReplies.{PassesNoBoxLine}
+use Rattle.a429_recordings.specs.LogItems.{PassesNoLine}
+use Rattle.a429_cli.specs.JudgeAnswers.{IsJudgement, IsUnjudged, box_names}
 use Rattle.a429_cli.specs.SurveyReplies.{IsSurveyed, IsUnsurveyed}
 use Rattle.a429_cli.specs.WholeReplies.{IsReplyBy}
 
@@ -87,12 +89,16 @@ IsReplyOf verb.Live file r = IsLiveReply file r
 IsReplyOf v file r = IsReplyBy (trouble_of v) (IsAnswerOf v file r) (IsNoAnswer v file r)
 
 -- A command has nothing to warn of: the station takes the plans of all further tables, and the words of the log are apart. The imported rows
--- have no notes, and no group has intervals that may be milliseconds. No places of an earlier plan must be kept.
+-- have no notes, and no group has intervals that may be milliseconds. No places of an earlier plan must be kept, and no clock is
+-- looked for. No line of a log is passed over, other than those that every log may have.
 abbrev pub HasNoWarning : Verb → (List ℕ → Option (List ℕ)) → AskedBytes → Type 0
 HasNoWarning verb.Import file r = ImportsSilently file (texts_given r.given) (import_options r.given) r.first
 HasNoWarning verb.Plan file r = has_given r.given option.Keep ≡ false
+HasNoWarning verb.Judge file r = (has_given r.given option.Align ≡ false) × PassesNoBoxLine file (box_names r) (reading_for r.given)
+HasNoWarning verb.Survey file r = PassesNoLine file (r.first ∷ r.more) (reading_for r.given)
 HasNoWarning verb.Replay file r = TakesFurther file r.first r.second r.more
-HasNoWarning verb.Simulate file r = SimulatesSpacedWords file r.first (r.second ∷ r.more) (whole_view r.given) (simulation_form r.given)
+HasNoWarning verb.Simulate file r =
+    PassesNoLine file (r.second ∷ r.more) (reading_for r.given) × SimulatesSpacedWords file r.first (r.second ∷ r.more) (whole_view r.given) (simulation_form r.given)
 HasNoWarning verb.Live file r = TakesLive file r
 HasNoWarning _ file r = ⊤
 

@@ -134,8 +134,8 @@ fn reply_to<F: FileReader>(
         Verb::Check => check_reply(alloc, files, first, second, form),
         Verb::Lint => lint_reply(alloc, files, asked),
         Verb::Diff => diff_reply(alloc, files, asked),
-        Verb::Survey => survey_reply(alloc, files, asked),
-        Verb::Judge => judge_reply(alloc, files, asked),
+        Verb::Survey => survey_reply(alloc, files, asked, warnings),
+        Verb::Judge => judge_reply(alloc, files, asked, warnings),
         Verb::Plan => plan_or_kept(alloc, files, asked, warnings),
         _ => plan_reply(alloc, files, asked),
     }

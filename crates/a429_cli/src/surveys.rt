@@ -2,44 +2,47 @@
 ghost use Rattle.std.specs.Prelude.{◌≡◌, ◌∷◌};
 ghost use Rattle.a429_console.specs.Readings.{HasRead};
 ghost use Rattle.a429_arguments.specs.Requests.{asked_of};
-ghost use Rattle.a429_arguments.specs.declared.times.Shift.TheVariants.{Later};
-ghost use Rattle.a429_recordings.specs.LogItems.{logs_named, view_named};
-ghost use Rattle.a429_recordings.specs.LogViews.{window_view};
+ghost use Rattle.a429_recordings.specs.LogItems.{PassesNoLine, logs_named, view_named};
+ghost use Rattle.a429_recordings.specs.SimulationReplies.{reading_for};
+ghost use Rattle.a429_recordings.specs.LogViews.{same_clock, window_view};
 ghost use Rattle.a429_cli.specs.SurveyReplies.{IsSurveyed, IsUnsurveyed};
 ghost use Rattle.a429_cli.specs.WholeReplies.{Replies};
 
 use crate::replies::reply::Reply;
 use a429_arguments::requests::Asked;
-use a429_arguments::times::Shift;
 use a429_console::files::FileReader;
+use a429_console::hints::warnings::Warning;
 use a429_console::refusals::Refused;
-use a429_recordings::survey::{LogNames, LogView, SurveyForm, survey_logs};
+use a429_recordings::survey::{ClockMove, LogNames, LogView, SurveyForm, survey_logs};
 use std::alloc::Global;
 
 /// The names of the logs that a request has, and which of their words it asks for.
 fn names_in<'a>(asked: &'a Asked) -> LogNames<'a>
     ensures logs { logs_named result ≡ (asked_of asked.now).first ∷ (asked_of asked.now).more }
-    ensures view { view_named result ≡ window_view (asked_of asked.now).given (Later 0) }
+    ensures view { view_named result ≡ window_view (asked_of asked.now).given same_clock }
 {
     LogNames {
         first: asked.first,
         more: &asked.more,
-        view: LogView::window(asked, Shift::Later(0)),
+        view: LogView::window(asked, ClockMove::none()),
     }
 }
 
 /// What is on the lines of a log and of those that follow it, with status 0. Errors, in this order: a file is refused, or
-/// a line is faulty. `Memory` if an allocation fails.
+/// a line is faulty. `Memory` if an allocation fails. What is passed over in a log is noted.
 pub fn survey_reply<F: FileReader>(
     alloc: Global,
     files: &mut F,
     asked: &Asked,
+    warnings: &mut Vec<Warning>,
 ) -> Result<Reply, Refused>
-    ensures { HasRead F.answers (λ file. Replies (IsSurveyed file (asked_of asked.now))
+    ensures silent { HasRead F.answers (λ file. PassesNoLine file ((asked_of asked.now).first ∷ (asked_of asked.now).more)
+        (reading_for (asked_of asked.now).given) → warnings.new.items ≡ warnings.old.items) files.old files.new }
+    ensures answer { HasRead F.answers (λ file. Replies (IsSurveyed file (asked_of asked.now))
         (IsUnsurveyed file (asked_of asked.now)) result) files.old files.new }
 {
     let form = SurveyForm::of(asked);
-    match survey_logs(alloc, files, names_in(asked), form) {
+    match survey_logs(alloc, files, names_in(asked), form, warnings) {
         Ok(text) => Ok(Reply::done(text)),
         Err(refusal) => Err(refusal),
     }

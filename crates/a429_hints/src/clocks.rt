@@ -1,15 +1,56 @@
 //! Hints about two logs of `judge` that do not fit together.
 
 use crate::hint::HintText;
+use a429_arguments::times::{Drift, Shift};
+use a429_console::hints::warnings::FoundClock;
 use a429_logs::TimeUnit;
 use a429_text::{Sheet, SheetForm};
 
 /// Says that a log has no time in common with that of the words that came in.
 pub fn tell_apart(heard: &str, hint: &HintText) {
     hint.line_one(
-        "no time is within this log and within {?}; both logs need times of one clock, or --shift moves this one",
+        "no time is within this log and within {?}; both logs need times of one clock; --align finds how to move this one",
         heard,
     );
+}
+
+/// Says by how much times are moved, as an option.
+fn say_shift(shift: Shift, hint: &HintText) {
+    match shift {
+        Shift::Later(by) => hint.say_one("--shift={}", by),
+        Shift::Earlier(by) => hint.say_one("--shift=-{}", by),
+    }
+}
+
+/// Says by how much a clock is fast, as an option, unless it is not.
+fn say_drift(drift: Drift, hint: &HintText) {
+    match drift {
+        Drift::Fast(0) => {}
+        Drift::Fast(parts) => hint.say_one(" --drift={}", parts),
+        Drift::Slow(parts) => hint.say_one(" --drift=-{}", parts),
+    }
+}
+
+/// Says how the times of this log were moved to the clock of another one, and how sure that is.
+pub fn tell_clock(heard: &str, clock: Option<FoundClock>, hint: &HintText) {
+    let Some(clock) = clock else {
+        return hint.line_one(
+            "no clock was found by which this log fits {?}: too few words change, or most do not fit; give --shift",
+            heard,
+        );
+    };
+    hint.begin(": ");
+    say_shift(clock.shift, hint);
+    say_drift(clock.drift, hint);
+    hint.say_two(
+        " was found by {} changes of words, give or take {} us",
+        clock.words,
+        clock.margin,
+    );
+    if clock.unfit > 0 {
+        hint.say_one("; {} of them do not fit", clock.unfit);
+    }
+    hint.end("");
 }
 
 /// A box with fewer sends says nothing of clocks.
@@ -121,29 +162,35 @@ fn all_sends(text: &str) -> Sends {
 
 /// Says what may be wrong with the log of what was sent, by the rows of `judge`: it may have another clock than the log of what
 /// came in, another unit of times, or words of other outputs. Or it may end earlier.
-pub fn tell_clocks(heard: &str, unit: TimeUnit, judged: &Sheet, hint: &HintText) {
+pub fn tell_clocks(
+    heard: &str,
+    unit: Option<TimeUnit>,
+    aligned: bool,
+    judged: &Sheet,
+    hint: &HintText,
+) {
     let Ok(bytes) = judged.render(hint.alloc, SheetForm::Csv) else {
         return hint.give_up();
     };
     let text = str::from_utf8(&bytes).unwrap_or("");
-    tell_sends(heard, unit, all_sends(text), hint);
+    tell_sends(heard, unit, aligned, all_sends(text), hint);
 }
 
 /// Says what the sends of all outputs are like.
-fn tell_sends(heard: &str, unit: TimeUnit, sends: Sends, hint: &HintText) {
+fn tell_sends(heard: &str, unit: Option<TimeUnit>, aligned: bool, sends: Sends, hint: &HintText) {
     if sends.end_early() {
         hint.line_one(
             "no output sends until the logs end: the box stopped, or this log ends too early; then cut {?} at the same time",
             heard,
         );
     }
-    if sends.look_shifted() {
+    if sends.look_shifted() && !aligned {
         hint.line_one(
-            "most words are wrong or stale, and hardly any is soon or late: perhaps this log and {?} are not on one clock; then move this one by --shift",
+            "most words are wrong or stale, and hardly any is soon or late: perhaps this log and {?} are not on one clock; then give --align",
             heard,
         );
     }
-    if sends.look_fast() && unit == TimeUnit::Microseconds {
+    if sends.look_fast() && unit.unwrap_or(TimeUnit::Microseconds) == TimeUnit::Microseconds {
         hint.say_line(
             "nearly all words come too soon: if the times of both logs are milliseconds, give --time ms",
         );

@@ -5,6 +5,7 @@ use crate::hint::HintText;
 use crate::lists::{begin_names, has_name, nearest_of};
 use crate::rows::short_text;
 use crate::scripts::{NOT_UTF8, is_script_word, tell_no_word};
+use a429_console::hints::warnings::PassedLines;
 use a429_console::refusals::evidence::{LineEvidence, LogEvidence, LogRefusal};
 use a429_logs::{
     Column, Fields, HeadingFault, LineFault, Mark, Places, RowFault, TimeUnit, WordPlaces,
@@ -354,8 +355,8 @@ pub fn tell_too_long(until: Option<u64>, hint: &HintText) {
 }
 
 /// Says that words come more closely than a bus can carry them, and with which unit their times would be longer.
-pub fn tell_close_words(receiver: &str, unit: TimeUnit, hint: &HintText) {
-    let remedy = match unit {
+pub fn tell_close_words(receiver: &str, unit: Option<TimeUnit>, hint: &HintText) {
+    let remedy = match unit.unwrap_or(TimeUnit::Microseconds) {
         TimeUnit::Microseconds => "; if the times are milliseconds, give --time ms",
         TimeUnit::Milliseconds => "; if the times are seconds, give --time s",
         TimeUnit::Nanoseconds => "; if the times are microseconds, give --time us",
@@ -366,4 +367,20 @@ pub fn tell_close_words(receiver: &str, unit: TimeUnit, hint: &HintText) {
         receiver,
         remedy,
     );
+}
+
+/// Says which lines of a log are passed over, since they state no word.
+pub fn tell_passed(lines: PassedLines, hint: &HintText) {
+    if lines.titles > 0 {
+        hint.line_one(
+            "lines above the heading that are passed over: {}",
+            lines.titles,
+        );
+    }
+    if let Some(tail) = lines.tail {
+        hint.line_one(
+            "line {} and those after it are passed over: they are no rows",
+            tail,
+        );
+    }
 }

@@ -1,7 +1,7 @@
 //! Chooses the hints for what a command read and refused.
 
 use crate::checks::tell_objection;
-use crate::clocks::{tell_apart, tell_clocks};
+use crate::clocks::{tell_apart, tell_clock, tell_clocks};
 use crate::differences::tell_difference;
 use crate::faults::tell_table_fault;
 use crate::files::{REFUSED_OUTPUT, UTF_16, tell_trouble};
@@ -9,7 +9,7 @@ use crate::findings::{tell_changes, tell_findings};
 use crate::hint::HintText;
 use crate::imports::{tell_millis_group, tell_notes, tell_rows, tell_short_intervals};
 use crate::keeping::{tell_kept, tell_moved, tell_plan_line};
-use crate::logs::{tell_close_words, tell_log_line, tell_too_long};
+use crate::logs::{tell_close_words, tell_log_line, tell_passed, tell_too_long};
 use crate::mistakes::{tell_habits, tell_nearest_word};
 use crate::plans::{tell_all_unfit, tell_fewer_buses, tell_groups, tell_half_period};
 use crate::scripts::{tell_script_line, tell_words_line};
@@ -96,7 +96,8 @@ fn tell_found(asked: &Asked, found: &Sheet, hint: &HintText) {
     match asked.verb {
         Verb::Judge => {
             hint.turn_to(asked.third);
-            tell_clocks(asked.second, asked.unit(), found, hint);
+            let aligned = asked.has(OptionName::Align);
+            tell_clocks(asked.second, asked.unit(), aligned, found, hint);
         }
         Verb::Diff => {
             hint.turn_to(asked.second);
@@ -114,6 +115,8 @@ fn tell_warning(asked: &Asked, warning: &Warning, hint: &HintText) {
     hint.turn_to(match warning {
         Warning::Further(fault) => nth(&asked.more, fault.number),
         Warning::Kept(_) | Warning::Moved(_) => asked.text(OptionName::Keep).unwrap_or(""),
+        Warning::Clock(_) => asked.third,
+        Warning::Passed(lines) => log_name(asked, lines.log),
         _ => text_name(asked),
     });
     let maps = asked.texts(OptionName::Map);
@@ -125,6 +128,8 @@ fn tell_warning(asked: &Asked, warning: &Warning, hint: &HintText) {
         Warning::Notes(count) => tell_notes(*count, hint),
         Warning::Kept(counts) => tell_kept(*counts, hint),
         Warning::Moved(output) => tell_moved(output, hint),
+        Warning::Clock(clock) => tell_clock(asked.second, *clock, hint),
+        Warning::Passed(lines) => tell_passed(*lines, hint),
     }
 }
 

@@ -7,14 +7,16 @@ use Rattle.a429_console.specs.Names.{naming_of}
 use Rattle.a429_console.specs.Tables.{IsProposedBy}
 use Rattle.a429_console.specs.declared.refusals.CommandRefusal.{CommandRefusal}
 use Rattle.a429_console.specs.declared.refusals.CommandRefusal.TheVariants as refused
+use Rattle.a429_console.specs.RefusalText.{OrMemory}
 use Rattle.a429_console.proofs.Refused.{or_memory_weaker}
+use Rattle.a429_align.specs.declared.search.Alignment.{Alignment}
 use Rattle.a429_judge.specs.Recordings.{Recording}
 use Rattle.a429_recordings.specs.BoxLogs.{IsNoting, overlap}
-use Rattle.a429_recordings.specs.JudgeReplies.{AreBoxFiles, BoxFiles, IsJudgeAnswer, IsJudging, IsJudgingOf, IsNoRecording, IsPrinting, IsRecorded, IsUnjudged, IsUnjudgedBy, IsUnjudgedOf, heard_words, no_group_of, sent_words}
+use Rattle.a429_recordings.specs.JudgeReplies.{AreBoxFiles, BoxFiles, IsJudgeAnswer, IsJudging, IsJudgingOf, IsNoRecording, IsRecorded, IsUnjudged, IsUnjudgedBy, IsUnjudgedOf, MayBeFound, aligned_by, heard_words, no_group_of, sent_words}
 use Rattle.a429_recordings.specs.JudgedPlans.{is_any_wide}
 use Rattle.a429_recordings.specs.LogItems.{reading_behind}
 use Rattle.a429_recordings.specs.declared.judge.JudgeForm.{JudgeForm}
-use Rattle.a429_recordings.specs.declared.judge.sheets.Judged.{Judged}
+use Rattle.a429_recordings.specs.declared.judge.Judged.{Judged}
 use Rattle.a429_recordings.specs.declared.judge.words.BoxWord.{BoxWord}
 
 -- logs with these words
@@ -25,10 +27,10 @@ recorded q i reading heard sent (Err e) h s bad =
     or_memory_weaker (λ (refusal : CommandRefusal). (overlap heard sent ≡ false) × (refusal ≡ refused.Apart)) (IsNoRecording q i reading) e (λ one. inr (inr (heard, sent, h, s, one.0, one.1))) bad
 
 -- each group is there, and no tolerance is too great
-pub printed : (q : Proposed) (i : BoxFiles (List ℕ)) (f : JudgeForm) (result : Result Judged CommandRefusal) → no_group_of (naming_of q.station) i.tolerances ≡ None → is_any_wide q i.tolerances ≡ false → IsPrinting q i f result
-    → IsJudgingOf q i f result
-printed q i f (Ok j) all narrow is = (all, narrow, is)
-printed q i f (Err e) all narrow bad = or_memory_weaker (IsNoRecording q i f.reading) (IsUnjudgedOf q i f) e (λ one. inr (all, inr (narrow, one))) bad
+pub unprinted : (q : Proposed) (i : BoxFiles (List ℕ)) (f : JudgeForm) (clock : Option Alignment) (e : CommandRefusal) → no_group_of (naming_of q.station) i.tolerances ≡ None → is_any_wide q i.tolerances ≡ false → MayBeFound i clock
+    → OrMemory (IsNoRecording q (aligned_by clock i) f.reading) e → OrMemory (IsUnjudgedOf q i f) e
+unprinted q i f clock e all narrow may bad =
+    or_memory_weaker (IsNoRecording q (aligned_by clock i) f.reading) (IsUnjudgedOf q i f) e (λ one. inr (all, inr (narrow, clock, may, one))) bad
 
 -- the bytes of the table have this plan
 pub judged_of : (q : Proposed) (i : BoxFiles (List ℕ)) (f : JudgeForm) (result : Result Judged CommandRefusal) → IsProposedBy i.table q → IsJudgingOf q i f result → IsJudging i f result

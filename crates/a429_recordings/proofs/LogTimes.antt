@@ -1,6 +1,8 @@
 -- The times of the words of logs: they never fall, and each is below 10^14 microseconds.
-use Rattle.std.proofs.Common.{◌≡◌, ◌∙◌, ◌+◌, ◌-◌, ◌++◌, ◌^◌, ◌<◌, ◌≤◌, ℕ, zero, suc, true, false, Bool, List, [], ◌∷◌, ap, refl, sym, arith, subst}
+use Rattle.std.proofs.Common.{◌≡◌, ◌∙◌, ◌+◌, ◌-◌, ◌*◌, ◌++◌, ◌^◌, ◌<◌, ◌≤◌, ℕ, zero, suc, true, false, Bool, List, [], ◌∷◌, ap, inl, inr, refl, sym, arith, subst}
 use Rattle.std.specs.Prelude.{⊤, Option, Some, None, Result, Ok, Err, if◌then◌else◌, nat_lt, option_and_then, option_map, slice_get}
+use Rattle.std.proofs.Math.Nat.{mul-le-mul_left, mul-le-mul_right}
+use Rattle.std.proofs.lemmas.Bool.{cases_lt}
 use Rattle.std.proofs.lemmas.Bool.Decides.{nat_tests}
 use Rattle.std.proofs.lemmas.Option.{none-some, same_Some}
 use Rattle.a429_word.proofs.Lists.{same_Ok}
@@ -9,28 +11,69 @@ use Rattle.a429_logs.specs.Logs.{NoneBefore, WordAt, series_entries}
 use Rattle.a429_logs.specs.declared.reader.LogFault.{LogFault}
 use Rattle.a429_logs.specs.declared.reading.Reading.{Reading}
 use Rattle.a429_logs.proofs.NeverFall.{series_fall}
+use Rattle.a429_align.specs.Corrections.{corrected, part_of}
+use Rattle.a429_arguments.specs.declared.times.Drift.{Drift}
+use Rattle.a429_arguments.specs.declared.times.Drift.TheVariants as drift
 use Rattle.a429_arguments.specs.declared.times.Shift.{Shift}
 use Rattle.a429_arguments.specs.declared.times.Shift.TheVariants as shift
 use Rattle.a429_recordings.specs.LogItems.{items_from, items_of, items_then}
-use Rattle.a429_recordings.specs.LogViews.{View, is_ignored, items_by, moved, since, taken, taken_at, time_in, up_to, viewed}
+use Rattle.a429_recordings.specs.LogViews.{View, is_ignored, items_by, moved, shifted, since, taken, taken_at, time_in, up_to, viewed}
+use Rattle.a429_recordings.specs.declared.logs.views.ClockMove.{ClockMove}
 
 -- ---- times as they are taken
 
--- a time that is moved, or 0 if it is moved to before that
-abbrev shifted : Shift → ℕ → ℕ
-shifted (shift.Later by) t = t + by
-shifted (shift.Earlier by) t = t - by
+-- a time that is moved by a shift, or 0 if it is moved to before that
+abbrev by_shift : Shift → ℕ → ℕ
+by_shift (shift.Later by) t = t + by
+by_shift (shift.Earlier by) t = t - by
+
+-- a time without the drift of its clock, however long it is
+abbrev by_drift : Drift → ℕ → ℕ
+by_drift (drift.Fast parts) t = t - part_of t parts
+by_drift (drift.Slow parts) t = t + part_of t parts
+
+-- the same on another clock
+abbrev by_clock : ClockMove → ℕ → ℕ
+by_clock clock t = by_shift clock.shift (by_drift clock.drift t)
 
 -- the same as it is counted, or 0 if it is before the time from which that is
 abbrev pub moved_to : View → ℕ → ℕ
-moved_to view t = shifted view.shift t - view.from
+moved_to view t = by_clock view.clock t - view.from
 
-later_shifted : (by : Shift) (s t : ℕ) → s ≤ t → shifted by s ≤ shifted by t
+later_shifted : (by : Shift) (s t : ℕ) → s ≤ t → by_shift by s ≤ by_shift by t
 later_shifted (shift.Later by) s t after = omega (arith, after)
 later_shifted (shift.Earlier by) s t after = omega (arith, after)
 
+-- a part of a longer time is longer by at most what the time is longer
+part_more : (s t parts : ℕ) → s ≤ t → parts ≤ 1000000000 → part_of t parts ≤ part_of s parts + (t - s)
+part_more s t parts after few =
+    let d : ℕ = t - s in
+    let longer : t ≡ s + d = omega (arith, after) in
+    let split : t * parts ≡ s * parts + d * parts = ap (λ (n : ℕ). n * parts) longer ∙ omega arith in
+    let small : d * parts ≤ d * 1000000000 = mul-le-mul_left d few in
+    omega (arith, split, small)
+
+part_later : (s t parts : ℕ) → s ≤ t → part_of s parts ≤ part_of t parts
+part_later s t parts after =
+    let more : s * parts ≤ t * parts = mul-le-mul_right parts after in
+    omega (arith, more)
+
+-- from 10^9 parts on nothing is left
+part_all : (t parts : ℕ) → 1000000000 ≤ parts → t ≤ part_of t parts
+part_all t parts many =
+    let more : t * 1000000000 ≤ t * parts = mul-le-mul_left t many in
+    omega (arith, more)
+
+later_drifted : (by : Drift) (s t : ℕ) → s ≤ t → by_drift by s ≤ by_drift by t
+later_drifted (drift.Slow parts) s t after = omega (arith, after, part_later s t parts after)
+later_drifted (drift.Fast parts) s t after = elim (cases_lt parts 1000000000) [
+  | inl few ↦ omega (arith, after, part_more s t parts after (omega (arith, few)))
+  | inr many ↦ omega (arith, part_all s parts many)
+]
+
 later_moved : (view : View) (s t : ℕ) → s ≤ t → moved_to view s ≤ moved_to view t
-later_moved view s t after = omega (arith, later_shifted view.shift s t after)
+later_moved view s t after =
+    omega (arith, later_shifted view.clock.shift (by_drift view.clock.drift s) (by_drift view.clock.drift t) (later_drifted view.clock.drift s t after))
 
 taken_within : (small : Bool) (n t : ℕ) → (if small then Some n else None) ≡ Some t → t ≡ n
 taken_within false n t is = absurd (cc is)
@@ -40,9 +83,17 @@ taken_without : (out : Bool) (n t : ℕ) → (if out then None else Some n) ≡ 
 taken_without true n t is = absurd (cc is)
 taken_without false n t is = sym (same_Some n t is)
 
-is_shifted : (by : Shift) (t u : ℕ) → moved by t ≡ Some u → u ≡ shifted by t
+is_shifted : (by : Shift) (t u : ℕ) → shifted by t ≡ Some u → u ≡ by_shift by t
 is_shifted (shift.Later by) t u is = taken_within (nat_lt (t + by) (2 ^ 64)) (t + by) u is
 is_shifted (shift.Earlier by) t u is = taken_without (nat_lt t by) (t - by) u is
+
+is_corrected : (by : Drift) (t u : ℕ) → corrected by t ≡ Some u → u ≡ by_drift by t
+is_corrected (drift.Fast parts) t u is = taken_within (nat_lt (t - part_of t parts) (2 ^ 64)) (t - part_of t parts) u is
+is_corrected (drift.Slow parts) t u is = taken_within (nat_lt (t + part_of t parts) (2 ^ 64)) (t + part_of t parts) u is
+
+is_moved : (clock : ClockMove) (t u : ℕ) (c : Option ℕ) → corrected clock.drift t ≡ c → option_and_then (shifted clock.shift) c ≡ Some u → u ≡ by_clock clock t
+is_moved clock t u None first is = absurd (cc is)
+is_moved clock t u (Some m) first is = is_shifted clock.shift m u is ∙ ap (by_shift clock.shift) (is_corrected clock.drift t m first)
 
 is_up_to : (until : Option ℕ) (t u : ℕ) → up_to until t ≡ Some u → u ≡ t
 is_up_to None t u is = sym (same_Some t u is)
@@ -52,11 +103,11 @@ is_counted : (view : View) (m t : ℕ) (s : Option ℕ) → since view.from m �
 is_counted view m t None first is = absurd (cc is)
 is_counted view m t (Some s) first is = is_up_to view.until s t is ∙ taken_without (nat_lt m view.from) (m - view.from) s first
 
-is_time_in : (view : View) (t u : ℕ) (m : Option ℕ) → moved view.shift t ≡ m
+is_time_in : (view : View) (t u : ℕ) (m : Option ℕ) → moved view.clock t ≡ m
     → option_and_then (up_to view.until) (option_and_then (since view.from) m) ≡ Some u → u ≡ moved_to view t
 is_time_in view t u None first is = absurd (cc is)
 is_time_in view t u (Some m) first is =
-    is_counted view m u (since view.from m) refl is ∙ ap (λ (n : ℕ). n - view.from) (is_shifted view.shift t m first)
+    is_counted view m u (since view.from m) refl is ∙ ap (λ (n : ℕ). n - view.from) (is_moved view.clock t m (corrected view.clock.drift t) refl first)
 
 -- a word that is taken has its time moved
 has_moved : (view : View) (w v : Stated) (ignored : Bool) (t : Option ℕ) → time_in view w.time ≡ t
@@ -64,7 +115,7 @@ has_moved : (view : View) (w v : Stated) (ignored : Bool) (t : Option ℕ) → t
 has_moved view w v true t at is = absurd (cc is)
 has_moved view w v false None at is = absurd (cc is)
 has_moved view w v false (Some t) at is =
-    ap (λ (u : Stated). u.time) (sym (same_Some (taken_at view w t) v is)) ∙ is_time_in view w.time t (moved view.shift w.time) refl at
+    ap (λ (u : Stated). u.time) (sym (same_Some (taken_at view w t) v is)) ∙ is_time_in view w.time t (moved view.clock w.time) refl at
 
 module _ {A : Type 0} (time : A → ℕ) where
   -- no time is below this one, nor below the time before it, and each is below 10^14

@@ -10,6 +10,7 @@ use Rattle.a429_equipment.specs.Arrivals.{sorted}
 use Rattle.a429_equipment.specs.TableRecord.{TableRecord}
 use Rattle.a429_equipment.specs.declared.arrivals.ArrivalRefusal.{ArrivalRefusal}
 use Rattle.a429_console.specs.Names.{Naming, number_named}
+use Rattle.a429_align.specs.declared.spans.Span.{Span}
 use Rattle.a429_judge.specs.Recordings.{Recording, no_words, with_heard, with_sent}
 use Rattle.a429_judge.specs.declared.duties.Sent.{Sent}
 use Rattle.a429_judge.specs.declared.facts.Mark.{Mark}
@@ -95,6 +96,10 @@ AreFrom last (w ∷ words) = (last ≤ w.time) × AreFrom w.time words
 
 abbrev pub AreOrdered : List BoxWord → Type 0
 AreOrdered words = AreFrom 0 words
+
+-- a word, whatever its name is
+abbrev pub span_of : Stated → Option Span
+span_of w = Some (record { raw = w.raw; from = w.time; until = w.time })
 
 -- ---- the words as they are judged
 

@@ -18,18 +18,21 @@ use Rattle.a429_arguments.specs.declared.options.OptionName.TheVariants as optio
 use Rattle.a429_console.specs.Tables.{IsGroupRefusal, IsProposedBy, IsTableRefusal}
 use Rattle.a429_console.specs.declared.refusals.CommandRefusal.{CommandRefusal}
 use Rattle.a429_console.specs.declared.refusals.CommandRefusal.TheVariants as refused
+use Rattle.a429_align.specs.declared.search.Alignment.{Alignment}
 use Rattle.a429_judge.specs.Recordings.{Recording}
 use Rattle.a429_recordings.specs.BoxLogs.{box_word_by, overlap, recording_of, restarted}
 use Rattle.a429_recordings.specs.JudgedPlans.{event_columns, is_any_wide, is_found, judge_columns, judge_events, judged_rows}
-use Rattle.a429_recordings.specs.LogItems.{IsItemFault, items_of, reading_behind}
+use Rattle.a429_recordings.specs.LogItems.{IsItemFault, PassesNone, items_of, reading_behind}
 use Rattle.a429_recordings.specs.LogViews.{View, view_after, view_of}
 use Rattle.a429_recordings.specs.SimulationReplies.{reading_for}
 use Rattle.a429_recordings.specs.declared.judge.JudgeForm.{JudgeForm}
 use Rattle.a429_recordings.specs.declared.judge.JudgeInput.{JudgeInput}
 use Rattle.a429_recordings.specs.declared.judge.JudgeNames.{JudgeNames}
 use Rattle.a429_recordings.specs.declared.judge.duties.Judging.{Judging}
-use Rattle.a429_recordings.specs.declared.judge.sheets.Judged.{Judged}
+use Rattle.a429_recordings.specs.declared.judge.Judged.{Judged}
+use Rattle.a429_recordings.specs.declared.judge.sheets.Sheeted.{Sheeted}
 use Rattle.a429_recordings.specs.declared.judge.words.BoxLog.{BoxLog}
+use Rattle.a429_recordings.specs.declared.logs.views.ClockMove.{ClockMove}
 use Rattle.a429_recordings.specs.declared.judge.words.BoxLog.TheVariants as log
 use Rattle.a429_recordings.specs.declared.judge.words.BoxWord.{BoxWord}
 
@@ -39,21 +42,22 @@ judge_form given = record { events = has_given given option.Events; form = form_
 
 -- ---- files
 
--- the names of the files: a table, the logs of what came in, and those of what was sent; or their bytes. And which words of either are taken, and the
--- tolerances that are given.
+-- the names of the files: a table, the logs of what came in, and those of what was sent; or their bytes. And which words of either are taken, whether the
+-- clock of what was sent is looked for, and the tolerances that are given.
 pub record BoxFiles (A : Type 0) : Type 0 where
   pub table : A
   pub heard : List A
   pub sent : List A
   pub heard_view : View
   pub sent_view : View
+  pub aligned : Bool
   pub tolerances : List (List ℕ)
 
 -- these are the bytes of the files of these names, and what is given with them is the same
 abbrev pub AreBoxFiles : (List ℕ → Option (List ℕ)) → BoxFiles (List ℕ) → BoxFiles (List ℕ) → Type 0
 AreBoxFiles file names i =
     (readable (file names.table) ≡ Some i.table) × AreReadLogs file names.heard i.heard × AreReadLogs file names.sent i.sent
-    × (i.heard_view ≡ names.heard_view) × (i.sent_view ≡ names.sent_view) × (i.tolerances ≡ names.tolerances)
+    × (i.heard_view ≡ names.heard_view) × (i.sent_view ≡ names.sent_view) × (i.aligned ≡ names.aligned) × (i.tolerances ≡ names.tolerances)
 
 -- of these files the first that cannot be read
 abbrev pub IsUnreadBoxFile : (List ℕ → Option (List ℕ)) → BoxFiles (List ℕ) → CommandRefusal → Type 0
@@ -62,6 +66,23 @@ IsUnreadBoxFile file names refusal =
     ⊎ (((table : List ℕ) × (readable (file names.table) ≡ Some table) × IsFirstUnreadLog file names.heard refusal)
     ⊎ ((table : List ℕ) × (heard : List (List ℕ)) × (readable (file names.table) ≡ Some table) × AreReadLogs file names.heard heard
     × IsFirstUnreadLog file names.sent refusal))
+
+-- ---- the clock of what was sent
+
+-- the same files with what was sent on this clock
+abbrev pub on_clock : {A : Type 0} → ClockMove → BoxFiles A → BoxFiles A
+on_clock clock i = record i { sent_view = record i.sent_view { clock = clock } }
+
+abbrev pub clock_of : Alignment → ClockMove
+clock_of a = record { drift = a.drift; shift = a.shift }
+
+-- with the clock that is found, otherwise with that which is given
+abbrev pub aligned_by : {A : Type 0} → Option Alignment → BoxFiles A → BoxFiles A
+aligned_by found i = on_clock (option_map_or clock_of found i.sent_view.clock) i
+
+-- none is found if none is looked for
+abbrev pub MayBeFound : {A : Type 0} → BoxFiles A → Option Alignment → Type 0
+MayBeFound i found = i.aligned ≡ false → found ≡ None
 
 -- ---- logs
 
@@ -113,6 +134,14 @@ IsNoRecording q i reading refusal = IsHeardFault q i reading refusal ⊎ (IsSent
 abbrev pub IsRecorded : Proposed → BoxFiles (List ℕ) → Reading → Result Recording CommandRefusal → Type 0
 IsRecorded q i reading result = MatchResult result (IsRecording q i reading) (OrMemory (IsNoRecording q i reading))
 
+-- no line of the logs is passed over, other than those that every log may have
+abbrev pub PassesNoneOf : BoxFiles (List ℕ) → Reading → Type 0
+PassesNoneOf i reading = PassesNone reading i.heard × PassesNone (restarted (reading_behind reading i.heard)) i.sent
+
+-- the same of files
+abbrev pub PassesNoBoxLine : (List ℕ → Option (List ℕ)) → BoxFiles (List ℕ) → Reading → Type 0
+PassesNoBoxLine file names reading = (i : BoxFiles (List ℕ)) → AreBoxFiles file names i → PassesNoneOf i reading
+
 -- ---- what is printed
 
 -- the sheet of a recording in a form, by whether there is a row for each finding
@@ -139,29 +168,35 @@ is_no_group names text = option_map_or (λ group. not (is_some (number_named nam
 abbrev pub no_group_of : Naming → List (List ℕ) → Option (List ℕ)
 no_group_of names given = option_and_then tolerance_group (find (is_no_group names) given)
 
--- a plan is judged: each group for which a tolerance is given is there, none is too great, and the logs are a recording
-abbrev pub IsJudgedOf : Proposed → BoxFiles (List ℕ) → JudgeForm → Bool → List ℕ → Type 0
-IsJudgedOf q i f found bytes =
-    (no_group_of (naming_of q.station) i.tolerances ≡ None) × (is_any_wide q i.tolerances ≡ false) × ArePrinted q i f found bytes
+-- A plan is judged: each group for which a tolerance is given is there, none is too great, and the logs are a recording on the clock that is given or
+-- found.
+abbrev pub IsJudgedOf : Proposed → BoxFiles (List ℕ) → JudgeForm → Option Alignment → Bool → List ℕ → Type 0
+IsJudgedOf q i f clock found bytes =
+    (no_group_of (naming_of q.station) i.tolerances ≡ None) × (is_any_wide q i.tolerances ≡ false) × MayBeFound i clock
+    × ArePrinted q (aligned_by clock i) f found bytes
+
+-- the logs are none on the clock that is given or found
+abbrev pub AreUnrecorded : Proposed → BoxFiles (List ℕ) → JudgeForm → CommandRefusal → Type 0
+AreUnrecorded q i f refusal = (clock : Option Alignment) × MayBeFound i clock × IsNoRecording q (aligned_by clock i) f.reading refusal
 
 -- it is not: a group is not there, a tolerance is too great, or the logs are none
 abbrev pub IsUnjudgedOf : Proposed → BoxFiles (List ℕ) → JudgeForm → CommandRefusal → Type 0
 IsUnjudgedOf q i f refusal =
     ((name : List ℕ) × (no_group_of (naming_of q.station) i.tolerances ≡ Some name) × IsGroupRefusal name refusal)
     ⊎ ((no_group_of (naming_of q.station) i.tolerances ≡ None)
-    × (((is_any_wide q i.tolerances ≡ true) × (refusal ≡ refused.Tolerance)) ⊎ ((is_any_wide q i.tolerances ≡ false) × IsNoRecording q i f.reading refusal)))
+    × (((is_any_wide q i.tolerances ≡ true) × (refusal ≡ refused.Tolerance)) ⊎ ((is_any_wide q i.tolerances ≡ false) × AreUnrecorded q i f refusal)))
 
 -- what `judge` prints of these bytes, and whether something is found
-abbrev pub IsJudged : BoxFiles (List ℕ) → JudgeForm → Bool → List ℕ → Type 0
-IsJudged i f found bytes = (q : Proposed) × IsProposedBy i.table q × IsJudgedOf q i f found bytes
+abbrev pub IsJudged : BoxFiles (List ℕ) → JudgeForm → Option Alignment → Bool → List ℕ → Type 0
+IsJudged i f clock found bytes = (q : Proposed) × IsProposedBy i.table q × IsJudgedOf q i f clock found bytes
 
 -- why it prints nothing: the table or its plan; or the tolerance or the logs
 abbrev pub IsUnjudged : BoxFiles (List ℕ) → JudgeForm → CommandRefusal → Type 0
 IsUnjudged i f refusal = IsTableRefusal i.table refusal ⊎ ((q : Proposed) × IsProposedBy i.table q × IsUnjudgedOf q i f refusal)
 
 -- what it prints of the files of these names, which are all read before any is looked at
-abbrev pub IsJudgedBy : (List ℕ → Option (List ℕ)) → BoxFiles (List ℕ) → JudgeForm → Bool → List ℕ → Type 0
-IsJudgedBy file names f found bytes = (i : BoxFiles (List ℕ)) × AreBoxFiles file names i × IsJudged i f found bytes
+abbrev pub IsJudgedBy : (List ℕ → Option (List ℕ)) → BoxFiles (List ℕ) → JudgeForm → Option Alignment → Bool → List ℕ → Type 0
+IsJudgedBy file names f clock found bytes = (i : BoxFiles (List ℕ)) × AreBoxFiles file names i × IsJudged i f clock found bytes
 
 abbrev pub IsUnjudgedBy : (List ℕ → Option (List ℕ)) → BoxFiles (List ℕ) → JudgeForm → CommandRefusal → Type 0
 IsUnjudgedBy file names f refusal = IsUnreadBoxFile file names refusal ⊎ ((i : BoxFiles (List ℕ)) × AreBoxFiles file names i × IsUnjudged i f refusal)
@@ -175,6 +210,7 @@ names_of n = record {
   sent = n.sent.now ∷ texts_of n.more_sent.now;
   heard_view = view_of n.heard_view;
   sent_view = view_of n.sent_view;
+  aligned = n.aligned;
   tolerances = texts_of n.tolerances.now;
 }
 
@@ -185,6 +221,7 @@ files_of i = record {
   sent = bytes_of i.sent.items;
   heard_view = view_of i.heard_view;
   sent_view = view_of i.sent_view;
+  aligned = i.aligned;
   tolerances = texts_of i.tolerances.now;
 }
 
@@ -197,23 +234,23 @@ abbrev pub given_by : Judging → List (List ℕ)
 given_by j = texts_of j.tolerances.now
 
 -- the sheet of some words, and whether something is found
-abbrev pub IsJudgeSheet : Bool → Judging → SheetForm → Judged → Type 0
+abbrev pub IsJudgeSheet : Bool → Judging → SheetForm → Sheeted → Type 0
 IsJudgeSheet events j form result =
     (result.text.items ≡ judge_text events form j.proposal.now (given_by j) j.judge.now)
     × (result.found ≡ judge_finds events j.proposal.now (given_by j) j.judge.now)
 
 -- what judging logs gives
-abbrev pub IsPrinting : Proposed → BoxFiles (List ℕ) → JudgeForm → Result Judged CommandRefusal → Type 0
+abbrev pub IsPrinting : Proposed → BoxFiles (List ℕ) → JudgeForm → Result Sheeted CommandRefusal → Type 0
 IsPrinting q i f result = MatchResult result (λ j. ArePrinted q i f j.found j.text.items) (OrMemory (IsNoRecording q i f.reading))
 
 -- what judging a plan gives
 abbrev pub IsJudgingOf : Proposed → BoxFiles (List ℕ) → JudgeForm → Result Judged CommandRefusal → Type 0
-IsJudgingOf q i f result = MatchResult result (λ j. IsJudgedOf q i f j.found j.text.items) (OrMemory (IsUnjudgedOf q i f))
+IsJudgingOf q i f result = MatchResult result (λ j. IsJudgedOf q i f j.alignment j.sheet.found j.sheet.text.items) (OrMemory (IsUnjudgedOf q i f))
 
 -- what judging their bytes gives
 abbrev pub IsJudging : BoxFiles (List ℕ) → JudgeForm → Result Judged CommandRefusal → Type 0
-IsJudging i f result = MatchResult result (λ j. IsJudged i f j.found j.text.items) (OrMemory (IsUnjudged i f))
+IsJudging i f result = MatchResult result (λ j. IsJudged i f j.alignment j.sheet.found j.sheet.text.items) (OrMemory (IsUnjudged i f))
 
 -- and what the call answers
 abbrev pub IsJudgeAnswer : (List ℕ → Option (List ℕ)) → BoxFiles (List ℕ) → JudgeForm → Result Judged CommandRefusal → Type 0
-IsJudgeAnswer file names f result = MatchResult result (λ j. IsJudgedBy file names f j.found j.text.items) (OrMemory (IsUnjudgedBy file names f))
+IsJudgeAnswer file names f result = MatchResult result (λ j. IsJudgedBy file names f j.alignment j.sheet.found j.sheet.text.items) (OrMemory (IsUnjudgedBy file names f))

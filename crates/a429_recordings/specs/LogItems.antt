@@ -2,9 +2,11 @@
 use Rattle.std.specs.Prelude.{◌≡◌, ◌∷◌, ◌++◌, [], ◌⊎◌, ⊤, ℕ, List, Option, Some, None, Result, Ok, Err, MatchResult, fold}
 use Rattle.a429_logs.specs.Logs.{WordAt, log_entries, reading_after, series_entries}
 use Rattle.a429_logs.specs.LogRows.{Stated}
+use Rattle.a429_logs.specs.LogsLeft.{tail_of, titles_of}
 use Rattle.a429_logs.specs.declared.reader.LogFault.{LogFault}
 use Rattle.a429_logs.specs.declared.reading.Reading.{Reading}
 use Rattle.a429_arguments.specs.Texts.{texts_of}
+use Rattle.a429_console.specs.FileReadings.{AreReadLogs}
 use Rattle.a429_console.specs.Lines.{entries_before}
 use Rattle.a429_console.specs.RefusalText.{OrMemory}
 use Rattle.a429_console.specs.declared.refusals.CommandRefusal.{CommandRefusal}
@@ -12,6 +14,7 @@ use Rattle.a429_console.specs.declared.refusals.CommandRefusal.TheVariants as re
 use Rattle.a429_recordings.specs.LogViews.{View, view_of}
 use Rattle.a429_recordings.specs.declared.logs.LogNames.{LogNames}
 use Rattle.a429_recordings.specs.declared.logs.keeping.KeepFault.{KeepFault}
+use Rattle.a429_recordings.specs.declared.logs.keeping.LogEnd.{LogEnd}
 use Rattle.a429_recordings.specs.declared.logs.keeping.KeepFault.TheVariants as fault
 
 -- ---- names
@@ -49,6 +52,15 @@ IsItemFault item reading texts _ = ⊥
 abbrev pub reading_behind : Reading → List (List ℕ) → Reading
 reading_behind reading texts = fold reading_after reading texts
 
+-- no line of logs is passed over, other than those that every log may have
+abbrev pub PassesNone : Reading → List (List ℕ) → Type 0
+PassesNone reading [] = ⊤
+PassesNone reading (text ∷ texts) = (titles_of reading text ≡ 0) × (tail_of reading text ≡ None) × PassesNone (reading_after reading text) texts
+
+-- the same of files
+abbrev pub PassesNoLine : (List ℕ → Option (List ℕ)) → List (List ℕ) → Reading → Type 0
+PassesNoLine file names reading = (logs : List (List ℕ)) → AreReadLogs file names logs → PassesNone reading logs
+
 -- ---- what calls answer
 
 -- what is kept of a word comes after what was kept before, unless the word makes its line faulty
@@ -69,9 +81,9 @@ RefusesLog item reading text refusal =
     (refusal ≡ refused.Memory) ⊎ ((n : ℕ) × (refusal ≡ refused.LogLine n) × (items_from item (log_entries reading text) ≡ Err n))
 
 -- the items of a log come after those that there are, and the next log is read so; or the log is faulty
-abbrev pub KeepsLog : {A : Type 0} → (Stated → Option (List A)) → Reading → List ℕ → List A → List A → Result Reading CommandRefusal → Type 0
+abbrev pub KeepsLog : {A : Type 0} → (Stated → Option (List A)) → Reading → List ℕ → List A → List A → Result LogEnd CommandRefusal → Type 0
 KeepsLog item reading text old new result =
-    MatchResult result (λ next. (next ≡ reading_after reading text) × (entries_before old (items_from item (log_entries reading text)) ≡ Ok new))
+    MatchResult result (λ end. (end.next ≡ reading_after reading text) × (entries_before old (items_from item (log_entries reading text)) ≡ Ok new))
     (RefusesLog item reading text)
 
 -- these are the items of logs, and the next log is read so; or a log is faulty

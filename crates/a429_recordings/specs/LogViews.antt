@@ -13,20 +13,27 @@ use Rattle.a429_arguments.specs.declared.times.LogOrigin.{LogOrigin}
 use Rattle.a429_arguments.specs.declared.times.LogOrigin.TheVariants as origin
 use Rattle.a429_arguments.specs.declared.times.Shift.{Shift}
 use Rattle.a429_arguments.specs.declared.times.Shift.TheVariants as shift
+use Rattle.a429_arguments.specs.declared.times.Drift.TheVariants as drift
+use Rattle.a429_align.specs.Corrections.{corrected}
+use Rattle.a429_recordings.specs.declared.logs.views.ClockMove.{ClockMove}
 use Rattle.a429_recordings.specs.declared.logs.views.LogView.{LogView}
 
--- As which names channels are taken, each FROM=TO, and which names are ignored. By how much times are moved, from which moved time on they are counted,
+-- As which names channels are taken, each FROM=TO, and which names are ignored. How times are moved, from which moved time on they are counted,
 -- and the last time as it is counted so: words outside of these are passed over.
 pub record View : Type 0 where
   pub channels : List (List ℕ)
   pub ignored : List (List ℕ)
-  pub shift : Shift
+  pub clock : ClockMove
   pub from : ℕ
   pub until : Option ℕ
 
 -- what a struct of the program shows
 abbrev pub view_of : LogView → View
-view_of v = record { channels = texts_of v.channels.now; ignored = texts_of v.ignored.now; shift = v.shift; from = v.from; until = v.until }
+view_of v = record { channels = texts_of v.channels.now; ignored = texts_of v.ignored.now; clock = v.clock; from = v.from; until = v.until }
+
+-- times stay as they are
+abbrev pub same_clock : ClockMove
+same_clock = record { drift = drift.Fast 0; shift = shift.Later 0 }
 
 -- ---- what the options ask for
 
@@ -35,17 +42,17 @@ abbrev pub from_of : LogOrigin → ℕ
 from_of (origin.Time base) = base
 from_of origin.First = 0
 
-abbrev pub view_for : Given → Option ℕ → Shift → View
-view_for given until by =
-    record { channels = given option.Channel; ignored = given option.Ignore; shift = by; from = from_of (origin_of given); until = until }
+abbrev pub view_for : Given → Option ℕ → ClockMove → View
+view_for given until clock =
+    record { channels = given option.Channel; ignored = given option.Ignore; clock = clock; from = from_of (origin_of given); until = until }
 
 -- all words from the time on from which times are counted
 abbrev pub whole_view : Given → View
-whole_view given = view_for given None (shift.Later 0)
+whole_view given = view_for given None same_clock
 
 -- those up to the time of `--until`
-abbrev pub window_view : Given → Shift → View
-window_view given by = view_for given (long_number_given given option.Until) by
+abbrev pub window_view : Given → ClockMove → View
+window_view given clock = view_for given (long_number_given given option.Until) clock
 
 -- the view of a log after others that are read so: times are counted from the one that is given, otherwise from that of the first word of those
 abbrev pub view_after : Reading → View → View
@@ -57,10 +64,14 @@ view_after reading view = record view { from = max view.from (unwrap_or reading.
 abbrev pub is_ignored : List (List ℕ) → List ℕ → Bool
 is_ignored ignored name = list_any (λ text. bytes_eq text name) ignored
 
--- a time as it is moved (`--shift`); nothing if it is moved to before 0
-abbrev pub moved : Shift → ℕ → Option ℕ
-moved (shift.Later by) time = in_64_bits (time + by)
-moved (shift.Earlier by) time = if nat_lt time by then None else Some (time - by)
+-- a time as it is moved by a shift (`--shift`); nothing if it is moved to before 0
+abbrev pub shifted : Shift → ℕ → Option ℕ
+shifted (shift.Later by) time = in_64_bits (time + by)
+shifted (shift.Earlier by) time = if nat_lt time by then None else Some (time - by)
+
+-- a time as it is moved to another clock: without the drift of its own (`--drift`), and then by the shift
+abbrev pub moved : ClockMove → ℕ → Option ℕ
+moved clock time = option_and_then (shifted clock.shift) (corrected clock.drift time)
 
 -- a time as it is counted from this one on
 abbrev pub since : ℕ → ℕ → Option ℕ
@@ -73,7 +84,7 @@ up_to (Some last) time = if nat_lt last time then None else Some time
 
 -- the time that a word is taken at
 abbrev pub time_in : View → ℕ → Option ℕ
-time_in view time = option_and_then (up_to view.until) (option_and_then (since view.from) (moved view.shift time))
+time_in view time = option_and_then (up_to view.until) (option_and_then (since view.from) (moved view.clock time))
 
 -- a word at a time, by the name as which its channel is taken (`--channel`)
 abbrev pub taken_at : View → Stated → ℕ → Stated

@@ -5,10 +5,12 @@ ghost use Rattle.a429_arguments.specs.Texts.{texts_of};
 ghost use Rattle.a429_console.specs.Names.{naming_of};
 ghost use Rattle.a429_console.specs.Readings.{HasRead};
 ghost use Rattle.a429_recordings.specs.BoxLogs.{AreOrdered, IsLogsReading, IsNoting, box_word_by, restarted};
-ghost use Rattle.a429_recordings.specs.JudgeReplies.{IsBoxReading, IsJudgeAnswer, IsJudging, IsJudgingOf, IsPrinting, IsRecorded, files_of, is_no_group, names_of, no_group_of};
+ghost use Rattle.a429_recordings.specs.JudgeReplies.{IsBoxReading, IsJudgeAnswer, IsJudging, IsJudgingOf, IsPrinting, IsRecorded, MayBeFound, PassesNoBoxLine, PassesNoneOf, aligned_by, files_of, is_no_group, names_of, no_group_of};
+ghost use Rattle.a429_recordings.specs.LogItems.{PassesNone};
 ghost use Rattle.a429_recordings.specs.LogViews.{view_after, view_of};
 ghost use Rattle.a429_recordings.specs.declared.judge.words.BoxLog.TheVariants.{Sent};
 
+mod clocks;
 mod duties;
 mod events;
 mod noting;
@@ -16,18 +18,21 @@ mod rows;
 mod sheets;
 mod words;
 
+use crate::judge::clocks::{BoxTexts, found_clock};
 use crate::judge::duties::{Judging, is_any_wide};
 use crate::judge::noting::{notes_of, overlap};
-pub use crate::judge::sheets::Judged;
+pub use crate::judge::sheets::Sheeted;
 use crate::judge::sheets::judge_sheet;
 use crate::judge::words::{BoxLog, BoxWord, BoxWords, read_words};
 use crate::logs::reading_for;
-pub use crate::logs::views::LogView;
+pub use crate::logs::views::{ClockMove, LogView};
+use a429_align::Alignment;
 use a429_arguments::options::OptionName;
 use a429_arguments::requests::Asked;
 use a429_arguments::tolerances::tolerance_group;
 use a429_console::files::FileReader;
 use a429_console::files::reading::{read_file, read_logs};
+use a429_console::hints::warnings::Warning;
 use a429_console::planning::{propose, with_plan};
 use a429_console::refusals::tables::no_group;
 use a429_console::refusals::{CommandRefusal, Refused};
@@ -37,7 +42,7 @@ use a429_logs::{Clock, Reading};
 use a429_replay::Names;
 use a429_slots::{OUTPUTS, Proposal};
 use a429_text::SheetForm;
-use std::alloc::Global;
+use std::alloc::{AllocError, Global};
 
 /// How words are judged, and what is printed of it.
 #[derive(Clone, Copy)]
@@ -78,6 +83,8 @@ pub struct JudgeNames<'a> {
     pub more_sent: &'a [&'a str],
     pub heard_view: LogView<'a>,
     pub sent_view: LogView<'a>,
+    /// Whether the clock of what was sent is looked for. If one is found, it counts instead of that of the view.
+    pub aligned: bool,
     /// Each is US, or GROUP=US for one group, in microseconds. The tolerance of a group without one is two slots, or half its
     /// shortest period if that is less.
     pub tolerances: &'a [&'a str],
@@ -91,6 +98,7 @@ struct JudgeInput<'a> {
     sent: Vec<Vec<u8>>,
     heard_view: LogView<'a>,
     sent_view: LogView<'a>,
+    aligned: bool,
     tolerances: &'a [&'a str],
 }
 
@@ -111,8 +119,16 @@ fn read_input<'a, F: FileReader>(
         sent,
         heard_view: names.heard_view,
         sent_view: names.sent_view,
+        aligned: names.aligned,
         tolerances: names.tolerances,
     })
+}
+
+/// What is said of a box, and the clock of what it sent, if one was found.
+#[derive(Drop)]
+pub struct Judged {
+    pub sheet: Sheeted,
+    pub alignment: Option<Alignment>,
 }
 
 /// How the first line of the logs of what was sent is read, after those of what came in: its times begin again. If no word
@@ -132,20 +148,49 @@ fn restarted(reading: Reading) -> Reading
     }
 }
 
+/// Which words of what was sent are taken, on the clock that is found, otherwise on that which is given.
+fn sent_view<'a>(input: &'a JudgeInput<'a>, found: Option<Alignment>) -> LogView<'a>
+    ensures { view_of result ≡ (aligned_by found (files_of input.now)).sent_view }
+{
+    match found {
+        Some(alignment) => {
+            let clock = ClockMove {
+                drift: alignment.drift,
+                shift: alignment.shift,
+            };
+            input.sent_view.on_clock(clock)
+        }
+        None => input.sent_view,
+    }
+}
+
 /// Reads the logs of what was sent, after those of what came in. Error: the first faulty line.
 fn read_sent<'a>(
     alloc: Global,
     names: &Names,
     after: Reading,
     input: &'a JudgeInput<'a>,
+    found: Option<Alignment>,
+    warnings: &mut Vec<Warning>,
 ) -> Result<BoxWords, Refused>
-    ensures read { IsLogsReading (box_word_by names.now (view_after after (view_of input.now.sent_view)) Sent) (restarted after)
+    ensures silent { PassesNone (restarted after) (files_of input.now).sent → warnings.new.items ≡ warnings.old.items }
+    ensures read { IsLogsReading (box_word_by names.now (view_after after (aligned_by found (files_of input.now)).sent_view) Sent) (restarted after)
         (bytes_of input.now.sent.items) result }
     ensures ordered { IfOk result (λ read. AreOrdered read.words.items) }
 {
-    let view = input.sent_view.after(after);
+    let view = sent_view(input, found).after(after);
     let next = restarted(after);
-    match read_words(alloc, names, view, BoxLog::Sent, next, &input.sent) {
+    let first = input.heard.len();
+    match read_words(
+        alloc,
+        names,
+        view,
+        BoxLog::Sent,
+        next,
+        first,
+        &input.sent,
+        warnings,
+    ) {
         Ok(words) => Ok(words),
         Err(refusal) => Err(refusal.after_logs(input.heard.len())),
     }
@@ -168,16 +213,20 @@ fn note_words(
     Ok(notes_of(alloc, equipment, heard, sent)?)
 }
 
-/// The words of the logs, noted. Errors: the first faulty line; the two logs have no time in common.
+/// The words of the logs, noted, on the clock that is found, otherwise on that which is given. Errors: the first faulty line;
+/// the two logs have no time in common.
 fn read_notes<'a>(
     alloc: Global,
     proposal: &Proposal<OUTPUTS>,
     names: &Names,
     input: &'a JudgeInput<'a>,
+    found: Option<Alignment>,
     reading: Reading,
+    warnings: &mut Vec<Warning>,
 ) -> Result<Judge, Refused>
     requires { names.now ≡ naming_of proposal.now.station }
-    ensures { IsRecorded proposal.now (files_of input.now) reading result }
+    ensures silent { PassesNoneOf (files_of input.now) reading → warnings.new.items ≡ warnings.old.items }
+    ensures recorded { IsRecorded proposal.now (aligned_by found (files_of input.now)) reading result }
 {
     let heard = read_words(
         alloc,
@@ -185,24 +234,30 @@ fn read_notes<'a>(
         input.heard_view,
         BoxLog::Heard,
         reading,
+        0,
         &input.heard,
+        warnings,
     )?;
-    let sent = read_sent(alloc, names, heard.next, input)?;
+    let sent = read_sent(alloc, names, heard.next, input, found, warnings)?;
     note_words(alloc, proposal.equipment(), &heard.words, &sent.words)
 }
 
-/// What is said of the words of the logs. Error: a log is refused.
+/// What is said of the words of the logs, on the clock that is found, otherwise on that which is given. Error: a log is
+/// refused.
 fn judge_words<'a>(
     alloc: Global,
     proposal: &Proposal<OUTPUTS>,
     names: &Names,
     input: &'a JudgeInput<'a>,
+    found: Option<Alignment>,
     form: JudgeForm,
-) -> Result<Judged, Refused>
+    warnings: &mut Vec<Warning>,
+) -> Result<Sheeted, Refused>
     requires { names.now ≡ naming_of proposal.now.station }
-    ensures { IsPrinting proposal.now (files_of input.now) form result }
+    ensures silent { PassesNoneOf (files_of input.now) form.reading → warnings.new.items ≡ warnings.old.items }
+    ensures printed { IsPrinting proposal.now (aligned_by found (files_of input.now)) form result }
 {
-    let judge = read_notes(alloc, proposal, names, input, form.reading)?;
+    let judge = read_notes(alloc, proposal, names, input, found, form.reading, warnings)?;
     let judging = Judging {
         proposal,
         judge: &judge,
@@ -233,6 +288,30 @@ fn no_group_of<'a>(names: &Names, tolerances: &'a [&'a str]) -> Option<&'a str>
     None
 }
 
+/// The clock of what was sent, if it is looked for and found. Error: an allocation failed.
+fn asked_clock<'a>(
+    alloc: Global,
+    proposal: &Proposal<OUTPUTS>,
+    names: &Names,
+    input: &'a JudgeInput<'a>,
+    reading: Reading,
+) -> Result<Option<Alignment>, AllocError>
+    ensures { IfOk result (MayBeFound (files_of input.now)) }
+{
+    if !input.aligned {
+        return Ok(None);
+    }
+    let heard = BoxTexts {
+        view: input.heard_view,
+        texts: &input.heard,
+    };
+    let sent = BoxTexts {
+        view: input.sent_view,
+        texts: &input.sent,
+    };
+    found_clock(alloc, proposal, names, heard, sent, reading)
+}
+
 /// What is said of a box with this plan, in which each group is there for which a tolerance is given. Errors: a tolerance is
 /// too great; a log is refused.
 fn judge_plan<'a>(
@@ -241,16 +320,25 @@ fn judge_plan<'a>(
     names: &Names,
     input: &'a JudgeInput<'a>,
     form: JudgeForm,
+    warnings: &mut Vec<Warning>,
 ) -> Result<Judged, Refused>
     requires names { names.now ≡ naming_of proposal.now.station }
     requires groups { no_group_of (naming_of proposal.now.station) (texts_of input.now.tolerances.now) ≡ None }
-    ensures { IsJudgingOf proposal.now (files_of input.now) form result }
+    ensures silent { PassesNoneOf (files_of input.now) form.reading → warnings.new.items ≡ warnings.old.items }
+    ensures judged { IsJudgingOf proposal.now (files_of input.now) form result }
 {
     let wide = is_any_wide(alloc, proposal, input.tolerances)?;
     if wide {
         return Err(Refused::plain(CommandRefusal::Tolerance));
     }
-    judge_words(alloc, proposal, names, input, form)
+    let found = asked_clock(alloc, proposal, names, input, form.reading)?;
+    match judge_words(alloc, proposal, names, input, found, form, warnings) {
+        Ok(sheet) => Ok(Judged {
+            sheet,
+            alignment: found,
+        }),
+        Err(refusal) => Err(refusal),
+    }
 }
 
 /// What is said of a box with this plan. Errors: a group is not there; a tolerance is too great; a log is refused.
@@ -259,13 +347,15 @@ fn judge_box<'a>(
     proposal: &Proposal<OUTPUTS>,
     input: &'a JudgeInput<'a>,
     form: JudgeForm,
+    warnings: &mut Vec<Warning>,
 ) -> Result<Judged, Refused>
-    ensures { IsJudgingOf proposal.now (files_of input.now) form result }
+    ensures silent { PassesNoneOf (files_of input.now) form.reading → warnings.new.items ≡ warnings.old.items }
+    ensures judged { IsJudgingOf proposal.now (files_of input.now) form result }
 {
     let names = Names::of(alloc, proposal.equipment())?;
     match no_group_of(&names, input.tolerances) {
         Some(group) => Err(Refused::plain(no_group(alloc, group))),
-        None => judge_plan(alloc, proposal, &names, input, form),
+        None => judge_plan(alloc, proposal, &names, input, form, warnings),
     }
 }
 
@@ -275,26 +365,32 @@ fn judge_input<'a>(
     alloc: Global,
     input: &'a JudgeInput<'a>,
     form: JudgeForm,
+    warnings: &mut Vec<Warning>,
 ) -> Result<Judged, Refused>
-    ensures { IsJudging (files_of input.now) form result }
+    ensures silent { PassesNoneOf (files_of input.now) form.reading → warnings.new.items ≡ warnings.old.items }
+    ensures judged { IsJudging (files_of input.now) form result }
 {
     let proposal = propose(alloc, &input.table)?;
-    let judged = judge_box(alloc, &proposal, input, form);
+    let judged = judge_box(alloc, &proposal, input, form, warnings);
     with_plan(judged, proposal)
 }
 
 /// Whether what a box sent is right, as a sheet, by a log of what came in and one of what was sent. Each has further logs
 /// that are read after it. Errors, in this order: a file cannot be read; the table has a fault or no plan; a tolerance is
 /// given for a group that is not there, or is more than half the period of an output; the first faulty line of what came
-/// in, and then of what was sent; the two have no time in common. `Memory` if an allocation fails.
+/// in, and then of what was sent; the two have no time in common. `Memory` if an allocation fails. What is passed over in a log
+/// is noted.
 pub fn judge_logs<'a, F: FileReader>(
     alloc: Global,
     files: &mut F,
     names: JudgeNames<'a>,
     form: JudgeForm,
+    warnings: &mut Vec<Warning>,
 ) -> Result<Judged, Refused>
-    ensures { HasRead F.answers (λ file. IsJudgeAnswer file (names_of names.entry) form result) files.old files.new }
+    ensures silent { HasRead F.answers (λ file. PassesNoBoxLine file (names_of names.entry) form.reading
+        → warnings.new.items ≡ warnings.old.items) files.old files.new }
+    ensures answer { HasRead F.answers (λ file. IsJudgeAnswer file (names_of names.entry) form result) files.old files.new }
 {
     let input = read_input(alloc, files, names)?;
-    judge_input(alloc, &input, form)
+    judge_input(alloc, &input, form, warnings)
 }

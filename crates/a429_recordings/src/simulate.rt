@@ -7,7 +7,7 @@ ghost use Rattle.a429_console.specs.Replying.{HasReplied};
 ghost use Rattle.a429_console.specs.Tables.{IsTableRefusal};
 ghost use Rattle.a429_recordings.specs.CellLines.{IsBeginOfSlot};
 ghost use Rattle.a429_recordings.specs.CloseWords.{AreSpaced};
-ghost use Rattle.a429_recordings.specs.LogItems.{logs_named, view_named};
+ghost use Rattle.a429_recordings.specs.LogItems.{PassesNoLine, PassesNone, logs_named, view_named};
 ghost use Rattle.a429_recordings.specs.SimulationReplies.{BeginsLog, BeginsNoLog, HasPrinted, HasPrintedLines, HasPrintedSummary, HasSummary, IsPreparedFor, IsSettingOf, IsSimulationOf, IsSimulationReading, IsUnsimulated, PutsLines, SimulatesSpacedWords, SimulationIsReady, files_of, line_style};
 ghost use Rattle.a429_recordings.specs.SimulationRuns.{CanBePlayed, HasStationNames};
 
@@ -150,11 +150,20 @@ fn read_player<'a>(
     setting: &Setting,
     input: &'a SimulationInput<'a>,
     form: SimulationForm,
+    warnings: &mut Vec<Warning>,
 ) -> Result<Player, Refused>
-    ensures { MatchResult result (BeginsLog setting.now (files_of input.now) form)
+    ensures silent { PassesNone form.reading (files_of input.now).logs → warnings.new.items ≡ warnings.old.items }
+    ensures player { MatchResult result (BeginsLog setting.now (files_of input.now) form)
         (OrMemory (BeginsNoLog setting.now (files_of input.now) form)) }
 {
-    let words = read_words(alloc, &setting.names, input.view, form.reading, &input.logs)?;
+    let words = read_words(
+        alloc,
+        &setting.names,
+        input.view,
+        form.reading,
+        &input.logs,
+        warnings,
+    )?;
     Player::open(alloc, &setting.proposal, words, form.until)
 }
 
@@ -163,11 +172,13 @@ fn prepare<'a>(
     alloc: Global,
     input: &'a SimulationInput<'a>,
     form: SimulationForm,
+    warnings: &mut Vec<Warning>,
 ) -> Result<Simulation, Refused>
-    ensures { MatchResult result (IsPreparedFor (files_of input.now) form) (OrMemory (IsUnsimulated (files_of input.now) form)) }
+    ensures silent { PassesNone form.reading (files_of input.now).logs → warnings.new.items ≡ warnings.old.items }
+    ensures prepared { MatchResult result (IsPreparedFor (files_of input.now) form) (OrMemory (IsUnsimulated (files_of input.now) form)) }
 {
     let setting = read_station(alloc, &input.table, form.style)?;
-    let player = read_player(alloc, &setting, input, form)?;
+    let player = read_player(alloc, &setting, input, form, warnings)?;
     Ok(Simulation { setting, player })
 }
 
@@ -289,7 +300,7 @@ fn print_simulation<O: Output>(
 /// Plays the words of logs on the station of a table, at their times. It puts a line for each word that is sent or
 /// refused, or only for those that are sent, or instead the summary of what each output sent. A refusal is one line
 /// instead. The status is 0, or 1 after a refusal, or if an allocation fails after the first lines. A receiver to which
-/// words come too closely is noted. Error: the output failed.
+/// words come too closely is noted, and so is what is passed over in a log. Error: the output failed.
 pub fn simulate<'a, F: FileReader, O: Output>(
     alloc: Global,
     files: &mut F,
@@ -302,7 +313,8 @@ pub fn simulate<'a, F: FileReader, O: Output>(
     ensures simulated { HasReplied F.answers O.contents (λ file. IsSimulationOf file table.now names.entry form)
         files.old files.new out.old out.new result }
     ensures silent { HasRead F.answers
-        (λ file. SimulatesSpacedWords file table.now (logs_named names.entry) (view_named names.entry) form
+        (λ file. PassesNoLine file (logs_named names.entry) form.reading
+        → SimulatesSpacedWords file table.now (logs_named names.entry) (view_named names.entry) form
         → warnings.new.items ≡ warnings.old.items) files.old files.new }
     ensures status { IfOk result (λ status. status ≤ 1) }
     ensures flushed { OnOk result (IsTrue (O.is_flushed out.new)) }
@@ -312,7 +324,7 @@ pub fn simulate<'a, F: FileReader, O: Output>(
         Ok(input) => input,
         Err(refusal) => return refuse(alloc, refusal, out),
     };
-    match prepare(alloc, &input, form) {
+    match prepare(alloc, &input, form, warnings) {
         Ok(mut simulation) => {
             note_close_words(&simulation, warnings);
             plain_answer(print_simulation(alloc, &mut simulation, form, out))

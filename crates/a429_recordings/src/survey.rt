@@ -3,18 +3,19 @@ ghost use Rattle.std.specs.Prelude.{◌≡◌, Ok, IfOk, MatchResult, option_map
 ghost use Rattle.a429_console.specs.Files.{bytes_of};
 ghost use Rattle.a429_console.specs.Readings.{HasRead};
 ghost use Rattle.a429_console.specs.RefusalText.{OrMemory};
-ghost use Rattle.a429_recordings.specs.LogItems.{IsItemFault, items_of};
+ghost use Rattle.a429_recordings.specs.LogItems.{IsItemFault, PassesNoLine, PassesNone, items_of, logs_named};
 ghost use Rattle.a429_recordings.specs.LogViews.{view_of};
 ghost use Rattle.a429_recordings.specs.Surveys.{IsSurveyAnswer, noted_by, survey_text, text_in};
 
 pub use crate::logs::LogNames;
 use crate::logs::keeping::{KeepFault, WordKeeper, keep_logs};
 use crate::logs::reading_for;
-pub use crate::logs::views::LogView;
+pub use crate::logs::views::{ClockMove, LogView};
 use a429_arguments::options::OptionName;
 use a429_arguments::requests::Asked;
 use a429_console::files::FileReader;
 use a429_console::files::reading::read_logs;
+use a429_console::hints::warnings::Warning;
 use a429_console::refusals::Refused;
 use a429_console::refusals::evidence::{LineEvidence, LogRefusal};
 use a429_logs::{Reading, StatedWord};
@@ -101,18 +102,20 @@ impl WordKeeper for Survey {
     }
 }
 
-/// The survey of logs, read one after another as if they were one. Error: the first faulty line.
+/// The survey of logs, read one after another as if they were one. What is passed over is noted. Error: the first faulty line.
 fn survey_of<'a>(
     alloc: Global,
     view: LogView<'a>,
     reading: Reading,
     logs: &'a [Vec<u8>],
+    warnings: &mut Vec<Warning>,
 ) -> Result<Survey, Refused>
-    ensures { MatchResult result (λ survey. items_of (noted_by (view_of view.entry)) reading (bytes_of logs.now) ≡ Ok survey)
+    ensures silent { PassesNone reading (bytes_of logs.now) → warnings.new.items ≡ warnings.old.items }
+    ensures survey { MatchResult result (λ survey. items_of (noted_by (view_of view.entry)) reading (bytes_of logs.now) ≡ Ok survey)
         (OrMemory (IsItemFault (noted_by (view_of view.entry)) reading (bytes_of logs.now))) }
 {
     let mut survey = Survey::new(alloc);
-    match keep_logs(alloc, &mut survey, view, reading, logs) {
+    match keep_logs(alloc, &mut survey, view, reading, 0, logs, warnings) {
         Ok(_) => Ok(survey),
         Err(refusal) => Err(refusal),
     }
@@ -134,7 +137,7 @@ fn text_of(alloc: Global, survey: &Survey, form: SurveyForm) -> Result<Vec<u8>, 
     }
 }
 
-/// What is on the lines of logs, as a sheet; or the start of a table, as rows for `import`. Errors: a log cannot be read,
+/// What is on the lines of logs, as a sheet; or the start of a table, as rows for `import`. What is passed over is noted. Errors: a log cannot be read,
 /// or has a faulty line; that is a line as the reader of logs says, or one with a name that is not UTF-8. `Memory` if an
 /// allocation fails.
 pub fn survey_logs<'a, F: FileReader>(
@@ -142,10 +145,13 @@ pub fn survey_logs<'a, F: FileReader>(
     files: &mut F,
     names: LogNames<'a>,
     form: SurveyForm,
+    warnings: &mut Vec<Warning>,
 ) -> Result<Vec<u8>, Refused>
-    ensures { HasRead F.answers (λ file. IsSurveyAnswer file names.entry form result) files.old files.new }
+    ensures silent { HasRead F.answers (λ file. PassesNoLine file (logs_named names.entry) form.reading
+        → warnings.new.items ≡ warnings.old.items) files.old files.new }
+    ensures answer { HasRead F.answers (λ file. IsSurveyAnswer file names.entry form result) files.old files.new }
 {
     let logs = read_logs(alloc, files, names.first, names.more)?;
-    let survey = survey_of(alloc, names.view, form.reading, &logs)?;
+    let survey = survey_of(alloc, names.view, form.reading, &logs, warnings)?;
     Ok(text_of(alloc, &survey, form)?)
 }

@@ -4,6 +4,7 @@ ghost use Rattle.a429_console.specs.declared.refusals.CommandRefusal.TheVariants
 
 use crate::refusals::CommandRefusal;
 use crate::refusals::evidence::TableEvidence;
+use a429_arguments::times::{Drift, Shift};
 use a429_equipment::{Equipment, Name};
 use a429_table::FaultKind;
 use std::alloc::Global;
@@ -90,6 +91,28 @@ pub struct MovedOutput {
     pub after: StatedPlace,
 }
 
+/// The clock of what was sent, as it was found by the words of two logs: how its times are moved, how many words say so, how
+/// many of these do not fit, and how far the shift may be off by the others, in microseconds.
+#[derive(Clone, Copy)]
+pub struct FoundClock {
+    pub shift: Shift,
+    pub drift: Drift,
+    pub words: usize,
+    pub unfit: usize,
+    pub margin: u64,
+}
+
+/// What is passed over in a log: it is no heading, and states no word.
+#[derive(Clone, Copy)]
+pub struct PassedLines {
+    /// The number of the log, from 0 in the order in which logs are read.
+    pub log: usize,
+    /// How many lines above the heading.
+    pub titles: usize,
+    /// The first line after the last word, from 1, if it and those after it are passed over.
+    pub tail: Option<usize>,
+}
+
 /// What an answer that is no refusal warns of.
 #[derive(Drop)]
 pub enum Warning {
@@ -107,6 +130,10 @@ pub enum Warning {
     Kept(KeptCounts),
     /// This output does not stay.
     Moved(MovedOutput),
+    /// The clock of what was sent was looked for. `None`: it was not found.
+    Clock(Option<FoundClock>),
+    /// Lines of a log are passed over.
+    Passed(PassedLines),
 }
 
 /// Notes a warning, unless an allocation fails.
@@ -155,6 +182,16 @@ impl Warning {
     /// Notes an output that does not stay, unless an allocation fails.
     pub fn note_moved(warnings: &mut Vec<Warning>, output: MovedOutput) {
         note(warnings, Warning::Moved(output));
+    }
+
+    /// Notes what is passed over in a log, unless an allocation fails.
+    pub fn note_passed(warnings: &mut Vec<Warning>, lines: PassedLines) {
+        note(warnings, Warning::Passed(lines));
+    }
+
+    /// Notes the clock that was looked for, unless an allocation fails.
+    pub fn note_clock(warnings: &mut Vec<Warning>, clock: Option<FoundClock>) {
+        note(warnings, Warning::Clock(clock));
     }
 
     /// Notes a number of rows that were passed over, unless an allocation fails.

@@ -9,7 +9,7 @@ use a429_judge::{Judge, Mark, NoteFault, Sent};
 use std::alloc::{AllocError, Global};
 
 /// The source that accepts a word. `None` if none does.
-fn accepting(equipment: &Equipment, word: BoxWord) -> Option<usize>
+pub fn accepting(equipment: &Equipment, word: BoxWord) -> Option<usize>
     ensures { result ≡ accepting equipment.now word }
 {
     let receiver = usize::from(word.place.number);

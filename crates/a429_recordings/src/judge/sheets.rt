@@ -13,14 +13,14 @@ use std::alloc::{AllocError, Global};
 
 /// What is printed, whether something was found, and the rows of outputs, for a hint.
 #[derive(Drop)]
-pub struct Judged {
+pub struct Sheeted {
     pub text: Vec<u8>,
     pub found: bool,
     pub rows: Found,
 }
 
 /// A row for each output and each group. Error: an allocation failed.
-fn row_sheet(alloc: Global, judging: &Judging<'_>, form: SheetForm) -> Result<Judged, AllocError>
+fn row_sheet(alloc: Global, judging: &Judging<'_>, form: SheetForm) -> Result<Sheeted, AllocError>
     ensures { IfOk result (IsJudgeSheet false judging.now form) }
 {
     let mut rows = Rows::new(alloc);
@@ -30,7 +30,7 @@ fn row_sheet(alloc: Global, judging: &Judging<'_>, form: SheetForm) -> Result<Ju
         rows,
     };
     let text = sheet.render(alloc, form)?;
-    Ok(Judged {
+    Ok(Sheeted {
         text,
         found,
         rows: Found::Rows(sheet),
@@ -38,7 +38,7 @@ fn row_sheet(alloc: Global, judging: &Judging<'_>, form: SheetForm) -> Result<Ju
 }
 
 /// A row for each finding. Error: an allocation failed.
-fn event_sheet(alloc: Global, judging: &Judging<'_>, form: SheetForm) -> Result<Judged, AllocError>
+fn event_sheet(alloc: Global, judging: &Judging<'_>, form: SheetForm) -> Result<Sheeted, AllocError>
     ensures { IfOk result (IsJudgeSheet true judging.now form) }
 {
     let mut rows = Rows::new(alloc);
@@ -49,7 +49,7 @@ fn event_sheet(alloc: Global, judging: &Judging<'_>, form: SheetForm) -> Result<
         rows,
     };
     let text = sheet.render(alloc, form)?;
-    Ok(Judged {
+    Ok(Sheeted {
         text,
         found,
         rows: Found::Nothing,
@@ -62,7 +62,7 @@ pub fn judge_sheet(
     judging: &Judging<'_>,
     events: bool,
     form: SheetForm,
-) -> Result<Judged, AllocError>
+) -> Result<Sheeted, AllocError>
     ensures { IfOk result (IsJudgeSheet events judging.now form) }
 {
     if events {

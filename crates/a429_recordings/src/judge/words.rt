@@ -3,10 +3,12 @@ ghost use Rattle.std.specs.Prelude.{◌≡◌, ◌==◌, ◌<◌, length, option
 ghost use Rattle.a429_console.specs.Files.{bytes_of};
 ghost use Rattle.a429_recordings.specs.BoxLogs.{AreOrdered, IsLogsReading, at_number, box_word_by, bus_named, bus_place, place_named, sent_place};
 ghost use Rattle.a429_console.specs.Names.{number_named};
+ghost use Rattle.a429_recordings.specs.LogItems.{PassesNone};
 ghost use Rattle.a429_recordings.specs.LogViews.{view_of};
 
 use crate::logs::keeping::{KeepFault, WordKeeper, keep_logs};
 use crate::logs::views::LogView;
+use a429_console::hints::warnings::Warning;
 use a429_console::refusals::Refused;
 use a429_console::refusals::evidence::{LineEvidence, LogRefusal};
 use a429_logs::{Reading, StatedWord};
@@ -172,7 +174,8 @@ impl WordKeeper for PlaceWords<'_> {
     }
 }
 
-/// Reads logs, one after another as if they were one, with words as they are taken. Error: the number of the first faulty
+/// Reads logs, one after another as if they were one, with words as they are taken. The first has this number. What is passed
+/// over is noted. Error: the number of the first faulty
 /// line, from 1 in its log, or an allocation failed. A line is faulty as the reader of logs says, or if there is no place
 /// of its name, or its word is at 10^14 us or later.
 pub fn read_words<'a>(
@@ -181,8 +184,11 @@ pub fn read_words<'a>(
     view: LogView<'a>,
     log: BoxLog,
     reading: Reading,
+    first: usize,
     texts: &'a [Vec<u8>],
+    warnings: &mut Vec<Warning>,
 ) -> Result<BoxWords, Refused>
+    ensures silent { PassesNone reading (bytes_of texts.now) → warnings.new.items ≡ warnings.old.items }
     ensures read { IsLogsReading (box_word_by names.now (view_of view.entry) log) reading (bytes_of texts.now) result }
     ensures ordered { IfOk result (λ read. AreOrdered read.words.items) }
 {
@@ -191,7 +197,7 @@ pub fn read_words<'a>(
         log,
         words: Vec::new(alloc),
     };
-    match keep_logs(alloc, &mut kept, view, reading, texts) {
+    match keep_logs(alloc, &mut kept, view, reading, first, texts, warnings) {
         Ok(next) => Ok(BoxWords {
             words: kept.words,
             next,

@@ -1,15 +1,17 @@
 //! Logs that are read one after another, as if they were one.
-ghost use Rattle.std.specs.Prelude.{◌≡◌, [], Option, List};
+ghost use Rattle.std.specs.Prelude.{◌≡◌, [], IfOk, None, Option, List};
 ghost use Rattle.a429_logs.specs.LogRows.{Stated, stated_by};
 ghost use Rattle.a429_console.specs.Files.{bytes_of};
 ghost use Rattle.a429_console.specs.declared.refusals.CommandRefusal.TheVariants.{LogLine};
-ghost use Rattle.a429_recordings.specs.LogItems.{AreKept, IsKept, KeepsLog, KeepsLogs};
+ghost use Rattle.a429_recordings.specs.LogItems.{AreKept, IsKept, KeepsLog, KeepsLogs, PassesNone};
+ghost use Rattle.a429_logs.specs.LogsLeft.{tail_of, titles_of};
 ghost use Rattle.a429_recordings.specs.LogViews.{view_of, viewed};
 
 use crate::logs::views::LogView;
+use a429_console::hints::warnings::{PassedLines, Warning};
 use a429_console::refusals::evidence::{Evidence, LineEvidence, LogEvidence, LogRefusal};
 use a429_console::refusals::{CommandRefusal, Refused};
-use a429_logs::{LogReader, Reading, Shape, StatedWord};
+use a429_logs::{LogReader, PassedOver, Reading, Shape, StatedWord};
 use std::alloc::{AllocFailed, Global};
 
 /// Why a word of a log was not kept.
@@ -83,6 +85,28 @@ fn refuse_line<T: WordKeeper>(
     )
 }
 
+/// Notes what is passed over in a log of this number, if anything is.
+fn note_passed(log: usize, passed: PassedOver, warnings: &mut Vec<Warning>)
+    ensures { passed.titles ≡ 0 → passed.tail ≡ None → warnings.new.items ≡ warnings.old.items }
+{
+    if passed.titles == 0 && passed.tail.is_none() {
+        return;
+    }
+    let lines = PassedLines {
+        log,
+        titles: passed.titles,
+        tail: passed.tail,
+    };
+    Warning::note_passed(warnings, lines);
+}
+
+/// How the log after a log is read, and what is passed over in that.
+#[derive(Clone, Copy)]
+struct LogEnd {
+    next: Reading,
+    passed: PassedOver,
+}
+
 /// Keeps a word as it is taken, unless it is passed over. Error: it makes its line faulty, or an allocation failed.
 #[tactic(auto, using(crate::proofs::LogLines::kept_items, crate::proofs::LogLines::kept_nothing))]
 fn keep_taken<'a, T: WordKeeper>(
@@ -100,7 +124,7 @@ fn keep_taken<'a, T: WordKeeper>(
     }
 }
 
-/// Keeps the words of a log as they are taken. The answer is how the next log is read. Error: the first faulty line of the
+/// Keeps the words of a log as they are taken. The answer is how the next log is read, and what is passed over. Error: the first faulty line of the
 /// log, or an allocation failed.
 #[tactic(auto, using(crate::proofs::LogLines::kept_more, crate::proofs::LogLines::kept_none))]
 fn keep_log<'a, T: WordKeeper>(
@@ -108,9 +132,11 @@ fn keep_log<'a, T: WordKeeper>(
     keeper: &mut T,
     view: LogView<'a>,
     log: NumberedLog<'a>,
-) -> Result<Reading, Refused>
+) -> Result<LogEnd, Refused>
     ensures kept { KeepsLog (viewed (view_of view.entry) (T.item keeper.old)) log.entry.reading log.entry.text.now
         (T.kept keeper.old) (T.kept keeper.new) result }
+    ensures titles { IfOk result (λ end. end.passed.titles ≡ titles_of log.entry.reading log.entry.text.now) }
+    ensures tail { IfOk result (λ end. end.passed.tail ≡ tail_of log.entry.reading log.entry.text.now) }
     ensures same { T.item keeper.new ≡ T.item keeper.old }
 {
     let mut reader = LogReader::open(log.reading, log.text);
@@ -130,21 +156,27 @@ fn keep_log<'a, T: WordKeeper>(
             Err(KeepFault::NoMemory) => return Err(Refused::plain(CommandRefusal::Memory)),
         }
     }
-    Ok(reader.for_next_log())
+    Ok(LogEnd {
+        next: reader.for_next_log(),
+        passed: reader.passed_over(),
+    })
 }
 
-/// Keeps the words of logs as they are taken, one after another as if they were one. The answer is how the next log would be
-/// read. Error: the number of the first faulty line, from 1 in its log, or an allocation failed.
+/// Keeps the words of logs as they are taken, one after another as if they were one. The first has this number. The answer is
+/// how the next log would be read. What is passed over is noted. Error: the number of the first faulty line, from 1 in its log, or an allocation failed.
 #[tactic(auto, using(crate::proofs::LogLines::before_more, crate::proofs::LogLines::logs_left))]
 pub fn keep_logs<'a, T: WordKeeper>(
     alloc: Global,
     keeper: &mut T,
     view: LogView<'a>,
     reading: Reading,
+    first: usize,
     logs: &'a [Vec<u8>],
+    warnings: &mut Vec<Warning>,
 ) -> Result<Reading, Refused>
     requires { T.kept keeper.old ≡ [] }
-    ensures { KeepsLogs (viewed (view_of view.entry) (T.item keeper.old)) reading (bytes_of logs.now) (T.kept keeper.new) result }
+    ensures silent { PassesNone reading (bytes_of logs.now) → warnings.new.items ≡ warnings.old.items }
+    ensures kept { KeepsLogs (viewed (view_of view.entry) (T.item keeper.old)) reading (bytes_of logs.now) (T.kept keeper.new) result }
 {
     let mut next = reading;
     for number in 0..logs.len() {
@@ -154,7 +186,10 @@ pub fn keep_logs<'a, T: WordKeeper>(
             reading: next,
         };
         match keep_log(alloc, keeper, view, log) {
-            Ok(after) => next = after,
+            Ok(end) => {
+                note_passed(first.saturating_add(number), end.passed, warnings);
+                next = end.next;
+            }
             Err(refusal) => return Err(refusal),
         }
     }

@@ -1,13 +1,33 @@
 //! Which words of logs a command takes, and how.
 ghost use Rattle.std.specs.Prelude.{◌≡◌};
 ghost use Rattle.a429_arguments.specs.Texts.{texts_of};
-ghost use Rattle.a429_recordings.specs.LogViews.{from_of, is_ignored, moved, since, up_to};
+ghost use Rattle.a429_recordings.specs.LogViews.{from_of, is_ignored, moved, same_clock, shifted, since, up_to};
 
+use a429_align::corrected;
 use a429_arguments::options::OptionName;
 use a429_arguments::requests::Asked;
-use a429_arguments::times::{LogOrigin, Shift};
+use a429_arguments::times::{Drift, LogOrigin, Shift};
 use a429_logs::{Reading, StatedWord};
 use a429_text::renames::renamed;
+
+/// How the times of a clock are moved to another one: without its drift, and then by the shift.
+#[derive(Clone, Copy)]
+pub struct ClockMove {
+    pub drift: Drift,
+    pub shift: Shift,
+}
+
+impl ClockMove {
+    /// Times stay as they are.
+    pub fn none() -> ClockMove
+        ensures { result ≡ same_clock }
+    {
+        ClockMove {
+            drift: Drift::Fast(0),
+            shift: Shift::Later(0),
+        }
+    }
+}
 
 /// Which words of logs are taken, and how.
 #[derive(Clone, Copy)]
@@ -16,8 +36,8 @@ pub struct LogView<'a> {
     pub channels: &'a [&'a str],
     /// Words of these names are passed over.
     pub ignored: &'a [&'a str],
-    /// By how much times are moved. A word that is moved to before 0 is passed over.
-    pub shift: Shift,
+    /// How times are moved to another clock. A word that is moved to before 0 is passed over.
+    pub clock: ClockMove,
     /// The time, in microseconds, from which moved times are counted. Earlier words are passed over.
     pub from: u64,
     /// The last time, in microseconds, as times are counted. Later words are passed over. `None`: there is no last time.
@@ -46,9 +66,9 @@ fn is_ignored(ignored: &[&str], name: &[u8]) -> bool
     false
 }
 
-/// A time as it is moved. `None` if it is moved to before 0, or to one of more than 64 bits.
-fn moved(shift: Shift, time: u64) -> Option<u64>
-    ensures { result ≡ moved shift time }
+/// A time as it is moved by a shift. `None` if it is moved to before 0, or to one of more than 64 bits.
+fn shifted(shift: Shift, time: u64) -> Option<u64>
+    ensures { result ≡ shifted shift time }
 {
     match shift {
         Shift::Later(by) => {
@@ -59,6 +79,16 @@ fn moved(shift: Shift, time: u64) -> Option<u64>
             }
         }
         Shift::Earlier(by) => { if time < by { None } else { Some(time - by) } }
+    }
+}
+
+/// A time as it is moved to another clock. `None` if it is moved to before 0, or to one of more than 64 bits.
+fn moved(clock: ClockMove, time: u64) -> Option<u64>
+    ensures { result ≡ moved clock time }
+{
+    match corrected(clock.drift, time) {
+        Some(time) => shifted(clock.shift, time),
+        None => None,
     }
 }
 
@@ -92,20 +122,20 @@ impl<'a> LogView<'a> {
         LogView {
             channels: asked.texts(OptionName::Channel),
             ignored: asked.texts(OptionName::Ignore),
-            shift: Shift::Later(0),
+            clock: ClockMove::none(),
             from: from_of(asked.origin()),
             until: None,
         }
     }
 
-    /// The words up to the last time of a request, with times moved by this.
-    pub fn window(asked: &'a Asked, shift: Shift) -> LogView<'a>
-        ensures { view_of result ≡ window_view (asked_of asked.now).given shift }
+    /// The words up to the last time of a request, with times moved so.
+    pub fn window(asked: &'a Asked, clock: ClockMove) -> LogView<'a>
+        ensures { view_of result ≡ window_view (asked_of asked.now).given clock }
     {
         LogView {
             channels: asked.texts(OptionName::Channel),
             ignored: asked.texts(OptionName::Ignore),
-            shift,
+            clock,
             from: from_of(asked.origin()),
             until: asked.long_number(OptionName::Until),
         }
@@ -122,11 +152,18 @@ impl<'a> LogView<'a> {
         }
     }
 
+    /// The same view with times moved so.
+    pub fn on_clock(self, clock: ClockMove) -> LogView<'a>
+        ensures { view_of result ≡ record (view_of self.entry) { clock = clock } }
+    {
+        LogView { clock, ..self }
+    }
+
     /// The time that a word is taken at. `None` if the word is passed over.
     fn time_in(&self, time: u64) -> Option<u64>
         ensures { result ≡ time_in (view_of self.now) time }
     {
-        let at = moved(self.shift, time)?;
+        let at = moved(self.clock, time)?;
         let counted = since(self.from, at)?;
         up_to(self.until, counted)
     }

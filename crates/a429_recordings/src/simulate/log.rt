@@ -1,11 +1,13 @@
 //! Logs of words at receivers of a station.
-ghost use Rattle.std.specs.Prelude.{IfOk};
+ghost use Rattle.std.specs.Prelude.{◌≡◌, IfOk};
+ghost use Rattle.a429_recordings.specs.LogItems.{PassesNone};
 ghost use Rattle.a429_console.specs.Files.{bytes_of};
 ghost use Rattle.a429_recordings.specs.LogViews.{view_of};
 ghost use Rattle.a429_recordings.specs.SimulationLog.{AreInTime, IsLogReading};
 
 use crate::logs::keeping::{KeepFault, WordKeeper, keep_logs};
 use crate::logs::views::LogView;
+use a429_console::hints::warnings::Warning;
 use a429_console::refusals::Refused;
 use a429_console::refusals::evidence::{LineEvidence, LogRefusal};
 use a429_logs::{Reading, StatedWord};
@@ -60,8 +62,8 @@ impl WordKeeper for ReceiverWords<'_> {
     }
 }
 
-/// Reads logs, one after another as if they were one, for the receivers of these names, with words as they are taken.
-/// Error: the number of the first faulty line, from 1 in its log, or an allocation failed. A line is faulty as the reader
+/// Reads logs, one after another as if they were one, for the receivers of these names, with words as they are taken. What is
+/// passed over is noted. Error: the number of the first faulty line, from 1 in its log, or an allocation failed. A line is faulty as the reader
 /// of logs says, or if its word is at no receiver, or at 10^14 us or later.
 pub fn read_words<'a>(
     alloc: Global,
@@ -69,7 +71,9 @@ pub fn read_words<'a>(
     view: LogView<'a>,
     reading: Reading,
     logs: &'a [Vec<u8>],
+    warnings: &mut Vec<Warning>,
 ) -> Result<Vec<LogWord>, Refused>
+    ensures silent { PassesNone reading (bytes_of logs.now) → warnings.new.items ≡ warnings.old.items }
     ensures words { IsLogReading names.now (view_of view.entry) reading (bytes_of logs.now) result }
     ensures in_time { IfOk result (λ words. AreInTime words.items) }
 {
@@ -77,7 +81,7 @@ pub fn read_words<'a>(
         names,
         words: Vec::new(alloc),
     };
-    match keep_logs(alloc, &mut kept, view, reading, logs) {
+    match keep_logs(alloc, &mut kept, view, reading, 0, logs, warnings) {
         Ok(_) => Ok(kept.words),
         Err(refusal) => Err(refusal),
     }

@@ -48,11 +48,11 @@ returns-in-Diff-clause-replied g c =
 
 pub returns-in-Survey-clause-replied : goal.returns-in-Survey-clause-replied
 returns-in-Survey-clause-replied g c =
-    given_by g.F.FileReader.answers c.args.files.now c.survey_reply.new.files (asked_of c.args.asked.now) c.survey_reply.result c.args.asked.now.verb verb.Survey c.in-Survey.is c.survey_reply.ensures
+    given_by g.F.FileReader.answers c.args.files.now c.survey_reply.new.files (asked_of c.args.asked.now) c.survey_reply.result c.args.asked.now.verb verb.Survey c.in-Survey.is c.survey_reply.ensures.answer
 
 pub returns-in-Judge-clause-replied : goal.returns-in-Judge-clause-replied
 returns-in-Judge-clause-replied g c =
-    given_by g.F.FileReader.answers c.args.files.now c.judge_reply.new.files (asked_of c.args.asked.now) c.judge_reply.result c.args.asked.now.verb verb.Judge c.in-Judge.is c.judge_reply.ensures
+    given_by g.F.FileReader.answers c.args.files.now c.judge_reply.new.files (asked_of c.args.asked.now) c.judge_reply.result c.args.asked.now.verb verb.Judge c.in-Judge.is c.judge_reply.ensures.answer
 
 pub returns-in-Word-clause-silent : goal.returns-in-Word-clause-silent
 returns-in-Word-clause-silent g c = read_none refl (λ file silent. refl)
@@ -78,10 +78,10 @@ pub returns-in-Diff-clause-silent : goal.returns-in-Diff-clause-silent
 returns-in-Diff-clause-silent g c = read_weaker c.diff_reply.ensures (λ file is silent. refl)
 
 pub returns-in-Survey-clause-silent : goal.returns-in-Survey-clause-silent
-returns-in-Survey-clause-silent g c = read_weaker c.survey_reply.ensures (λ file is silent. refl)
+returns-in-Survey-clause-silent g c = rw c.in-Survey.is c.survey_reply.ensures.silent
 
 pub returns-in-Judge-clause-silent : goal.returns-in-Judge-clause-silent
-returns-in-Judge-clause-silent g c = read_weaker c.judge_reply.ensures (λ file is silent. refl)
+returns-in-Judge-clause-silent g c = rw c.in-Judge.is (read_weaker c.judge_reply.ensures.silent (λ file silent none. silent none.0 none.1))
 
 pub returns-in-Plan-clause-replied : goal.returns-in-Plan-clause-replied
 returns-in-Plan-clause-replied g c =

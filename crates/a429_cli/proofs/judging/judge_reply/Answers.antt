@@ -6,17 +6,18 @@ use Rattle.a429_recordings.specs.declared.judge.JudgeForm.{JudgeForm}
 use Rattle.a429_console.specs.RefusalText.{OrMemory}
 use Rattle.a429_cli.proofs.judging.judge_reply.Goals as goal
 
-pub returns-in-Ok : goal.returns-in-Ok
-returns-in-Ok g c =
-    read_weaker c.in-Ok.ensures (λ file is. (
-      c.in-Ok.judged.found,
-      subst (λ (n : BoxFiles (List ℕ)). IsJudgedBy file n (judge_form (asked_of c.args.asked.now).given) c.in-Ok.judged.found c.in-Ok.judged.text.items) c.names_in.ensures
-          (subst (λ (f : JudgeForm). IsJudgedBy file (names_of c.names_in.result) f c.in-Ok.judged.found c.in-Ok.judged.text.items) c.of-form.ensures is),
+pub returns-in-Ok-clause-answer : goal.returns-in-Ok-clause-answer
+returns-in-Ok-clause-answer g c =
+    read_weaker c.in-Ok.ensures.answer (λ file is. (
+      c.in-Ok.judged.alignment,
+      c.in-Ok.judged.sheet.found,
+      subst (λ (n : BoxFiles (List ℕ)). IsJudgedBy file n (judge_form (asked_of c.args.asked.now).given) c.in-Ok.judged.alignment c.in-Ok.judged.sheet.found c.in-Ok.judged.sheet.text.items) c.names_in.ensures
+          (subst (λ (f : JudgeForm). IsJudgedBy file (names_of c.names_in.result) f c.in-Ok.judged.alignment c.in-Ok.judged.sheet.found c.in-Ok.judged.sheet.text.items) c.of-form.ensures is),
       c.judge_status.ensures,
     ))
 
-pub returns-in-Err : goal.returns-in-Err
-returns-in-Err g c =
-    read_weaker c.in-Err.ensures (λ file bad.
+pub returns-in-Err-clause-answer : goal.returns-in-Err-clause-answer
+returns-in-Err-clause-answer g c =
+    read_weaker c.in-Err.ensures.answer (λ file bad.
     subst (λ (n : BoxFiles (List ℕ)). OrMemory (IsUnjudgedBy file n (judge_form (asked_of c.args.asked.now).given)) c.in-Err.refusal) c.names_in.ensures
     (subst (λ (f : JudgeForm). OrMemory (IsUnjudgedBy file (names_of c.names_in.result) f) c.in-Err.refusal) c.of-form.ensures bad))

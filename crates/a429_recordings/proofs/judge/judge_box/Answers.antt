@@ -9,8 +9,8 @@ use Rattle.a429_console.proofs.Refused.{or_memory_weaker}
 use Rattle.a429_recordings.specs.JudgeReplies.{IsUnjudgedOf, files_of, no_group_of}
 use Rattle.a429_recordings.proofs.judge.judge_box.Goals as goal
 
-pub returns-in-Some : goal.returns-in-Some
-returns-in-Some c =
+pub returns-in-Some-clause-judged : goal.returns-in-Some-clause-judged
+returns-in-Some-clause-judged c =
     let q = c.args.proposal.now in
     let i = files_of c.args.input.now in
     let name = c.in-Some.group.now in

@@ -8,8 +8,8 @@ use Rattle.a429_recordings.specs.JudgeReplies.{IsUnjudged, files_of}
 use Rattle.a429_recordings.proofs.JudgedFiles.{judged_of}
 use Rattle.a429_recordings.proofs.judge.judge_input.Goals as goal
 
-pub returns-in_err-proposal : goal.returns-in_err-proposal
-returns-in_err-proposal c =
+pub returns-in_err-proposal-clause-judged : goal.returns-in_err-proposal-clause-judged
+returns-in_err-proposal-clause-judged c =
     let i = files_of c.args.input.now in
     let e = c.in_err-proposal.field-0.0 in
     let p = err_from_is_err_and c.from_residual.result c.from_residual.ensures.1 in
@@ -17,9 +17,9 @@ returns-in_err-proposal c =
     failed c.from_residual.result _ (OrMemory (IsUnjudged i c.args.form)) e (p.1 ∙ ap Err p.2)
     (or_memory_weaker (IsTableRefusal i.table) (IsUnjudged i c.args.form) e (λ one. inl one) fault)
 
-pub returns : goal.returns
-returns c =
+pub returns-clause-judged : goal.returns-clause-judged
+returns-clause-judged c =
     let i = files_of c.args.input.now in
     let q = c.in_ok-proposal.proposal in
     let proposed = subst (λ (t : List ℕ). IsProposedBy t q) c.deref.ensures.value c.in_ok-proposal.ensures in
-    rw c.with_plan.ensures (judged_of q i c.args.form c.judge_box-judged.result proposed c.judge_box-judged.ensures)
+    rw c.with_plan.ensures (judged_of q i c.args.form c.judge_box-judged.result proposed c.judge_box-judged.ensures.judged)

@@ -1,9 +1,11 @@
-use Rattle.std.proofs.Common.{rules, subst, ◌≡◌, List, ℕ}
-use Rattle.std.specs.Prelude.{None}
+use Rattle.std.proofs.Common.{rules}
 use Rattle.a429_recordings.specs.JudgeReplies.{files_of}
-use Rattle.a429_recordings.proofs.JudgedFiles.{printed}
+use Rattle.a429_recordings.proofs.JudgedFiles.{unprinted}
 use Rattle.a429_recordings.proofs.judge.judge_plan.Goals as goal
 
-pub returns : goal.returns
-returns c =
-    printed c.args.proposal.now (files_of c.args.input.now) c.args.form c.judge_words.result c.requires.groups (search rules) c.judge_words.ensures
+pub returns-in-Ok-clause-judged : goal.returns-in-Ok-clause-judged
+returns-in-Ok-clause-judged c = (c.requires.groups, search rules, c.in_ok-found.ensures, c.in-Ok.ensures.printed)
+
+pub returns-in-Err-clause-judged : goal.returns-in-Err-clause-judged
+returns-in-Err-clause-judged c =
+    unprinted c.args.proposal.now (files_of c.args.input.now) c.args.form c.in_ok-found.found c.in-Err.refusal c.requires.groups (search rules) c.in_ok-found.ensures c.in-Err.ensures.printed

@@ -41,4 +41,4 @@ pub returns : goal.returns
 returns g c =
     let names = names_of c.args.names in
     read_then {Q = λ file. AreReadLogs file names.heard (bytes_of c.in_ok-heard.heard.items) × AreReadLogs file names.sent (bytes_of c.in_ok-sent.sent.items)} c.in_ok-table.ensures
-    (read_then c.in_ok-heard.ensures c.in_ok-sent.ensures (λ file heard sent. (heard, sent))) (λ file table rest. (table, rest.0, rest.1, refl, refl, refl))
+    (read_then c.in_ok-heard.ensures c.in_ok-sent.ensures (λ file heard sent. (heard, sent))) (λ file table rest. (table, rest.0, rest.1, refl, refl, refl, refl))

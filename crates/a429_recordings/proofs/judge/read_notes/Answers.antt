@@ -4,15 +4,15 @@ use Rattle.std.proofs.lemmas.Result.{err_from_is_err_and}
 use Rattle.a429_console.specs.RefusalText.{OrMemory}
 use Rattle.a429_console.proofs.Refused.{failed, or_memory_weaker}
 use Rattle.a429_recordings.specs.BoxLogs.{restarted}
-use Rattle.a429_recordings.specs.JudgeReplies.{IsHeardFault, IsNoRecording, files_of, heard_words, sent_by, sent_words}
+use Rattle.a429_recordings.specs.JudgeReplies.{IsHeardFault, IsNoRecording, aligned_by, files_of, heard_words, sent_by, sent_words}
 use Rattle.a429_recordings.specs.LogItems.{IsItemFault, reading_behind}
 use Rattle.a429_recordings.proofs.JudgedFiles.{recorded}
 use Rattle.a429_recordings.proofs.judge.read_notes.Goals as goal
 
-pub returns-in_err-heard : goal.returns-in_err-heard
-returns-in_err-heard c =
+pub returns-in_err-heard-clause-recorded : goal.returns-in_err-heard-clause-recorded
+returns-in_err-heard-clause-recorded c =
     let q = c.args.proposal.now in
-    let i = files_of c.args.input.now in
+    let i = aligned_by c.args.found (files_of c.args.input.now) in
     let reading = c.args.reading in
     let e = c.in_err-heard.field-0.0 in
     let p = err_from_is_err_and c.from_residual.result c.from_residual.ensures.1 in
@@ -20,10 +20,10 @@ returns-in_err-heard c =
     failed c.from_residual.result _ (OrMemory (IsNoRecording q i reading)) e (p.1 ∙ ap Err p.2)
     (or_memory_weaker (IsHeardFault q i reading) (IsNoRecording q i reading) e (λ one. inl one) fault)
 
-pub returns-in_err-sent : goal.returns-in_err-sent
-returns-in_err-sent c =
+pub returns-in_err-sent-clause-recorded : goal.returns-in_err-sent-clause-recorded
+returns-in_err-sent-clause-recorded c =
     let q = c.args.proposal.now in
-    let i = files_of c.args.input.now in
+    let i = aligned_by c.args.found (files_of c.args.input.now) in
     let reading = c.args.reading in
     let e = c.in_err-sent.field-0.0 in
     let p = err_from_is_err_and c.from_residual-in_err-sent.result c.from_residual-in_err-sent.ensures.1 in
@@ -35,10 +35,10 @@ returns-in_err-sent c =
     failed c.from_residual-in_err-sent.result _ (OrMemory (IsNoRecording q i reading)) e (p.1 ∙ ap Err p.2)
     (or_memory_weaker bad (IsNoRecording q i reading) e (λ one. inr (inl (words, its, one))) fault)
 
-pub returns : goal.returns
-returns c =
+pub returns-clause-recorded : goal.returns-clause-recorded
+returns-clause-recorded c =
     let q = c.args.proposal.now in
-    let i = files_of c.args.input.now in
+    let i = aligned_by c.args.found (files_of c.args.input.now) in
     let reading = c.args.reading in
     let heard = c.in_ok-heard.heard.words.items in
     let sent = c.in_ok-sent.sent.words.items in

@@ -9,8 +9,8 @@ use Rattle.a429_recordings.specs.SimulationLog.{IsLogFault, log_words}
 use Rattle.a429_recordings.specs.SimulationReplies.{BeginsNoLog, IsUnsimulated, files_of}
 use Rattle.a429_recordings.proofs.simulate.prepare.Goals as goal
 
-pub returns-in_err-setting : goal.returns-in_err-setting
-returns-in_err-setting c =
+pub returns-in_err-setting-clause-prepared : goal.returns-in_err-setting-clause-prepared
+returns-in_err-setting-clause-prepared c =
     let i = files_of c.args.input.now in
     let e = c.in_err-setting.field-0.0 in
     let p = err_from_is_err_and c.from_residual.result c.from_residual.ensures.1 in
@@ -18,8 +18,8 @@ returns-in_err-setting c =
     failed c.from_residual.result _ (OrMemory (IsUnsimulated i c.args.form)) e (p.1 ∙ ap Err p.2)
     (or_memory_weaker (IsTableRefusal i.table) (IsUnsimulated i c.args.form) e (λ one. inl (inl one)) fault)
 
-pub returns-in_err-player : goal.returns-in_err-player
-returns-in_err-player c =
+pub returns-in_err-player-clause-prepared : goal.returns-in_err-player-clause-prepared
+returns-in_err-player-clause-prepared c =
     let i = files_of c.args.input.now in
     let e = c.in_err-player.field-0.0 in
     let p = err_from_is_err_and c.from_residual-in_err-player.result c.from_residual-in_err-player.ensures.1 in
@@ -38,15 +38,15 @@ returns-in_err-player c =
       )
     ] in
     failed c.from_residual-in_err-player.result _ (OrMemory (IsUnsimulated i c.args.form)) e (p.1 ∙ ap Err p.2)
-    (or_memory_weaker (BeginsNoLog s i c.args.form) (IsUnsimulated i c.args.form) e why c.in_err-player.ensures)
+    (or_memory_weaker (BeginsNoLog s i c.args.form) (IsUnsimulated i c.args.form) e why c.in_err-player.ensures.player)
 
-pub returns : goal.returns
-returns c =
+pub returns-clause-prepared : goal.returns-clause-prepared
+returns-clause-prepared c =
     let i = files_of c.args.input.now in
     let s = c.in_ok-setting.setting in
     let names = c.in_ok-setting.ensures.1 in
     let proposed = subst (λ (t : List ℕ). IsProposedBy t s.proposal) c.deref.ensures.value c.in_ok-setting.ensures.0 in
-    let start = c.in_ok-player.ensures in
+    let start = c.in_ok-player.ensures.player in
     record {
       words = start.0;
       simulated = record { proposed = proposed; words_are = subst (λ (n : Naming). log_words n i.view c.args.form.reading i.logs ≡ Ok start.0) names start.1 };

@@ -12,8 +12,8 @@ use Rattle.a429_recordings.specs.SimulationRuns.{IsBegin}
 use Rattle.a429_recordings.specs.Timeline.{SendsTooMuch, end_of}
 use Rattle.a429_recordings.proofs.simulate.read_player.Goals as goal
 
-pub returns-in_err-words : goal.returns-in_err-words
-returns-in_err-words c =
+pub returns-in_err-words-clause-player : goal.returns-in_err-words-clause-player
+returns-in_err-words-clause-player c =
     let s = c.args.setting.now in
     let i = files_of c.args.input.now in
     let reading = c.args.form.reading in
@@ -23,8 +23,8 @@ returns-in_err-words c =
     failed c.from_residual.result _ (OrMemory (BeginsNoLog s i c.args.form)) e (p.1 ∙ ap Err p.2)
     (or_memory_weaker (IsLogFault s.names i.view reading i.logs) (BeginsNoLog s i c.args.form) e (λ one. inl one) fault)
 
-pub returns : goal.returns
-returns c =
+pub returns-clause-player : goal.returns-clause-player
+returns-clause-player c =
     let s = c.args.setting.now in
     let i = files_of c.args.input.now in
     let form = c.args.form in

@@ -1,4 +1,4 @@
-use Rattle.std.proofs.Common.{◌++◌, ◌∷◌, [], refl, inl, inr, subst, sym}
+use Rattle.std.proofs.Common.{◌++◌, ◌∙◌, ◌∷◌, [], refl, inl, inr, subst, sym}
 use Rattle.std.proofs.lemmas.Result.{IfOk-weaker}
 use Rattle.a429_console.specs.RefusalText.{refusal_line}
 use Rattle.a429_console.proofs.ReadingParts.{read_weaker}
@@ -19,7 +19,7 @@ returns-in-Err-clause-simulated g c = read_weaker c.in-Err.ensures (λ file bad.
 
 pub returns-in-Ok-prepare-clause-simulated : goal.returns-in-Ok-prepare-clause-simulated
 returns-in-Ok-prepare-clause-simulated g c =
-    let P = c.in-Ok-prepare.ensures in
+    let P = c.in-Ok-prepare.ensures.prepared in
     let q = c.in-Ok-prepare.simulation.setting.proposal in
     let form = c.args.form in
     let i = files_of c.in-Ok.input in
@@ -34,19 +34,20 @@ pub returns-clause-simulated : goal.returns-clause-simulated
 returns-clause-simulated g c = read_weaker c.in-Ok.ensures (λ file read.
     let i = files_of c.in-Ok.input in
     let begun = IsSimulationRefusal file c.args.table.now (logs_named c.args.names) (view_named c.args.names) c.args.form in
-    let why = or_memory_weaker (IsUnsimulated i c.args.form) begun c.in-Err-prepare.refusal (λ cause. inr (i, read, cause)) c.in-Err-prepare.ensures in
+    let why = or_memory_weaker (IsUnsimulated i c.args.form) begun c.in-Err-prepare.refusal (λ cause. inr (i, read, cause)) c.in-Err-prepare.ensures.prepared in
     both_ok c.refuse-in-Err-prepare.result _ _ (λ status is line. (refusal_line line.0 ++ 10 ∷ [], inl (line.0, told_or_memory begun c.in-Err-prepare.refusal line.0 line.1 why, is, refl), line.2)) c.refuse-in-Err-prepare.ensures.status c.refuse-in-Err-prepare.ensures.line)
 
 pub returns-in-Err-clause-silent : goal.returns-in-Err-clause-silent
-returns-in-Err-clause-silent g c = read_weaker c.in-Err.ensures (λ file bad spaced. refl)
+returns-in-Err-clause-silent g c = read_weaker c.in-Err.ensures (λ file bad plain spaced. refl)
 
 pub returns-in-Ok-prepare-clause-silent : goal.returns-in-Ok-prepare-clause-silent
 returns-in-Ok-prepare-clause-silent g c =
-    let P = c.in-Ok-prepare.ensures in
+    let P = c.in-Ok-prepare.ensures.prepared in
     let q = c.in-Ok-prepare.simulation.setting.proposal in
-    read_weaker c.in-Ok.ensures (λ file read spaced.
+    read_weaker c.in-Ok.ensures (λ file read plain spaced.
     let words : AreSpaced P.words = spaced (files_of c.in-Ok.input) q P.words read P.simulated in
-    c.note_close_words.ensures (subst AreSpaced (sym P.begin.timeline.words_are) words))
+    c.note_close_words.ensures (subst AreSpaced (sym P.begin.timeline.words_are) words) ∙ c.in-Ok-prepare.ensures.silent (plain (files_of c.in-Ok.input).logs read.1))
 
 pub returns-clause-silent : goal.returns-clause-silent
-returns-clause-silent g c = read_weaker c.in-Ok.ensures (λ file read spaced. refl)
+returns-clause-silent g c =
+    read_weaker c.in-Ok.ensures (λ file read plain spaced. c.in-Err-prepare.ensures.silent (plain (files_of c.in-Ok.input).logs read.1))

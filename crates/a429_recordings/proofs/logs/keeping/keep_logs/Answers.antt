@@ -4,8 +4,8 @@ use Rattle.a429_recordings.specs.LogViews.{view_of, viewed}
 use Rattle.a429_recordings.proofs.LogLines.{before_fault, logs_left}
 use Rattle.a429_recordings.proofs.logs.keeping.keep_logs.Goals as goal
 
-pub returns-in-Err : goal.returns-in-Err
-returns-in-Err g c =
+pub returns-in-Err-clause-kept : goal.returns-in-Err-clause-kept
+returns-in-Err-clause-kept g c =
     let k = g.T.WordKeeper in
     let f = viewed (view_of c.args.view) (k.item c.args.keeper.now) in
     let logs = c.args.logs.now in

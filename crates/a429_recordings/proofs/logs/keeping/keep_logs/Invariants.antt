@@ -1,6 +1,6 @@
 use Rattle.std.proofs.Common.{◌≡◌, drop}
 use Rattle.a429_console.specs.Files.{bytes_of}
-use Rattle.a429_recordings.specs.LogItems.{reading_behind}
+use Rattle.a429_recordings.specs.LogItems.{PassesNone, reading_behind}
 use Rattle.a429_recordings.specs.LogViews.{view_of, viewed}
 use Rattle.a429_recordings.proofs.LogLines.{AreBefore}
 use Rattle.a429_recordings.proofs.logs.keeping.keep_logs.Given as goal
@@ -12,5 +12,6 @@ invariant-loop-number g l =
     record {
       same : k.item l.keeper ≡ k.item l.fn.keeper;
       items : AreBefore (viewed (view_of l.view) (k.item l.fn.keeper)) l.fn.reading (bytes_of l.logs) l.next left (k.kept l.keeper);
+      silent : PassesNone l.fn.reading (bytes_of l.logs) → (l.warnings.items ≡ l.fn.warnings.items) × PassesNone l.next left;
       next : reading_behind l.fn.reading (bytes_of l.logs) ≡ reading_behind l.next left;
     }

@@ -1,0 +1,2 @@
+pub mod Corrections
+pub mod Alignments
