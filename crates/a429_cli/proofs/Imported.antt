@@ -14,6 +14,5 @@ pub fault_refuses : (file : List ℕ → Option (List ℕ)) (maps : List (List �
     → OrMemory (IsNoImport file maps options name) (import_refusal f)
 fault_refuses file maps options name bytes wrong.NoMemory read is = tt
 fault_refuses file maps options name bytes (wrong.Csv line kind column) read is = inr (bytes, read, (wrong.Csv line kind column, is, refl))
-fault_refuses file maps options name bytes (wrong.Wide line) read is = inr (bytes, read, (wrong.Wide line, is, refl))
 fault_refuses file maps options name bytes (wrong.Table fault.NoMemory) read is = tt
 fault_refuses file maps options name bytes (wrong.Table (fault.At kind place)) read is = inr (bytes, read, (wrong.Table (fault.At kind place), is, refl))

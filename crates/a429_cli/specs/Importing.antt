@@ -27,12 +27,12 @@ abbrev pub csv_kind : CsvFaultKind → CsvKind
 csv_kind rows.Form = csv.Form
 csv_kind rows.Column = csv.Column
 csv_kind rows.Differs = csv.Differs
+csv_kind rows.TooMany = csv.TooMany
 
 -- the refusal for a fault
 abbrev pub import_refusal : ImportFault → CommandRefusal
 import_refusal wrong.NoMemory = refused.Memory
 import_refusal (wrong.Csv line kind column) = refused.Csv line (csv_kind kind)
-import_refusal (wrong.Wide line) = refused.Csv line csv.Wide
 import_refusal (wrong.Table fault.NoMemory) = refused.Memory
 import_refusal (wrong.Table (fault.At kind place)) = refused.Table kind place
 

@@ -29,6 +29,7 @@ fn csv_kind(kind: CsvFaultKind) -> CsvKind
         CsvFaultKind::Form => CsvKind::Form,
         CsvFaultKind::Column => CsvKind::Column,
         CsvFaultKind::Differs => CsvKind::Differs,
+        CsvFaultKind::TooMany => CsvKind::TooMany,
     }
 }
 
@@ -41,10 +42,6 @@ fn import_refusal(fault: &ImportFault) -> CommandRefusal
         ImportFault::Csv { line, kind, .. } => CommandRefusal::Csv {
             line: *line,
             kind: csv_kind(*kind),
-        },
-        ImportFault::Wide { line } => CommandRefusal::Csv {
-            line: *line,
-            kind: CsvKind::Wide,
         },
         ImportFault::Table(TableFault::NoMemory) => CommandRefusal::Memory,
         ImportFault::Table(TableFault::At(kind, place)) => CommandRefusal::Table(*kind, *place),

@@ -16,7 +16,7 @@ abbrev pub csv_kind_text : CsvKind → List ℕ
 csv_kind_text csv.Form = codes "form"
 csv_kind_text csv.Column = codes "column"
 csv_kind_text csv.Differs = codes "differs"
-csv_kind_text csv.Wide = codes "wide"
+csv_kind_text csv.TooMany = codes "too-many"
 
 -- what is wrong with a line of a plan text whose places must be kept
 abbrev pub plan_kind_text : PlanKind → List ℕ

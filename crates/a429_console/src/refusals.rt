@@ -29,8 +29,8 @@ pub enum CsvKind {
     Column,
     /// It contradicts an earlier row about the same source, receiver or group.
     Differs,
-    /// It has more than 100,000 fields.
-    Wide,
+    /// With it there is one receiver, source or group too many, one output of its group or one filter of its receiver.
+    TooMany,
 }
 
 impl fmt::Display for CsvKind {
@@ -45,7 +45,7 @@ impl fmt::Display for CsvKind {
             CsvKind::Form => f.write_str("form"),
             CsvKind::Column => f.write_str("column"),
             CsvKind::Differs => f.write_str("differs"),
-            CsvKind::Wide => f.write_str("wide"),
+            CsvKind::TooMany => f.write_str("too-many"),
         }
     }
 }

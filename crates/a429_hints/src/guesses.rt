@@ -313,21 +313,50 @@ fn add_nearest(alloc: Global, guesses: &mut Vec<Guess>, file: FileRows) -> Resul
     Ok(())
 }
 
-/// Adds that the field `source` is the receiver, if another field is likely the source.
-fn add_swapped(guesses: &mut Vec<Guess>, file: FileRows) -> Result<(), AllocError> {
-    let receiver = ImportColumn::Receiver;
-    if !is_missing(file, receiver) || guess_for(guesses, receiver).is_some() {
-        return Ok(());
+/// The field that is read as the source, or is likely meant by it.
+fn source_place(file: FileRows, guesses: &[Guess]) -> Option<usize> {
+    match guess_for(guesses, ImportColumn::Source) {
+        Some(guess) => Some(guess.place),
+        None => column_place(file, ImportColumn::Source),
     }
-    let Some(named) = column_place(file, ImportColumn::Source) else {
-        return Ok(());
+}
+
+/// The guesses with another field for the source, and the field of the source for the receiver. Error: an allocation failed.
+fn swapped(
+    alloc: Global,
+    guesses: &[Guess],
+    file: FileRows,
+    named: usize,
+    other: usize,
+) -> Result<Vec<Guess>, AllocError> {
+    let mut swapped = Vec::new(alloc);
+    for guess in guesses {
+        if guess.column != ImportColumn::Source {
+            swapped.push(*guess)?;
+        }
+    }
+    swapped.push(guess_of(file, ImportColumn::Receiver, named))?;
+    swapped.push(guess_of(file, ImportColumn::Source, other))?;
+    Ok(swapped)
+}
+
+/// Adds that the field of the source is the receiver, if no other field is that and another field is likely the source.
+fn with_swapped(
+    alloc: Global,
+    guesses: Vec<Guess>,
+    file: FileRows,
+) -> Result<Vec<Guess>, AllocError> {
+    let receiver = ImportColumn::Receiver;
+    if !is_missing(file, receiver) || guess_for(&guesses, receiver).is_some() {
+        return Ok(guesses);
+    }
+    let Some(named) = source_place(file, &guesses) else {
+        return Ok(guesses);
     };
-    let Some(other) = likeliest(file, ImportColumn::Source, guesses) else {
-        return Ok(());
-    };
-    guesses.push(guess_of(file, receiver, named))?;
-    guesses.push(guess_of(file, ImportColumn::Source, other))?;
-    Ok(())
+    match likeliest(file, ImportColumn::Source, &guesses) {
+        Some(other) => swapped(alloc, &guesses, file, named, other),
+        None => Ok(guesses),
+    }
 }
 
 /// The first field that names a column.
@@ -366,7 +395,7 @@ pub fn is_in_other_guess(guesses: &[Guess], column: ImportColumn) -> bool {
 pub fn guesses_of(alloc: Global, file: FileRows) -> Result<Vec<Guess>, AllocError> {
     let mut guesses = Vec::new(alloc);
     add_likely(&mut guesses, file)?;
-    add_swapped(&mut guesses, file)?;
-    add_nearest(alloc, &mut guesses, file)?;
-    Ok(guesses)
+    let mut all = with_swapped(alloc, guesses, file)?;
+    add_nearest(alloc, &mut all, file)?;
+    Ok(all)
 }

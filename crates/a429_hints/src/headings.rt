@@ -101,8 +101,11 @@ fn tell_columns(file: FileRows, texts: &[&str], hint: &HintText) {
     };
     match guesses.as_slice() {
         [] => {}
-        [guess] => tell_guess(file, *guess, hint),
-        _ => tell_guesses(file, texts, &guesses, hint),
+        [guess] => begin_guess(file, *guess, hint),
+        _ => hint.begin(": columns have other names; rename them, or write "),
+    }
+    if !guesses.is_empty() {
+        end_guesses(file, texts, &guesses, hint);
     }
     let unlike = unlike_columns(file, &guesses);
     if unlike > 0 {
@@ -163,22 +166,18 @@ fn tell_unlike(file: FileRows, guesses: &[Guess], count: usize, hint: &HintText)
     hint.end("");
 }
 
-/// Says that the heading lacks a column, and which field is likely meant.
-fn tell_guess(file: FileRows, guess: Guess, hint: &HintText) {
-    let title = text_of(file.titles.field(guess.place));
+/// Begins to say that the heading lacks a column, and which field is likely meant.
+fn begin_guess(file: FileRows, guess: Guess, hint: &HintText) {
     hint.begin(": ");
     hint.say_two(
-        "the column {} is missing; the nearest is {?}; rename it, or add",
+        "the column {} is missing; the nearest is {?}; rename it, or write ",
         guess.name,
-        title,
+        text_of(file.titles.field(guess.place)),
     );
-    say_map(title, guess.name, hint);
-    hint.end("");
 }
 
 /// Says with which command the fields that are likely meant are read as the columns that the heading lacks.
-fn tell_guesses(file: FileRows, texts: &[&str], guesses: &[Guess], hint: &HintText) {
-    hint.begin(": columns have other names; rename them, or write ");
+fn end_guesses(file: FileRows, texts: &[&str], guesses: &[Guess], hint: &HintText) {
     say_command(file, guesses, file.rows, texts, hint);
     for column in IMPORT_COLUMNS.as_slice() {
         if let Some(guess) = guess_for(guesses, *column) {

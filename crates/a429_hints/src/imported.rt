@@ -11,9 +11,6 @@ use a429_table::{FaultKind, TablePlace};
 
 /// Says which row has the fault for which the table is refused.
 pub fn tell_imported(file: FileRows, kind: FaultKind, place: TablePlace, hint: &HintText) {
-    if kind == FaultKind::TooMany {
-        return tell_too_many(file, place, hint);
-    }
     let Some(row) = row_of(file, place) else {
         return;
     };
@@ -122,47 +119,47 @@ fn tell_twin_output<'a>(file: FileRows<'a>, row: &'a CsvLine, hint: &HintText) {
     }
 }
 
-/// Says which row has one receiver, source, group, filter or output too many.
-fn tell_too_many(file: FileRows, place: TablePlace, hint: &HintText) {
-    match place {
-        TablePlace::Root => {
-            tell_more(file, ImportColumn::Receiver, RECEIVERS, hint);
-            tell_more(file, ImportColumn::Source, SOURCES, hint);
-            tell_more(file, ImportColumn::Group, GROUPS, hint);
-        }
-        TablePlace::Receiver(_) => {
-            if let Some(row) = row_of(file, place) {
-                let column = ImportColumn::Filters;
-                tell_filters(FileField { file, row, column }, hint);
-            }
-        }
-        TablePlace::Group(number) => tell_more_outputs(file, number, hint),
-        _ => {}
+/// Says of what there is one too many with a row: the receivers, the sources or the groups, the outputs of its group, or the
+/// filters of its receiver.
+pub fn tell_too_many(field: FileField, hint: &HintText) {
+    match field.column {
+        ImportColumn::Receiver => tell_more(field, RECEIVERS, hint),
+        ImportColumn::Source => tell_more(field, SOURCES, hint),
+        ImportColumn::Filters => tell_filters(field, hint),
+        _ if is_known(field) => tell_more_outputs(field.row, hint),
+        _ => tell_more(field, GROUPS, hint),
     }
 }
 
-/// Says which row has one output too many for its group, if there is one.
-fn tell_more_outputs(file: FileRows, group: usize, hint: &HintText) {
-    if let Some(row) = row_of(file, TablePlace::Output(group, OUTPUTS)) {
-        hint.turn_to_line(row.number as usize);
-        hint.line_two(
-            "this is output number {} of its group; a group can have at most {}",
-            OUTPUTS + 1,
-            OUTPUTS,
-        );
+/// Whether an earlier row has the same field.
+fn is_known(field: FileField) -> bool {
+    let FileField { file, row, column } = field;
+    for earlier in file.rows {
+        if file.field(earlier, column) == file.field(row, column) {
+            return true;
+        }
     }
+    false
 }
 
-/// Says which row has one receiver, source or group too many, if there is one.
-fn tell_more(file: FileRows, column: ImportColumn, most: usize, hint: &HintText) {
-    if let Some(row) = file.first_row(column, most) {
-        FileField { file, row, column }.begin(hint);
-        hint.end_two(
-            "this is number {}; a table can have at most {}",
-            most.saturating_add(1),
-            most,
-        );
-    }
+/// Says that a row is one output too many for its group.
+fn tell_more_outputs(row: &CsvLine, hint: &HintText) {
+    hint.turn_to_line(row.number as usize);
+    hint.line_two(
+        "this is output number {} of its group; a group can have at most {}",
+        OUTPUTS + 1,
+        OUTPUTS,
+    );
+}
+
+/// Says that a row has one receiver, source or group too many.
+fn tell_more(field: FileField, most: usize, hint: &HintText) {
+    field.begin(hint);
+    hint.end_two(
+        "this is number {}; a table can have at most {}",
+        most.saturating_add(1),
+        most,
+    );
 }
 
 /// Says how many filters a row has, and how many it can have.

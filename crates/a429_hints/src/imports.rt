@@ -4,7 +4,7 @@ use crate::file_rows::{FileField, FileRows, is_of_output, tell_field};
 use crate::files::{REFUSED_OUTPUT, other_file};
 use crate::headings::tell_heading;
 use crate::hint::HintText;
-use crate::imported::tell_imported;
+use crate::imported::{tell_imported, tell_too_many};
 use crate::retries::{needs_fill, say_command};
 use a429_arguments::options::OptionName;
 use a429_arguments::requests::Asked;
@@ -15,6 +15,7 @@ use a429_import::{
     CsvLine, Heading, IMPORT_COLUMNS, ImportColumn, ImportOptions, column_in, form_fault,
     heading_texts, is_column_named, keep_texts,
 };
+use a429_table::FaultKind;
 use std::alloc::{AllocError, Global};
 
 /// How many faulty rows are shown.
@@ -107,7 +108,12 @@ fn tell_file<'a>(
     hint: &HintText,
 ) {
     match refusal {
-        CommandRefusal::Table(kind, place) => tell_imported(file, *kind, *place, hint),
+        CommandRefusal::Table(kind, place) => {
+            tell_imported(file, *kind, *place, hint);
+            if *kind == FaultKind::Name {
+                tell_names(file, texts, "to make names of the texts", hint);
+            }
+        }
         CommandRefusal::Csv {
             kind: CsvKind::Column,
             ..
@@ -115,6 +121,9 @@ fn tell_file<'a>(
         CommandRefusal::Csv { kind, .. } => {
             tell_faulty_rows(file, faulty, *kind, evidence, hint);
             tell_fill(file, texts, faulty, hint);
+            if *kind == CsvKind::Differs && is_of_source(column_of(evidence)) {
+                tell_names(file, texts, "if these are different sources", hint);
+            }
         }
         _ => {}
     }
@@ -127,6 +136,28 @@ fn tell_fill<'a>(file: FileRows<'a>, texts: &[&str], faulty: &'a [CsvLine], hint
         say_command(file, &[], faulty, texts, hint);
         hint.end("");
     }
+}
+
+/// Whether rows of one source agree in a column.
+fn is_of_source(column: Option<ImportColumn>) -> bool {
+    match column {
+        Some(column) => owner_of(column) == ImportColumn::Source,
+        None => false,
+    }
+}
+
+/// Says with which command the texts become names, unless they do.
+fn tell_names(file: FileRows, texts: &[&str], reason: &str, hint: &HintText) {
+    if file.options.makes_names {
+        return;
+    }
+    let options = ImportOptions {
+        makes_names: true,
+        ..file.options
+    };
+    hint.say_one("a429: {}, write ", reason);
+    say_command(FileRows { options, ..file }, &[], file.rows, texts, hint);
+    hint.end("");
 }
 
 /// A row as a line. Error: an allocation failed.
@@ -158,19 +189,15 @@ fn tell_above(refusal: &CommandRefusal, heading: u64, hint: &HintText) {
     }
 }
 
-/// Says that a row has too many fields, or that the quotes of a field are wrong. The answer is whether this is so.
+/// Says that the quotes of a field are wrong. The answer is whether they are.
 fn tell_text(line: u64, kind: CsvKind, evidence: &RowsEvidence, hint: &HintText) -> bool {
-    let text = match kind {
-        CsvKind::Wide => {
-            "the row has more than 100000 fields; spreadsheet programs have at most 16384 columns"
-        }
-        CsvKind::Form if evidence.is_misquoted => {
-            "a field begins with a quote; the quote that closes it is missing, or text follows it; write quotes inside it twice"
-        }
-        _ => return false,
-    };
+    if kind != CsvKind::Form || !evidence.is_misquoted {
+        return false;
+    }
     hint.turn_to_line(line as usize);
-    hint.say_line(text);
+    hint.say_line(
+        "a field begins with a quote; the quote that closes it is missing, or text follows it; write quotes inside it twice",
+    );
     true
 }
 
@@ -210,6 +237,7 @@ fn tell_faulty_rows(
     match (column_of(evidence), kind) {
         (None, _) => tell_count(file, row, hint),
         (Some(column), CsvKind::Differs) => tell_difference(FileField { file, row, column }, hint),
+        (Some(column), CsvKind::TooMany) => tell_too_many(FileField { file, row, column }, hint),
         (Some(column), _) => tell_form(FileField { file, row, column }, hint),
     }
     for row in later {

@@ -1,6 +1,5 @@
 -- Nothing is above the heading of a text that begins with it.
-use Rattle.std.proofs.Common.{◌≡◌, ◌∙◌, ◌-◌, [], ℕ, false, Bool, List, ap, ap₂, arith, length, map, refl, take}
-use Rattle.std.specs.Prelude.{◌||◌}
+use Rattle.std.proofs.Common.{◌≡◌, ◌∙◌, ◌-◌, [], ℕ, false, List, ap, arith, length, map, refl, take}
 use Rattle.std.specs.List.{list_any}
 use Rattle.csv.specs.Machine.{next_record}
 use Rattle.csv.specs.Reading.{records, records_from, strip_bom}
@@ -10,7 +9,7 @@ use Rattle.a429_import.specs.ImportForms.{from_heading, separator_in}
 use Rattle.a429_import.specs.ImportMaps.{names_by}
 use Rattle.a429_import.specs.ImportQuotes.{text_before}
 use Rattle.a429_import.specs.ImportWords.{trimmed}
-use Rattle.a429_import.specs.Imports.{has_row_above, has_wide_row, is_wide, is_wide_text, separated}
+use Rattle.a429_import.specs.Imports.{has_row_above, separated}
 
 pub nothing_before : (text : List ℕ) → text_before text text ≡ []
 nothing_before text = let none : length text - length text ≡ 0 = omega arith in ap (λ (n : ℕ). take n text) none
@@ -18,10 +17,6 @@ nothing_before text = let none : length text - length text ≡ 0 = omega arith i
 no_records : (cfg : Config) → records cfg (strip_bom []) ≡ []
 unfolding strip_bom records_from next_record
 no_records cfg = refl
-
-no_wide_record : (separator : ℕ) → has_wide_row separator (strip_bom []) ≡ false
-unfolding has_wide_row
-no_wide_record separator = ap (list_any is_wide) (no_records (separated separator))
 
 module _ (maps : List (List ℕ)) (text : List ℕ) (first : from_heading maps text ≡ text) where
   nothing_above : text_before (from_heading maps text) text ≡ []
@@ -32,9 +27,3 @@ module _ (maps : List (List ℕ)) (text : List ℕ) (first : from_heading maps t
       let cfg : Config = separated (separator_in maps text) in
       let heading : List (List ℕ) = names_by maps (first_row cfg (from_heading maps text)) in
       ap (has_data cfg heading) nothing_above ∙ ap (list_any (λ (row : List (List ℕ)). is_data heading (map trimmed row))) (no_records cfg)
-
-  pub no_wide_row_above : is_wide_text maps text ≡ has_wide_row (separator_in maps text) (strip_bom text)
-  no_wide_row_above =
-      let separator : ℕ = separator_in maps text in
-      let above : has_wide_row separator (strip_bom (text_before (from_heading maps text) text)) ≡ false = ap (λ (xs : List ℕ). has_wide_row separator (strip_bom xs)) nothing_above ∙ no_wide_record separator in
-      ap₂ (λ (a b : Bool). a || b) above (ap (λ (xs : List ℕ). has_wide_row separator (strip_bom xs)) first)

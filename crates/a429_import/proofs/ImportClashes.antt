@@ -17,9 +17,9 @@ use Rattle.a429_import.specs.declared.lines.CsvLine.{CsvLine}
 use Rattle.a429_import.specs.declared.rows.ImportRow.{ImportRow}
 use Rattle.a429_import.specs.FirstRows.{first_from}
 use Rattle.a429_import.specs.ImportClashes.{Agree, clash_at, earlier_clash, first_part_clash, numbered, part_clash}
-use Rattle.a429_import.specs.ImportRows.{agreed, clash, first_clash, next_row, row_of, says_nothing, with_row}
+use Rattle.a429_import.specs.ImportRows.{agreed, clash, first_clash, next_row, row_of, with_row}
 use Rattle.a429_import.specs.ImportTables.{name_in}
-use Rattle.a429_import.proofs.ImportRanges.{bound, same_ok}
+use Rattle.a429_import.proofs.ImportRanges.{bound, same_ok, taken_as}
 
 -- ---- two rows
 
@@ -258,12 +258,8 @@ agree_push (r ∷ rows) row agree none =
     let p = none_of_two (clash r row) (first_clash rows row) none in
     (all_push (λ later. clash r later ≡ None) rows row agree.0 p.0, agree_push rows row agree.1 p.1)
 
-pub agree_with : (rows : List ImportRow) (row : ImportRow) → Agree rows → first_clash rows row ≡ None → Agree (with_row rows row)
-agree_with rows row agree none = by (says_nothing rows row)
-  where
-    by : (b : Bool) → Agree (cond b rows (rows ++ row ∷ []))
-    by true = agree
-    by false = agree_push rows row agree none
+pub agree_with : (line : ℕ) (rows : List ImportRow) (row : ImportRow) (all : List ImportRow) → Agree rows → first_clash rows row ≡ None → with_row line rows row ≡ Ok all → Agree all
+agree_with line rows row all agree none h = taken_as Agree line rows row all h agree (agree_push rows row agree none)
 
 taken : (line : ℕ) (row : ImportRow) (o : Option ImportColumn) (next : ImportRow) → agreed line row o ≡ Ok next → (row ≡ next) × (o ≡ None)
 taken line row None next h = (same_ok row next h, refl)

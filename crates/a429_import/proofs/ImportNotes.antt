@@ -11,7 +11,7 @@ use Rattle.a429_word.specs.Texts.{label_value}
 use Rattle.a429_import.specs.declared.fault.ImportColumn.{ImportColumn}
 use Rattle.a429_import.specs.declared.fault.ImportColumn.TheVariants.{Hold, Label, MaxUs, MinUs, Rate, Sdi}
 use Rattle.a429_import.specs.declared.fault.ImportFault.{ImportFault}
-use Rattle.a429_import.specs.declared.fault.ImportFault.TheVariants.{NoMemory, Csv, Wide, Table}
+use Rattle.a429_import.specs.declared.fault.ImportFault.TheVariants.{NoMemory, Csv, Table}
 use Rattle.a429_import.specs.declared.lines.CsvLine.{CsvLine}
 use Rattle.a429_import.specs.declared.notes.Notes.{Notes}
 use Rattle.a429_import.specs.declared.reading.RowsRead.{RowsRead}
@@ -19,10 +19,10 @@ use Rattle.a429_import.specs.declared.rows.ImportRow.{ImportRow}
 use Rattle.a429_import.specs.declared.rows.RowNumbers.{RowNumbers}
 use Rattle.a429_import.specs.declared.rows.RowTexts.{RowTexts}
 use Rattle.a429_import.specs.ImportFields.{hold_in, label_in, rate_in, sdi_in}
-use Rattle.a429_import.specs.ImportReading.{AreBelow, AreTaken, HoldsFirst, IsHeld, IsTaken, with_line}
-use Rattle.a429_import.specs.ImportRows.{◌>>=◌, CsvFault, agreed, column_field, first_clash, has_label, interval_at, joined, next_row, numbers_of, output_at, row_of, rows_after, stated_at, texts_of, until_last, with_row, without_notes}
+use Rattle.a429_import.specs.ImportReading.{AreBelow, AreTaken, HoldsFirst, IsHeld, IsTaken}
+use Rattle.a429_import.specs.ImportRows.{◌>>=◌, CsvFault, agreed, column_field, first_clash, has_label, interval_at, joined, next_row, numbers_of, output_at, row_of, rows_after, stated_at, texts_of, until_last, with_line, with_row, without_notes}
 use Rattle.a429_import.specs.Imports.{States}
-use Rattle.a429_import.proofs.ImportRanges.{bound}
+use Rattle.a429_import.proofs.ImportRanges.{bound, line_taken}
 use Rattle.a429_import.proofs.ImportRows.{rows_after-push, rows_after-refused, states_on}
 use Rattle.a429_import.proofs.UntilLast.{all_none, all_passes, all_rest, all_same, any_more}
 
@@ -91,9 +91,9 @@ next_has_label heading earlier line row h =
 all_labelled : (heading : List (List ℕ)) (lines : List CsvLine) (earlier rows : List ImportRow) → rows_after heading earlier lines ≡ Ok rows → until_last (has_label heading) lines ≡ lines
 all_labelled heading [] earlier rows h = refl
 all_labelled heading (line ∷ lines) earlier rows h =
-    let next = bound (next_row heading earlier line) (λ row. rows_after heading (with_row earlier row) lines) rows h in
-    ap (λ (b : Bool). cond (b || list_any (has_label heading) lines) (line ∷ until_last (has_label heading) lines) []) (next_has_label heading earlier line next.value next.was)
-    ∙ ap (λ (ls : List CsvLine). line ∷ ls) (all_labelled heading lines (with_row earlier next.value) rows next.gives)
+    let t = line_taken heading earlier line lines rows h in
+    ap (λ (b : Bool). cond (b || list_any (has_label heading) lines) (line ∷ until_last (has_label heading) lines) []) (next_has_label heading earlier line t.row t.next)
+    ∙ ap (λ (ls : List CsvLine). line ∷ ls) (all_labelled heading lines t.rows rows t.rest)
 
 -- rows without a fault have no notes
 pub no_notes : (heading : List (List ℕ)) (lines : List CsvLine) (earlier rows : List ImportRow) → rows_after heading earlier lines ≡ Ok rows → without_notes heading lines ≡ lines
@@ -134,8 +134,7 @@ module _ (heading : List (List ℕ)) (below : List CsvLine) (line : CsvLine) whe
   alone_refused : (e : ImportFault) (rows : List ImportRow) → rows_after heading [] below ≡ Ok rows → States {X = ImportRow} (λ row. row) (Err e) (row_of heading line) → IsFault e (rows_after heading [] all)
   alone_refused NoMemory rows was h = tt
   alone_refused (Csv number kind column) rows was h =
-      stated_after rows was ∙ ap (λ (r : Result ImportRow CsvFault). (r >>= λ row. agreed line.number row (first_clash rows row)) >>= λ row. Ok (with_row rows row)) h
-  alone_refused (Wide number) rows was h = absurd h
+      stated_after rows was ∙ ap (λ (r : Result ImportRow CsvFault). (r >>= λ row. agreed line.number row (first_clash rows row)) >>= λ row. with_row line.number rows row) h
   alone_refused (Table f) rows was h = absurd h
 
   held_more : (rows : List ImportRow) (old new : Option ImportFault) → HoldsFirst old new (row_of heading line) → IsHeld old rows (rows_after heading [] below) → IsHeld new rows (rows_after heading [] all)

@@ -1,10 +1,12 @@
 -- A field in quotes that does not end as such a field does is found byte by byte.
-use Rattle.std.proofs.Common.{◌≡◌, ◌∙◌, ◌+◌, ◌<◌, ◌≤◌, ℕ, zero, suc, Bool, List, [], ◌∷◌, ap, arith, drop, length, refl, slice_index_or}
-use Rattle.std.specs.Prelude.{◌||◌}
+use Rattle.std.proofs.Common.{◌≡◌, ◌∙◌, ◌+◌, ◌<◌, ◌≤◌, ℕ, zero, suc, Bool, true, false, List, [], ◌∷◌, ap, arith, drop, length, refl, slice_index_or}
+use Rattle.std.specs.Prelude.{◌==◌, ◌&&◌, ◌||◌, if◌then◌else◌}
 use Rattle.std.proofs.lemmas.List.{drop_all}
 use Rattle.csv.specs.Machine.{step}
+use Rattle.csv.specs.Reading.{strip_bom}
 use Rattle.csv.specs.declared.parser.Config.{Config}
 use Rattle.csv.specs.declared.parser.State.{State}
+use Rattle.a429_import.specs.ImportForms.{without_byte_order_mark}
 use Rattle.a429_import.specs.ImportQuotes.{breaks_quotes, is_inside_quotes, is_misquoted_from}
 
 module _ (of_rows : Bool) (cfg : Config) where
@@ -27,3 +29,16 @@ module _ (of_rows : Bool) (cfg : Config) where
   pub at_end_of : (s : State) (text : List ℕ) (place : ℕ) → length text ≤ place → is_misquoted_from of_rows cfg s (drop place text) ≡ is_inside_quotes s
   unfolding is_misquoted_from
   at_end_of s text place past = ap (λ (xs : List ℕ). is_misquoted_from of_rows cfg s xs) (drop_all place text past)
+
+-- ---- a byte order mark
+
+and_assoc : (a b c : Bool) → ((a && b) && c) ≡ (a && (b && c))
+and_assoc true b c = refl
+and_assoc false b c = refl
+
+pub same_mark : (text : List ℕ) → strip_bom text ≡ without_byte_order_mark text
+unfolding strip_bom
+same_mark [] = refl
+same_mark (a ∷ []) = refl
+same_mark (a ∷ b ∷ []) = refl
+same_mark (a ∷ b ∷ c ∷ rest) = ap (λ (t : Bool). if t then rest else a ∷ b ∷ c ∷ rest) (and_assoc (a == 239) (b == 187) (c == 191))

@@ -24,7 +24,8 @@ use Rattle.a429_import.specs.declared.intervals.IntervalUnit.TheVariants.{Hertz,
 use Rattle.a429_import.specs.ImportIntervals.{both_in, interval_in, limit_in, limit_of_both, ordered, parted, is_divider, takes_second, value_in}
 use Rattle.a429_import.specs.ImportWords.{unwrapped}
 use Rattle.a429_import.specs.NumberRanges.{AreInRange, HaveRanges}
-use Rattle.a429_import.specs.ImportRows.{◌>>=◌, CsvFault, column_field, column_form, names_group, numbers_of, texts_of, joined, row_of, first_clash, agreed, next_row, rows_after, unless_wrong, rows_stated, says_nothing, with_row, without_notes, wrong_column}
+use Rattle.a429_import.specs.ImportRows.{◌>>=◌, CsvFault, column_field, column_form, names_group, numbers_of, texts_of, joined, row_of, first_clash, agreed, limited, next_row, rows_after, unless_wrong, rows_stated, says_nothing, with_line, with_row, without_notes, wrong_column}
+use Rattle.a429_import.specs.ImportLimits.{too_many}
 
 -- ---- fields
 
@@ -293,18 +294,34 @@ one_more : (rows : List ImportRow) (row : ImportRow) → HaveRanges rows → Are
 one_more [] row all here = (here, tt)
 one_more (r ∷ rows) row all here = (all.0, one_more rows row all.1 here)
 
-with_one : (rows : List ImportRow) (row : ImportRow) → HaveRanges rows → AreInRange row.numbers → HaveRanges (with_row rows row)
-with_one rows row all here = by (says_nothing rows row)
+-- what is so of the rows before one more row, and of those with it
+pub taken_as : (P : List ImportRow → Type 0) (line : ℕ) (rows : List ImportRow) (row : ImportRow) (all : List ImportRow) → with_row line rows row ≡ Ok all → P rows → P (rows ++ row ∷ []) → P all
+taken_as P line rows row all h old new = by (says_nothing rows row) (too_many (rows ++ row ∷ []) row) h
   where
-    by : (b : Bool) → HaveRanges (if b then rows else rows ++ row ∷ [])
-    by true = all
-    by false = one_more rows row all here
+    by : (b : Bool) (o : Option ImportColumn) → (if b then Ok rows else limited line (rows ++ row ∷ []) o) ≡ Ok all → P all
+    by true o is = subst P (same_ok rows all is) old
+    by false None is = subst P (same_ok (rows ++ row ∷ []) all is) new
+    by false (Some column) is = cc
+
+-- a line that is taken
+pub record TakesLine (heading : List (List ℕ)) (earlier : List ImportRow) (line : CsvLine) (lines : List CsvLine) (all : List ImportRow) : Type 0 where
+  pub row : ImportRow
+  pub next : next_row heading earlier line ≡ Ok row
+  pub rows : List ImportRow
+  pub taken : with_row line.number earlier row ≡ Ok rows
+  pub rest : rows_after heading rows lines ≡ Ok all
+
+pub line_taken : (heading : List (List ℕ)) (earlier : List ImportRow) (line : CsvLine) (lines : List CsvLine) (all : List ImportRow) → rows_after heading earlier (line ∷ lines) ≡ Ok all → TakesLine heading earlier line lines all
+line_taken heading earlier line lines all h =
+    let rows = bound (with_line heading earlier line) (λ rows. rows_after heading rows lines) all h in
+    let row = bound (next_row heading earlier line) (λ row. with_row line.number earlier row) rows.value rows.was in
+    record { row = row.value; next = row.was; rows = rows.value; taken = row.gives; rest = rows.gives }
 
 after_in_range : (heading : List (List ℕ)) (lines : List CsvLine) (earlier rows : List ImportRow) → HaveRanges earlier → rows_after heading earlier lines ≡ Ok rows → HaveRanges rows
 after_in_range heading [] earlier rows all h = subst HaveRanges (same_ok earlier rows h) all
 after_in_range heading (line ∷ lines) earlier rows all h =
-    let next = bound (next_row heading earlier line) (λ row. rows_after heading (with_row earlier row) lines) rows h in
-    after_in_range heading lines (with_row earlier next.value) rows (with_one earlier next.value all (next_in_range heading earlier line next.value next.was)) next.gives
+    let t = line_taken heading earlier line lines rows h in
+    after_in_range heading lines t.rows rows (taken_as HaveRanges line.number earlier t.row t.rows t.taken all (one_more earlier t.row all (next_in_range heading earlier line t.row t.next))) t.rest
 
 below_in_range : (heading : CsvLine) (lines : List CsvLine) (o : Option ImportColumn) (rows : List ImportRow) → unless_wrong heading lines o ≡ Ok rows → HaveRanges rows
 below_in_range heading lines None rows h = after_in_range (fields_of heading.fields) (without_notes (fields_of heading.fields) lines) [] rows tt h

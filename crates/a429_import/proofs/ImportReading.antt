@@ -1,6 +1,6 @@
 -- What is known of lines, after one more line.
 use Rattle.std.proofs.Common.{◌≡◌, ◌∙◌, ◌+◌, ◌-◌, ℕ, List, [], ◌∷◌, ◌++◌, Option, None, Some, option_map, Result, Ok, Err, Bool, true, false, ap, append-nil, arith, length, refl, subst, sym}
-use Rattle.std.specs.Prelude.{OnOk, filter, is_some, unwrap_or, vec_len}
+use Rattle.std.specs.Prelude.{IfOk, OnOk, filter, is_some, unwrap_or, vec_len}
 use Rattle.std.specs.Result.{result_err}
 use Rattle.csv.specs.Records.{fields_of}
 use Rattle.a429_import.specs.declared.columns.Heading.{Heading}
@@ -8,14 +8,15 @@ use Rattle.a429_import.specs.declared.fault.CsvFaultKind.TheVariants.{Column}
 use Rattle.a429_import.specs.declared.fault.ImportColumn.{ImportColumn}
 use Rattle.a429_import.specs.declared.fault.ImportColumn.TheVariants.{Group}
 use Rattle.a429_import.specs.declared.fault.ImportFault.{ImportFault}
-use Rattle.a429_import.specs.declared.fault.ImportFault.TheVariants.{NoMemory, Csv, Wide, Table}
+use Rattle.a429_import.specs.declared.fault.ImportFault.TheVariants.{NoMemory, Csv, Table}
 use Rattle.a429_import.specs.declared.lines.CsvLine.{CsvLine}
 use Rattle.a429_import.specs.declared.notes.Notes.{Notes}
 use Rattle.a429_import.specs.declared.reading.LinesRead.{LinesRead}
 use Rattle.a429_import.specs.declared.reading.RowsRead.{RowsRead}
 use Rattle.a429_import.specs.declared.rows.ImportRow.{ImportRow}
-use Rattle.a429_import.specs.ImportReading.{AreBelow, AreRead, AreTaken, HasNoRow, HasRows, HaveFault, HaveRows, IsHeadingOf, IsHeld, IsReadRow}
-use Rattle.a429_import.specs.ImportRows.{CsvFault, note_count, rows_after, rows_stated, unless_wrong, without_notes, wrong_column}
+use Rattle.a429_import.specs.ImportReading.{AreBelow, AreRead, AreTaken, HasNoRow, HasRows, HaveFault, HaveRows, IsAdded, IsHeadingOf, IsHeld, IsReadRow}
+use Rattle.a429_import.specs.ImportRows.{CsvFault, limited, note_count, rows_after, rows_stated, unless_wrong, without_notes, wrong_column}
+use Rattle.a429_import.specs.ImportLimits.{too_many}
 use Rattle.a429_import.specs.Imports.{IsImportOf, States, has_text}
 use Rattle.a429_import.specs.KeptFields.{KeepsTexts, kept_of, lines_kept}
 use Rattle.a429_import.proofs.ImportNotes.{still_refused}
@@ -38,7 +39,6 @@ unfolding rows_stated
 fault_stays e [] line h = absurd h
 fault_stays NoMemory (heading ∷ below) line h = tt
 fault_stays (Csv number kind column) (heading ∷ below) line h = refused_stays heading below line (wrong_column (fields_of heading.fields)) (number, kind, column) h
-fault_stays (Wide number) (heading ∷ below) line h = absurd h
 fault_stays (Table f) (heading ∷ below) line h = absurd h
 
 -- ---- the heading
@@ -92,7 +92,6 @@ below_refused : (heading : CsvLine) (below : List CsvLine) (e : ImportFault) →
 unfolding rows_stated
 below_refused heading below NoMemory named h = tt
 below_refused heading below (Csv number kind column) named h = ap (unless_wrong heading below) named ∙ h
-below_refused heading below (Wide number) named h = absurd h
 below_refused heading below (Table f) named h = absurd h
 
 -- one more line, which may have a fault
@@ -171,3 +170,18 @@ not_filled lines line is = rw is (append-nil lines)
 pub fault_kept : (fault : Option ImportFault) (read : LinesRead) (lines : List CsvLine) → AreRead fault read lines → AreRead fault (record read { fault = fault }) lines
 fault_kept None read lines known = other_fault read.heading read None lines known
 fault_kept (Some e) read lines known = known
+
+-- ---- one more row
+
+-- rows that were taken, unless they have one too many of something
+pub added : (column : Option ImportColumn) (read : RowsRead) (all : List ImportRow) (row : ImportRow) → column ≡ too_many all row → HasRows read all → IsAdded column read (λ line. limited line all (too_many all row))
+added None read all row is has = (all, (λ line. ap (limited line all) (sym is)), has)
+added (Some column) read all row is has = λ line. ap (limited line all) (sym is)
+
+pub added_as : (column : Option ImportColumn) (read : RowsRead) (f g : ℕ → Result (List ImportRow) CsvFault) → ((line : ℕ) → f line ≡ g line) → IsAdded column read g → IsAdded column read f
+added_as None read f g same h = (h.0, (λ line. same line ∙ h.1 line), h.2)
+added_as (Some column) read f g same h = λ line. same line ∙ h line
+
+pub ok_weaker : {A E : Type 0} (P Q : A → Type 0) (r : Result A E) → ((a : A) → P a → Q a) → IfOk r P → IfOk r Q
+ok_weaker P Q (Ok a) f h = f a h
+ok_weaker P Q (Err e) f h = tt

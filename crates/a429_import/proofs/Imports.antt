@@ -18,7 +18,7 @@ use Rattle.a429_import.specs.declared.fault.CsvFaultKind.{CsvFaultKind}
 use Rattle.a429_import.specs.declared.fault.CsvFaultKind.TheVariants.{Form}
 use Rattle.a429_import.specs.declared.fault.ImportColumn.{ImportColumn}
 use Rattle.a429_import.specs.declared.fault.ImportFault.{ImportFault}
-use Rattle.a429_import.specs.declared.fault.ImportFault.TheVariants.{NoMemory, Csv, Wide, Table}
+use Rattle.a429_import.specs.declared.fault.ImportFault.TheVariants.{NoMemory, Csv, Table}
 use Rattle.a429_import.specs.declared.filled_reading.SheetRead.{SheetRead}
 use Rattle.a429_import.specs.declared.firsts.Part.{Part}
 use Rattle.a429_import.specs.declared.firsts.Part.TheVariants.{Receivers, Sources, Groups}
@@ -38,7 +38,7 @@ use Rattle.a429_import.specs.ImportTables.{part_tree, record_stated, root_member
 use Rattle.a429_import.specs.KeptFields.{kept_comments, kept_of}
 use Rattle.a429_import.specs.PrintedTables.{PrintsTables}
 use Rattle.a429_import.specs.TableTexts.{IsTableText, before_at, column_comments, made_comment, piece_of, pieces, row_before}
-use Rattle.a429_import.specs.Imports.{AreNamedLines, IsFilledImport, IsImport, IsImportBy, IsImportFrom, IsImportIf, IsImportOf, IsTableBy, IsTableOf, IsTextFault, has_row_above, has_wide_rows, rows_by, table_made, is_misquoted_text, is_wide_text, separated}
+use Rattle.a429_import.specs.Imports.{AreNamedLines, IsFilledImport, IsImport, IsImportBy, IsImportFrom, IsImportIf, IsImportOf, IsTableBy, IsTableOf, IsTextFault, has_row_above, rows_by, table_made, is_misquoted_text, separated}
 use Rattle.a429_import.specs.ImportReading.{HaveFault, StandsFor}
 use Rattle.a429_import.specs.NumberRanges.{HaveRanges}
 use Rattle.a429_import.specs.RenamedReading.{IsReadBy}
@@ -117,7 +117,6 @@ module _ (kept other : List ℕ → List ℕ) (same : (source : List ℕ) → ke
   table_same before rows (Ok made) h = (h.0, h.1, text_same before rows made.text.items h.2)
   table_same before rows (Err NoMemory) h = tt
   table_same before rows (Err (Csv line kind column)) h = absurd h
-  table_same before rows (Err (Wide line)) h = absurd h
   table_same before rows (Err (Table fault.NoMemory)) h = absurd h
   table_same before rows (Err (Table (fault.At kind place))) h = h
 
@@ -136,12 +135,10 @@ table_import true lines rows imported are count h = (rows, are, h, count)
 pub table_fault : (makes_names : Bool) (lines : List CsvLine) (rows : List ImportRow) (e : ImportFault) → rows_stated lines ≡ Ok rows → IsTableBy (kept_of lines) makes_names rows (Err e) → IsImportFrom makes_names lines (Err e)
 table_fault false lines rows NoMemory are h = tt
 table_fault false lines rows (Csv line kind column) are h = absurd h
-table_fault false lines rows (Wide line) are h = absurd h
 table_fault false lines rows (Table fault.NoMemory) are h = absurd h
 table_fault false lines rows (Table (fault.At kind place)) are h = (rows, are, h)
 table_fault true lines rows NoMemory are h = tt
 table_fault true lines rows (Csv line kind column) are h = absurd h
-table_fault true lines rows (Wide line) are h = absurd h
 table_fault true lines rows (Table f) are h = (rows, are, h)
 
 -- the fault of lines
@@ -149,11 +146,9 @@ pub fault_import : (makes_names : Bool) (lines : List CsvLine) (e : ImportFault)
 fault_import makes_names [] e h = absurd h
 fault_import false (heading ∷ below) NoMemory h = tt
 fault_import false (heading ∷ below) (Csv line kind column) h = h
-fault_import false (heading ∷ below) (Wide line) h = absurd h
 fault_import false (heading ∷ below) (Table f) h = absurd h
 fault_import true (heading ∷ below) NoMemory h = tt
 fault_import true (heading ∷ below) (Csv line kind column) h = h
-fault_import true (heading ∷ below) (Wide line) h = absurd h
 fault_import true (heading ∷ below) (Table f) h = absurd h
 
 -- lines without a heading
@@ -195,17 +190,8 @@ module _ (maps : List (List ℕ)) (text : List ℕ) (separator : ℕ) (rest : Li
   by_form : (test : ℕ → List ℕ → Bool) (is : Bool) → is ≡ test separator rest → test (separator_in maps text) (from_heading maps text) ≡ is
   by_form test is same = ap₂ test (sym by) (sym from) ∙ sym same
 
-  pub wide_by : (wide : Bool) → wide ≡ has_wide_rows separator rest text → is_wide_text maps text ≡ wide
-  wide_by wide same = by_form (λ s xs. has_wide_rows s xs text) wide same
-
   pub unfit_by : (unfit : Bool) → unfit ≡ (has_wrong_quotes (separated separator) rest text || has_data_above (separated separator) maps rest text) → (is_misquoted_text maps text || has_row_above maps text) ≡ unfit
   unfit_by unfit same = by_form (λ s xs. has_wrong_quotes (separated s) xs text || has_data_above (separated s) maps xs text) unfit same
-
-by_wide : (fills makes_names : Bool) (lines : List CsvLine) (line : ℕ) → IsFilledImport fills makes_names lines (Err (Wide line)) → ⊥
-by_wide false false lines line h = h
-by_wide false true lines line h = h.2
-by_wide true false lines line h = h.2
-by_wide true true lines line h = h.2.2
 
 -- the rest of what is imported, if no fault comes before those of the rows
 module _ (maps : List (List ℕ)) (options : ImportOptions) (text : List ℕ) where
@@ -216,19 +202,18 @@ module _ (maps : List (List ℕ)) (options : ImportOptions) (text : List ℕ) wh
   of_rows lines result fit are h = subst (λ (b : Bool). IsImportIf b maps options text result) (sym fit) (lines, are, h)
 
   pub import_of : (lines : List CsvLine) (result : Result Imported ImportFault) → IsTextFault maps text None → AreNamedLines maps text lines → IsFilledImport options.fills options.makes_names lines result → IsImport maps options text result
-  import_of lines (Ok bytes) (narrow, fit) are h = (narrow, of_rows lines (Ok bytes) fit are h)
-  import_of lines (Err NoMemory) (narrow, fit) are h = tt
-  import_of lines (Err (Csv line kind column)) (narrow, fit) are h = (narrow, of_rows lines (Err (Csv line kind column)) fit are h)
-  import_of lines (Err (Wide line)) (narrow, fit) are h = absurd (by_wide options.fills options.makes_names lines line h)
-  import_of lines (Err (Table f)) (narrow, fit) are h = (narrow, of_rows lines (Err (Table f)) fit are h)
+  import_of lines (Ok bytes) fit are h = of_rows lines (Ok bytes) fit are h
+  import_of lines (Err NoMemory) fit are h = tt
+  import_of lines (Err (Csv line kind column)) fit are h = of_rows lines (Err (Csv line kind column)) fit are h
+  import_of lines (Err (Table f)) fit are h = of_rows lines (Err (Table f)) fit are h
 
   -- a text whose quotes are wrong, or with a row of data above its heading
-  unfit_import : (line : ℕ) → is_wide_text maps text ≡ false → is_unfit ≡ true → IsImport maps options text (Err (Csv line Form None))
-  unfit_import line narrow unfit =
+  unfit_import : (line : ℕ) → is_unfit ≡ true → IsImport maps options text (Err (Csv line Form None))
+  unfit_import line unfit =
       let fault : Result Imported ImportFault = Err (Csv line Form None) in
-      (narrow, subst (λ (b : Bool). IsImportIf b maps options text fault) (sym unfit) (line, refl))
+      subst (λ (b : Bool). IsImportIf b maps options text fault) (sym unfit) (line, refl)
 
 -- the fault of such a text
-pub unfit_fault : (maps : List (List ℕ)) (text : List ℕ) (line : ℕ) (fault : ImportFault) → is_wide_text maps text ≡ false → (is_misquoted_text maps text || has_row_above maps text) ≡ true → fault ≡ Csv line Form None
+pub unfit_fault : (maps : List (List ℕ)) (text : List ℕ) (line : ℕ) (fault : ImportFault) → (is_misquoted_text maps text || has_row_above maps text) ≡ true → fault ≡ Csv line Form None
     → IsTextFault maps text (Some fault)
-unfit_fault maps text line fault narrow unfit is = λ options. subst (λ (f : ImportFault). IsImport maps options text (Err f)) (sym is) (unfit_import maps options text line narrow unfit)
+unfit_fault maps text line fault unfit is = λ options. subst (λ (f : ImportFault). IsImport maps options text (Err f)) (sym is) (unfit_import maps options text line unfit)

@@ -1,7 +1,7 @@
 -- A row that is compared with what is known of the rows before it.
 use Rattle.std.proofs.Common.{◌≡◌, ◌∙◌, ℕ, zero, suc, Bool, true, false, not, cond, List, [], ◌∷◌, map, get_or, Option, None, Some, option_map, ap, ap₂, arith, refl, subst, sym, true≢false}
-use Rattle.std.specs.Prelude.{◌&&◌, ◌==◌, slice_get}
-use Rattle.std.specs.List.{AllZip, position_from}
+use Rattle.std.specs.Prelude.{◌&&◌, ◌==◌, nat_lt, slice_get}
+use Rattle.std.specs.List.{AllZip, count_by, position_from}
 use Rattle.std.specs.Option.{option_and_then}
 use Rattle.std.specs.Str.{bytes_eq}
 use Rattle.std.proofs.lemmas.Bool.{eq-eqb, eqb-true}
@@ -22,11 +22,13 @@ use Rattle.a429_equipment.specs.SameStation.{same_sdi}
 use Rattle.a429_import.specs.FirstRows.{first_from}
 use Rattle.a429_import.specs.ImportClashes.{Agree, clash_at, first_part_clash, numbered, part_clash}
 use Rattle.a429_import.specs.ImportFields.{field_in}
-use Rattle.a429_import.specs.ImportTables.{firsts, name_in}
-use Rattle.a429_import.specs.Known.{KnowsFirsts, KnowsGroups, KnowsReceivers, KnowsSources, filters_clash, found_at, is_number, known_clash, label_is, rate_clash, sdi_is}
+use Rattle.a429_import.specs.ImportLimits.{has_too_many_outputs}
+use Rattle.a429_import.specs.ImportTables.{firsts, has_group, name_in, same_name}
+use Rattle.a429_import.specs.Known.{KnowsFirsts, KnowsGroups, KnowsReceivers, KnowsSources, filters_clash, found_at, is_number, known_clash, label_is, outputs_of, rate_clash, sdi_is}
 use Rattle.a429_import.specs.Names.{names_of, numbers_of, texts_of}
 use Rattle.a429_import.proofs.ImportClashes.{first_named_decides, none_named}
 use Rattle.a429_import.proofs.Knowing.{IsKnownAt, found_here, known_at, unknown}
+use Rattle.a429_import.proofs.KnownRows.{above, none_counted}
 
 -- ---- what a search found
 
@@ -136,3 +138,24 @@ sources_decide known rows row place receiver knows is other there named =
     let test : Bool → Bool → Bool → Bool → Option ImportColumn = λ n r l s. cond (not n) None (cond (not r) (Some Receiver) (cond (not l) (Some Label) (cond (not s) (Some Sdi) None))) in
     ap₂ (λ n r. test n r (other.numbers.label == row.numbers.label) (same_sdi other.numbers.sdi row.numbers.sdi)) ((bytes_eq-Decides other.texts.source row.texts.source).1 named) receivers
     ∙ ap₂ (λ l s. test true (is_number (get_or (numbers_of known.receivers) place 0) receiver) l s) labels sdis
+
+-- ---- outputs
+
+-- whether a group that is known has too many outputs
+pub outputs_known : (known : KnownGroups) (rows : List ImportRow) (row : ImportRow) (place : ℕ) → KnowsGroups known rows → IsKnownAt Groups known.named rows row.texts.group place
+    → nat_lt 128 (get_or known.outputs.items place 0) ≡ nat_lt 128 (count_by (same_name Groups row) rows)
+outputs_known known rows row place knows k =
+    let at : get_or known.outputs.items place 0 ≡ outputs_of rows k.row =
+    get_or_from_slice_get known.outputs.items place (outputs_of rows k.row) 0 (fact_at (outputs_of rows) known.outputs.items (firsts Groups rows) place k.row knows.outputs k.first) in
+    ap (nat_lt 128) at ∙ above (count_by (same_name Groups k.row) rows)
+    ∙ ap (λ (name : List ℕ). nat_lt 128 (count_by (λ (r : ImportRow). bytes_eq name r.texts.group) rows)) k.is_named
+
+none_above : (b : Bool) → (b && false) ≡ false
+none_above true = refl
+none_above false = refl
+
+-- one that is not known has none
+pub no_outputs : (known : KnownGroups) (rows : List ImportRow) (row : ImportRow) → KnowsGroups known rows → position_from (bytes_eq row.texts.group) 0 (names_of known.named.names) ≡ None → has_too_many_outputs rows row ≡ false
+no_outputs known rows row knows nowhere =
+    let none = unknown Groups known.named rows row.texts.group knows.names nowhere in
+    ap (λ (n : ℕ). has_group row && nat_lt 128 n) (none_counted (same_name Groups row) 0 rows none) ∙ none_above (has_group row)

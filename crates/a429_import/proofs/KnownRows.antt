@@ -18,7 +18,6 @@ use Rattle.a429_import.specs.declared.known.sources.KnownSources.{KnownSources}
 use Rattle.a429_import.specs.declared.named_rows.NamedRows.{NamedRows}
 use Rattle.a429_import.specs.declared.rows.ImportRow.{ImportRow}
 use Rattle.a429_import.specs.FirstRows.{first_from}
-use Rattle.a429_import.specs.ImportLimits.{has_too_many_filters}
 use Rattle.a429_import.specs.ImportTables.{firsts, has_group, name_in, same_name}
 use Rattle.a429_import.specs.Known.{KnowsFirsts, KnowsGroups, KnowsReceivers, KnowsSources, one_more, one_output, outputs_of}
 use Rattle.a429_import.specs.Names.{AreTexts, IsIndexed, names_of, numbers_of, texts_of}
@@ -46,20 +45,18 @@ receivers_kept known rows row k knows there = record {
   names = known_kept Receivers known.named rows row k knows.names there;
   stated = facts_old (λ r. r.texts.filters) Receivers rows row (texts_of known.filters) k there knows.stated;
   whole = knows.whole;
-  limits = facts_old has_too_many_filters Receivers rows row known.too_many.items k there knows.limits;
 }
 
 pub receivers_added : (old new : KnownReceivers) (rows : List ImportRow) (row : ImportRow) → KnowsReceivers old rows → IsIndexed new.named.names → names_of new.named.names ≡ names_of old.named.names ++ row.texts.receiver ∷ []
     → numbers_of new.named.firsts ≡ numbers_of old.named.firsts ++ length rows ∷ [] → position_from (bytes_eq row.texts.receiver) 0 (names_of old.named.names) ≡ None
-    → texts_of new.filters ≡ texts_of old.filters ++ row.texts.filters ∷ [] → AreTexts new.filters → new.too_many.items ≡ old.too_many.items ++ has_too_many_filters row ∷ []
+    → texts_of new.filters ≡ texts_of old.filters ++ row.texts.filters ∷ [] → AreTexts new.filters
     → KnowsReceivers new (rows ++ row ∷ [])
-receivers_added old new rows row knows indexed named numbered nowhere filters whole limits =
+receivers_added old new rows row knows indexed named numbered nowhere filters whole =
     let none : first_from Receivers row.texts.receiver 0 rows ≡ None = unknown Receivers old.named rows row.texts.receiver knows.names nowhere in
     record {
       names = known_added Receivers old.named new.named rows row knows.names indexed named numbered none nowhere;
       stated = filters ∙ facts_new (λ r. r.texts.filters) Receivers rows row (texts_of old.filters) none knows.stated;
       whole = whole;
-      limits = limits ∙ facts_new has_too_many_filters Receivers rows row old.too_many.items none knows.limits;
     }
 
 -- ---- sources
@@ -175,7 +172,7 @@ none_of : (b : Bool) (n : ℕ) (o : Option ℕ) → cond b (Some n) o ≡ None �
 none_of true n o e = cc
 none_of false n o e = (refl, e)
 
-none_counted : (p : ImportRow → Bool) (n : ℕ) (rows : List ImportRow) → position_from p n rows ≡ None → count_by p rows ≡ 0
+pub none_counted : (p : ImportRow → Bool) (n : ℕ) (rows : List ImportRow) → position_from p n rows ≡ None → count_by p rows ≡ 0
 none_counted p n [] e = refl
 none_counted p n (r ∷ rows) e =
     let t = none_of (p r) n (position_from p (n + 1) rows) e in

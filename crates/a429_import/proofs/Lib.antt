@@ -6,7 +6,6 @@ pub mod Imports
 pub mod RowsInRecord
 pub mod FirstRows
 pub mod ImportClashes
-pub mod ImportLimits
 pub mod ImportRows
 mod UntilLast
 pub mod ImportNotes
@@ -18,10 +17,8 @@ pub mod KnownClashes
 pub mod KnownRows
 pub mod Flags
 mod Lookups
-mod FirstLimits
-mod FullRows
+pub mod FewRows
 pub mod ImportForms
-pub mod ImportWidths
 pub mod ImportQuotes
 pub mod ImportAbove
 pub mod HeadingFirst

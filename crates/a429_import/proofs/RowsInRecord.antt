@@ -19,10 +19,10 @@ use Rattle.a429_import.specs.declared.firsts.Part.{Part}
 use Rattle.a429_import.specs.declared.firsts.Part.TheVariants.{Receivers, Sources, Groups}
 use Rattle.a429_import.specs.declared.lines.CsvLine.{CsvLine}
 use Rattle.a429_import.specs.declared.rows.ImportRow.{ImportRow}
-use Rattle.a429_import.specs.ImportRows.{agreed, clash, first_clash, next_row, other_clash, row_of, rows_after, rows_stated, says_nothing, source_clash, unless_wrong, with_row, without_notes, wrong_column}
+use Rattle.a429_import.specs.ImportRows.{agreed, clash, first_clash, next_row, other_clash, row_of, rows_after, rows_stated, source_clash, unless_wrong, without_notes, wrong_column}
 use Rattle.a429_import.specs.ImportTables.{filters_stated, firsts, firsts_after, group_stated, groups_of, has_group, is_known, name_in, number_of, output_stated, outputs_stated, receiver_stated, record_stated, rows_of_group, same_name, source_stated, words}
 use Rattle.a429_import.specs.ImportedRows.{HasOutputOfRow, HasSourceOfRow, IsInRecord, IsOutputOfRow, RowsAreInRecord}
-use Rattle.a429_import.proofs.ImportRanges.{bound, same_ok}
+use Rattle.a429_import.proofs.ImportRanges.{bound, line_taken, same_ok, taken_as}
 use Rattle.a429_import.proofs.ImportRecords.{all_firsts}
 
 -- ---- texts
@@ -162,13 +162,6 @@ one_more rows row agree each i j a b at_i at_j = elim (pushed_at rows row i a at
   ]
 ]
 
-with_one : (rows : List ImportRow) (row : ImportRow) → AllAgree rows → AllByRecursion (λ e. Agree e row) rows → AllAgree (with_row rows row)
-with_one rows row agree each = by (says_nothing rows row)
-  where
-    by : (b : Bool) → AllAgree (if b then rows else rows ++ row ∷ [])
-    by true = agree
-    by false = one_more rows row agree each
-
 -- ---- the rows that lines state agree
 
 agreed_none : (line : ℕ) (row : ImportRow) (o : Option ImportColumn) (r : ImportRow) → agreed line row o ≡ Ok r → (o ≡ None) × (row ≡ r)
@@ -184,8 +177,8 @@ next_agrees heading earlier line row h =
 after_agree : (heading : List (List ℕ)) (lines : List CsvLine) (earlier rows : List ImportRow) → AllAgree earlier → rows_after heading earlier lines ≡ Ok rows → AllAgree rows
 after_agree heading [] earlier rows agree h = subst AllAgree (same_ok earlier rows h) agree
 after_agree heading (line ∷ lines) earlier rows agree h =
-    let next = bound (next_row heading earlier line) (λ row. rows_after heading (with_row earlier row) lines) rows h in
-    after_agree heading lines (with_row earlier next.value) rows (with_one earlier next.value agree (next_agrees heading earlier line next.value next.was)) next.gives
+    let t = line_taken heading earlier line lines rows h in
+    after_agree heading lines t.rows rows (taken_as AllAgree line.number earlier t.row t.rows t.taken agree (one_more earlier t.row agree (next_agrees heading earlier line t.row t.next))) t.rest
 
 none_agree : AllAgree []
 none_agree i j a b at_i at_j = cc

@@ -8,7 +8,7 @@ use Rattle.csv.specs.declared.parser.State.TheVariants as st
 use Rattle.csv.specs.declared.reader.Reader.{Reader}
 use Rattle.csv.specs.declared.reader.Trim.TheVariants as trim
 use Rattle.a429_import.specs.declared.columns.Heading.{Heading}
-use Rattle.a429_import.specs.declared.fault.CsvFaultKind.TheVariants.{Column}
+use Rattle.a429_import.specs.declared.fault.CsvFaultKind.TheVariants.{Column, TooMany}
 use Rattle.a429_import.specs.declared.fault.ImportColumn.{ImportColumn}
 use Rattle.a429_import.specs.declared.fault.ImportFault.{ImportFault}
 use Rattle.a429_import.specs.declared.fault.ImportFault.TheVariants.{Csv}
@@ -19,11 +19,11 @@ use Rattle.a429_import.specs.declared.reading.RowsRead.{RowsRead}
 use Rattle.a429_import.specs.declared.rows.ImportRow.{ImportRow}
 use Rattle.a429_import.specs.ImportClashes.{Agree}
 use Rattle.a429_import.specs.ImportMaps.{AreNamedBy}
-use Rattle.a429_import.specs.ImportRows.{◌>>=◌, CsvFault, has_label, next_row, rows_after, rows_stated, with_row, without_notes, wrong_column}
+use Rattle.a429_import.specs.ImportRows.{CsvFault, has_label, rows_after, rows_stated, without_notes, wrong_column}
 use Rattle.a429_import.specs.Imports.{States, separated}
 use Rattle.a429_import.specs.ImportWords.{trimmed}
 use Rattle.a429_import.specs.KeptFields.{KeepsTexts}
-use Rattle.a429_import.specs.Known.{Knows, are_full}
+use Rattle.a429_import.specs.Known.{Knows}
 
 -- the library `csv` has read these lines of a text whose fields this separates; the lines have no blanks round fields
 pub record HasRead (separator : ℕ) (text : List ℕ) (reader : Reader (Bor (List ℕ))) (lines : List CsvLine) : Type 0 where
@@ -46,24 +46,20 @@ IsReadRow P (Err e) = ⊥
 abbrev pub heading_fault : CsvLine → Option ImportFault
 heading_fault heading = option_map {T = ImportColumn} {U = ImportFault} (λ column. Csv heading.number Column (Some column)) (wrong_column (fields_of heading.fields))
 
--- earlier rows and what that of one more line says, or the fault of this line
-abbrev pub with_line : List (List ℕ) → List ImportRow → CsvLine → Result (List ImportRow) CsvFault
-with_line heading earlier line = next_row heading earlier line >>= λ row. Ok (with_row earlier row)
-
 -- these lines, of which there is at least one, have this fault
 abbrev pub HaveFault : ImportFault → List CsvLine → Type 0
 HaveFault fault [] = ⊥
 HaveFault fault (heading ∷ below) = States {X = List ImportRow} (λ rows. rows) (Err fault) (rows_stated (heading ∷ below))
 
--- the rows that are kept are all rows, unless there are too many sources or groups, or too many outputs of a group
-abbrev pub IsKept : Bool → List ImportRow → List ImportRow → Type 0
-IsKept false kept rows = kept ≡ rows
-IsKept true kept rows = are_full rows ≡ true
-
 -- what was read says these rows
 pub record HasRows (read : RowsRead) (rows : List ImportRow) : Type 0 where
   pub known : Knows read.known rows
-  pub kept : IsKept read.is_full read.kept.items rows
+  pub kept : read.kept.items ≡ rows
+
+-- one more row is taken: the rows are then these; or they have one too many of what this column names
+abbrev pub IsAdded : Option ImportColumn → RowsRead → (ℕ → Result (List ImportRow) CsvFault) → Type 0
+IsAdded None read stated = (rows : List ImportRow) × ((line : ℕ) → stated line ≡ Ok rows) × HasRows read rows
+IsAdded (Some column) read stated = (line : ℕ) → stated line ≡ Err (line, TooMany, Some column)
 
 -- one more row is read, or refused
 abbrev pub IsTaken : Result (Unit {0}) ImportFault → RowsRead → Result (List ImportRow) CsvFault → Type 0

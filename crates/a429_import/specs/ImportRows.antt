@@ -8,7 +8,7 @@ use Rattle.a429_equipment.specs.SameStation.{same_sdi}
 use Rattle.a429_import.specs.declared.fault.ImportColumn.{ImportColumn}
 use Rattle.a429_import.specs.declared.fault.ImportColumn.TheVariants.{Group, Rate, Source, Receiver, Label, Sdi, MinUs, MaxUs, Hold, Filters}
 use Rattle.a429_import.specs.declared.fault.CsvFaultKind.{CsvFaultKind}
-use Rattle.a429_import.specs.declared.fault.CsvFaultKind.TheVariants.{Form, Column, Differs}
+use Rattle.a429_import.specs.declared.fault.CsvFaultKind.TheVariants.{Form, Column, Differs, TooMany}
 use Rattle.a429_import.specs.declared.lines.CsvLine.{CsvLine}
 use Rattle.a429_import.specs.declared.rows.ImportRow.{ImportRow}
 use Rattle.a429_import.specs.declared.rows.RowNumbers.{RowNumbers}
@@ -17,6 +17,7 @@ use Rattle.a429_import.specs.ImportFields.{field_in, if_group, rate_in, label_in
 use Rattle.a429_import.specs.declared.intervals.IntervalForm.{IntervalForm}
 use Rattle.a429_import.specs.ImportIntervals.{form_named, in_micros, interval_in, states_interval}
 use Rattle.a429_import.specs.declared.firsts.Part.TheVariants.{Sources}
+use Rattle.a429_import.specs.ImportLimits.{too_many}
 use Rattle.a429_import.specs.ImportTables.{has_group, is_known}
 use Rattle.a429_import.specs.ImportWords.{same_heading}
 
@@ -176,14 +177,23 @@ next_row heading earlier line = row_of heading line >>= λ row. agreed line.numb
 abbrev pub says_nothing : List ImportRow → ImportRow → Bool
 says_nothing earlier row = not (has_group row) && is_known Sources earlier row
 
+-- rows, unless they have one too many of what this column names
+abbrev pub limited : ℕ → List ImportRow → Option ImportColumn → Result (List ImportRow) CsvFault
+limited line rows None = Ok rows
+limited line rows (Some column) = Err (line, TooMany, Some column)
+
 -- earlier rows and one more, if it says something
-abbrev pub with_row : List ImportRow → ImportRow → List ImportRow
-with_row earlier row = if says_nothing earlier row then earlier else earlier ++ row ∷ []
+abbrev pub with_row : ℕ → List ImportRow → ImportRow → Result (List ImportRow) CsvFault
+with_row line earlier row = if says_nothing earlier row then Ok earlier else limited line (earlier ++ row ∷ []) (too_many (earlier ++ row ∷ []) row)
+
+-- earlier rows and what that of one more line says, or the fault of this line
+abbrev pub with_line : List (List ℕ) → List ImportRow → CsvLine → Result (List ImportRow) CsvFault
+with_line heading earlier line = next_row heading earlier line >>= λ row. with_row line.number earlier row
 
 -- what the rows of these lines say, after others
 abbrev pub rows_after : List (List ℕ) → List ImportRow → List CsvLine → Result (List ImportRow) CsvFault
 rows_after heading earlier [] = Ok earlier
-rows_after heading earlier (line ∷ lines) = next_row heading earlier line >>= λ row. rows_after heading (with_row earlier row) lines
+rows_after heading earlier (line ∷ lines) = with_line heading earlier line >>= λ rows. rows_after heading rows lines
 
 -- ---- notes
 

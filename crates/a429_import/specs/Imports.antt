@@ -1,7 +1,7 @@
 -- What is imported from a text of comma-separated values: a table, or why there is none (profile: import).
-use Rattle.std.specs.Prelude.{◌≡◌, ◌==◌, ◌||◌, ℕ, Bool, true, false, not, List, filter, if◌then◌else◌, is_some, length, map, nat_lt, Option, None, Some, Result, Ok, Err}
+use Rattle.std.specs.Prelude.{◌≡◌, ◌==◌, ◌||◌, ℕ, Bool, true, false, not, List, filter, if◌then◌else◌, length, map, Option, None, Some, Result, Ok, Err}
 use Rattle.std.specs.List.{AllByRecursion, list_any}
-use Rattle.csv.specs.Reading.{AreRecords, default_config, records, strip_bom}
+use Rattle.csv.specs.Reading.{AreRecords, default_config, strip_bom}
 use Rattle.csv.specs.Records.{fields_of}
 use Rattle.csv.specs.declared.parser.Config.{Config}
 use Rattle.csv.specs.declared.parser.State.TheVariants as st
@@ -14,17 +14,16 @@ use Rattle.a429_import.specs.declared.import.Imported.{Imported}
 use Rattle.a429_import.specs.declared.import.MadeTable.{MadeTable}
 use Rattle.a429_import.specs.declared.import.ImportOptions.{ImportOptions}
 use Rattle.a429_import.specs.declared.fault.ImportFault.{ImportFault}
-use Rattle.a429_import.specs.declared.fault.ImportFault.TheVariants.{NoMemory, Csv, Wide, Table}
+use Rattle.a429_import.specs.declared.fault.ImportFault.TheVariants.{NoMemory, Csv, Table}
 use Rattle.a429_import.specs.declared.lines.CsvLine.{CsvLine}
 use Rattle.a429_import.specs.declared.rows.ImportRow.{ImportRow}
 use Rattle.a429_import.specs.ImportAbove.{has_data_above}
 use Rattle.a429_import.specs.ImportForms.{from_heading, separator_in}
 use Rattle.a429_import.specs.ImportMaps.{AreNamedBy}
-use Rattle.a429_import.specs.ImportQuotes.{has_wrong_quotes, text_before}
+use Rattle.a429_import.specs.ImportQuotes.{has_wrong_quotes}
 use Rattle.a429_import.specs.ImportRows.{CsvFault, note_count, rows_stated}
 use Rattle.a429_import.specs.ImportTables.{root_members, record_stated}
 use Rattle.a429_import.specs.ImportWords.{trimmed}
-use Rattle.a429_import.specs.ImportLimits.{limit_fault}
 use Rattle.a429_import.specs.FilledLines.{AreFilledBelow}
 use Rattle.a429_import.specs.KeyedLines.{AreKeyed}
 use Rattle.a429_import.specs.KeptFields.{kept_of}
@@ -36,7 +35,6 @@ abbrev pub States : {X Y : Type 0} → (X → Y) → Result X ImportFault → Re
 States view (Ok x) stated = stated ≡ Ok (view x)
 States view (Err NoMemory) stated = Unit {0}
 States view (Err (Csv line kind column)) stated = stated ≡ Err (line, kind, column)
-States view (Err (Wide line)) stated = ⊥
 States view (Err (Table fault)) stated = ⊥
 
 -- how the library `csv` reads a text whose fields this separates
@@ -65,22 +63,6 @@ pub record AreLines (maps : List (List ℕ)) (text : List ℕ) (lines : List Csv
 abbrev pub AreNamedLines : List (List ℕ) → List ℕ → List CsvLine → Type 0
 AreNamedLines maps text lines = (read : List CsvLine) × (is_below : Bool) × AreLines maps text read × AreNamedBy maps is_below read lines
 
--- a row has too many fields. Spreadsheet programs have at most 16,384 columns
-abbrev pub is_wide : List (List ℕ) → Bool
-is_wide fields = nat_lt 100000 (length fields)
-
--- the library `csv` reads such a row in a text whose fields this separates
-unfoldable pub has_wide_row : ℕ → List ℕ → Bool
-has_wide_row separator text = list_any is_wide (records (separated separator) text)
-
--- the same for what is above the rest of a text, or for the rest
-abbrev pub has_wide_rows : ℕ → List ℕ → List ℕ → Bool
-has_wide_rows separator rest text = has_wide_row separator (strip_bom (text_before rest text)) || has_wide_row separator (strip_bom rest)
-
--- the same, in a text above its heading, or from its heading on
-abbrev pub is_wide_text : List (List ℕ) → List ℕ → Bool
-is_wide_text maps text = has_wide_rows (separator_in maps text) (from_heading maps text) text
-
 -- a field in quotes does not end with a quote and a separator or a line end: the text ends within one, or text follows the quote
 abbrev pub is_misquoted_text : List (List ℕ) → List ℕ → Bool
 is_misquoted_text maps text = has_wrong_quotes (separated (separator_in maps text)) (from_heading maps text) text
@@ -101,7 +83,6 @@ IsImportOf lines (Ok imported) =
     × (imported.equipment ≡ record_stated rows) × IsTableText (kept_of lines) None rows imported.text.items
 IsImportOf lines (Err NoMemory) = Unit {0}
 IsImportOf lines (Err (Csv line kind column)) = rows_stated lines ≡ Err (line, kind, column)
-IsImportOf lines (Err (Wide line)) = ⊥
 IsImportOf lines (Err (Table fault.NoMemory)) = ⊥
 IsImportOf lines (Err (Table (fault.At kind place))) =
     (rows : List ImportRow) × (rows_stated lines ≡ Ok rows) × (first (faults (table (root_members rows))) ≡ Some (kind, place))
@@ -113,10 +94,9 @@ IsTableOf kept before rows (Err NoMemory) = Unit {0}
 IsTableOf kept before rows (Err (Table (fault.At kind place))) = first (faults (table (root_members rows))) ≡ Some (kind, place)
 IsTableOf kept before rows (Err _) = ⊥
 
--- rows with names; rows with a wrong bit rate, or with too much of something, stay: their table is refused
+-- rows, with names if the flag is set
 abbrev pub rows_by : Bool → List ImportRow → List ImportRow
-rows_by false rows = rows
-rows_by true rows = if is_some (limit_fault rows) then rows else all_renamed rows
+rows_by makes_names rows = if makes_names then all_renamed rows else rows
 
 -- the table of rows, with names if the flag is set
 abbrev pub IsTableBy : (List ℕ → List ℕ) → Bool → List ImportRow → Result MadeTable ImportFault → Type 0
@@ -128,7 +108,6 @@ IsNamedImport lines (Ok imported) =
     (rows : List ImportRow) × (rows_stated lines ≡ Ok rows) × IsTableBy (kept_of lines) true rows (Ok (table_made imported)) × (imported.notes ≡ note_count lines)
 IsNamedImport lines (Err NoMemory) = Unit {0}
 IsNamedImport lines (Err (Csv line kind column)) = rows_stated lines ≡ Err (line, kind, column)
-IsNamedImport lines (Err (Wide line)) = ⊥
 IsNamedImport lines (Err (Table fault)) = (rows : List ImportRow) × (rows_stated lines ≡ Ok rows) × IsTableBy (kept_of lines) true rows (Err (Table fault))
 
 -- the same, with names if the flag is set
@@ -153,14 +132,12 @@ IsImportIf true maps options text result = (line : ℕ) × (result ≡ Err (Csv 
 IsImportIf false maps options text result =
     (lines : List CsvLine) × AreNamedLines maps text lines × IsFilledImport options.fills options.makes_names lines result
 
--- the same; a row with too many fields is refused before all that, and an allocation may fail before all lines are known
+-- the same; an allocation may fail before all lines are known
 abbrev pub IsImport : List (List ℕ) → ImportOptions → List ℕ → Result Imported ImportFault → Type 0
 IsImport maps options text (Err NoMemory) = Unit {0}
-IsImport maps options text (Err (Wide line)) = is_wide_text maps text ≡ true
-IsImport maps options text result =
-    (is_wide_text maps text ≡ false) × IsImportIf (is_misquoted_text maps text || has_row_above maps text) maps options text result
+IsImport maps options text result = IsImportIf (is_misquoted_text maps text || has_row_above maps text) maps options text result
 
 -- the fault of a text that comes before those of its rows, if it has one
 abbrev pub IsTextFault : List (List ℕ) → List ℕ → Option ImportFault → Type 0
-IsTextFault maps text None = (is_wide_text maps text ≡ false) × ((is_misquoted_text maps text || has_row_above maps text) ≡ false)
+IsTextFault maps text None = (is_misquoted_text maps text || has_row_above maps text) ≡ false
 IsTextFault maps text (Some fault) = (options : ImportOptions) → IsImport maps options text (Err fault)

@@ -1,5 +1,5 @@
 -- What is known of rows: the names of their receivers, sources and groups, and what the first row of each says (vocabulary of contracts).
-use Rattle.std.specs.Prelude.{◌≡◌, ◌+◌, ◌==◌, ◌||◌, ℕ, Bool, false, not, if◌then◌else◌, List, Option, None, Some, is_some, map, min, length, nat_le, nat_lt, slice_get, slice_index_or, slice_set, vec_len}
+use Rattle.std.specs.Prelude.{◌≡◌, ◌+◌, ◌==◌, ℕ, Bool, false, not, if◌then◌else◌, List, Option, None, Some, map, min, length, nat_le, slice_get, slice_index_or, slice_set, vec_len}
 use Rattle.std.specs.List.{AllZip, count_by, position_from}
 use Rattle.std.specs.Option.{option_map}
 use Rattle.std.specs.Str.{bytes_eq}
@@ -16,8 +16,7 @@ use Rattle.a429_import.specs.declared.named_rows.FoundName.{FoundName}
 use Rattle.a429_import.specs.declared.named_rows.NamedRows.{NamedRows}
 use Rattle.a429_import.specs.declared.rows.ImportRow.{ImportRow}
 use Rattle.a429_import.specs.FirstRows.{first_from}
-use Rattle.a429_import.specs.ImportLimits.{has_too_many_filters, has_too_many_outputs}
-use Rattle.a429_import.specs.ImportTables.{firsts, groups_of, has_group, name_in, same_name}
+use Rattle.a429_import.specs.ImportTables.{firsts, has_group, name_in, same_name}
 use Rattle.a429_import.specs.Names.{AreTexts, IsIndexed, names_of, numbers_of, texts_of}
 
 -- the name at a place
@@ -41,7 +40,6 @@ pub record KnowsReceivers (known : KnownReceivers) (rows : List ImportRow) : Typ
   pub names : KnowsFirsts Receivers known.named rows
   pub stated : texts_of known.filters ≡ map (λ row. row.texts.filters) (firsts Receivers rows)
   pub whole : AreTexts known.filters
-  pub limits : known.too_many.items ≡ map has_too_many_filters (firsts Receivers rows)
 
 -- the same with the receiver, the label and the SDI of each source; the receiver by the number of its first row
 pub record KnowsSources (known : KnownSources) (rows : List ImportRow) : Type 0 where
@@ -72,14 +70,6 @@ abbrev pub named_of : Part → Known → NamedRows
 named_of Receivers known = known.receivers.named
 named_of Sources known = known.sources.named
 named_of Groups known = known.groups.named
-
--- too many groups, or too many outputs of a group
-abbrev pub are_groups_full : List ImportRow → Bool
-are_groups_full rows = nat_lt 8 (length (groups_of rows)) || is_some (position_from (has_too_many_outputs rows) 0 (groups_of rows))
-
--- the same, or too many sources
-abbrev pub are_full : List ImportRow → Bool
-are_full rows = nat_lt 256 (length (firsts Sources rows)) || are_groups_full rows
 
 -- ---- a row and what is known
 

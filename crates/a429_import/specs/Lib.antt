@@ -19,7 +19,7 @@ pub mod Renamed
 pub mod NumberRanges
 pub mod PrintedTables
 pub mod Imports
-pub mod ImportWidths
+pub mod ImportSteps
 pub mod ImportedRows
 pub mod FirstRows
 pub mod ImportClashes

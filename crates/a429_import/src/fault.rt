@@ -77,6 +77,8 @@ pub enum CsvFaultKind {
     Column,
     /// The row contradicts an earlier row about the same source, receiver or group.
     Differs,
+    /// With the row there is one receiver, source or group too many, one output of its group or one filter of its receiver.
+    TooMany,
 }
 
 impl CsvFaultKind {
@@ -88,6 +90,7 @@ impl CsvFaultKind {
             CsvFaultKind::Form => "form",
             CsvFaultKind::Column => "column",
             CsvFaultKind::Differs => "differs",
+            CsvFaultKind::TooMany => "too-many",
         }
     }
 }
@@ -115,12 +118,6 @@ pub enum ImportFault {
         line: u64,
         kind: CsvFaultKind,
         column: Option<ImportColumn>,
-    },
-    /// The row that begins on this line, counted from 1, has more than 100,000 fields, and no earlier row has. It may be above
-    /// the heading. This comes before any other fault of the rows.
-    #[error("csv line {line} wide")]
-    Wide {
-        line: u64,
     },
     /// The table that the rows describe has this fault.
     #[error("table {0}")]

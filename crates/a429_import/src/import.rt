@@ -22,7 +22,6 @@ use crate::filled_reading::SheetRead;
 use crate::forms::{Form, form_of};
 use crate::kept::KeptTexts;
 use crate::known::Known;
-use crate::limits::limit_fault;
 use crate::quotes::misquoted_line_of;
 use crate::reading::{LinesRead, RowsRead, wrong_heading};
 use crate::refused::{RefusedRows, misquoted_rows, titled_rows};
@@ -30,9 +29,8 @@ use crate::renamed::{all_names, all_renamed};
 use crate::rows::ImportRow;
 use crate::tables::table_text;
 use crate::text_reading::read_lines;
-use crate::widths::wide_line;
 use a429_equipment::Equipment;
-use a429_table::{TableFault, read_equipment};
+use a429_table::read_equipment;
 use std::alloc::{AllocError, Global};
 
 /// How rows are read.
@@ -74,10 +72,6 @@ fn table_of_rows(
     ensures { (rows : List ImportRow) → HasRows read.now rows → HaveRanges rows
         → IsTableOf (lines_kept comments.entry.kept.now) (rows_before comments.entry.made_of) rows result }
 {
-    match limit_fault(&read.known) {
-        Some((kind, place)) => return Err(ImportFault::Table(TableFault::At(kind, place))),
-        None => {}
-    }
     let text = table_text(alloc, comments, &read.known, &read.kept)?;
     match read_equipment(alloc, text.as_str().as_bytes()) {
         Ok(equipment) => Ok(MadeTable {
@@ -108,18 +102,6 @@ fn table_with_names(
     table_of_rows(alloc, comments, &read)
 }
 
-/// The table that rows describe with names, unless it has too much of something.
-fn named_table(alloc: Global, kept: &KeptTexts, read: &RowsRead) -> Result<MadeTable, ImportFault>
-    requires rows { (rows : List ImportRow) × HasRows read.now rows }
-    requires kept { AreKept kept.now }
-    ensures { (rows : List ImportRow) → HasRows read.now rows → HaveRanges rows → IsTableBy (lines_kept kept.now) true rows result }
-{
-    match limit_fault(&read.known) {
-        Some((kind, place)) => Err(ImportFault::Table(TableFault::At(kind, place))),
-        None => table_with_names(alloc, &read.known, kept, &read.kept),
-    }
-}
-
 /// The table that rows describe, with names if the flag is set.
 fn table_by(
     alloc: Global,
@@ -133,7 +115,7 @@ fn table_by(
         → IsTableBy (lines_kept kept.now) makes_names rows result }
 {
     if makes_names {
-        named_table(alloc, kept, read)
+        table_with_names(alloc, &read.known, kept, &read.kept)
     } else {
         let comments = Comments {
             made_of: None,
@@ -281,12 +263,9 @@ fn text_fault(
     requires text { form.text.now ≡ from_heading (given_texts maps.now) text.now }
     ensures { IfOk result (λ fault. IsTextFault (given_texts maps.now) text.now fault) }
 {
-    match wide_line(text, form) {
-        Some(line) => Ok(Some(ImportFault::Wide { line })),
-        None => match unfit_line(alloc, maps, text, form, refused)? {
-            Some(line) => Ok(Some(wrong_form(line))),
-            None => Ok(None),
-        },
+    match unfit_line(alloc, maps, text, form, refused)? {
+        Some(line) => Ok(Some(wrong_form(line))),
+        None => Ok(None),
     }
 }
 

@@ -1,20 +1,24 @@
 //! What is known of rows, each of which is read once: their names, and what the first row of each name says. No row is
 //! kept.
-ghost use Rattle.std.specs.Prelude.{◌≡◌, ◌++◌, ◌∷◌, [], IfOk, List, OnOk};
+ghost use Rattle.std.specs.Prelude.{◌≡◌, ◌++◌, ◌∷◌, ◌||◌, [], IfOk, List, OnOk, length, nat_lt};
 ghost use Rattle.a429_import.specs.declared.rows.ImportRow.{ImportRow};
 ghost use Rattle.a429_import.specs.ImportTexts.{row_view};
 ghost use Rattle.a429_import.specs.ImportRows.{says_nothing};
-ghost use Rattle.a429_import.specs.Known.{Knows, KnowsGroups, KnowsSources, are_full};
+ghost use Rattle.a429_import.specs.ImportLimits.{has_too_many_outputs, too_many};
+ghost use Rattle.a429_import.specs.ImportTables.{groups_of};
+ghost use Rattle.a429_import.specs.Known.{Knows, KnowsGroups, KnowsSources};
 
 pub mod groups;
 pub mod receivers;
 pub mod sources;
 
+use crate::fault::ImportColumn;
 use crate::known::groups::KnownGroups;
 use crate::known::receivers::KnownReceivers;
 use crate::known::sources::KnownSources;
+use crate::limits::has_too_many_filters;
 use crate::rows::RowFields;
-use a429_equipment::SOURCES;
+use a429_equipment::{GROUPS, RECEIVERS, SOURCES};
 use std::alloc::{AllocError, Global};
 
 /// What is known of rows.
@@ -74,11 +78,32 @@ impl Known {
         row.texts.group.is_empty() && self.sources.has(row)
     }
 
-    /// Whether there are too many sources or groups, or a group has too many outputs.
-    pub fn are_full(&self) -> bool
-        ensures { (rows : List ImportRow) → Knows self.now rows → result ≡ are_full rows }
+    /// Whether there are too many groups, or outputs of the group of the last row.
+    fn has_too_many_groups(&self, row: &RowFields<'_>) -> bool
+        requires { (rows : List ImportRow) × Knows self.now rows }
+        ensures { (rows : List ImportRow) → Knows self.now rows
+            → result ≡ (nat_lt 8 (length (groups_of rows)) || has_too_many_outputs rows (row_view row.now)) }
     {
-        SOURCES < self.sources.named.len() || self.groups.are_full()
+        GROUPS < self.groups.len() || self.groups.has_too_many_outputs(row)
+    }
+
+    /// The first column of which there is one too many; this is the last row. `None` if there is no such column.
+    #[tactic(auto, unfolding(crate::specs::ImportLimits::too_many))]
+    pub fn too_many(&self, row: &RowFields<'_>) -> Option<ImportColumn>
+        requires { (rows : List ImportRow) × Knows self.now rows }
+        ensures { (rows : List ImportRow) → Knows self.now rows → result ≡ too_many rows (row_view row.now) }
+    {
+        if RECEIVERS < self.receivers.named.len() {
+            Some(ImportColumn::Receiver)
+        } else if SOURCES < self.sources.named.len() {
+            Some(ImportColumn::Source)
+        } else if self.has_too_many_groups(row) {
+            Some(ImportColumn::Group)
+        } else if has_too_many_filters(row.texts.filters) {
+            Some(ImportColumn::Filters)
+        } else {
+            None
+        }
     }
 
     /// Takes one more row. Error: an allocation failed.

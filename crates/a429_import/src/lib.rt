@@ -56,10 +56,10 @@ mod refused;
 mod renamed;
 mod rows;
 mod short_numbers;
+mod steps;
 mod tables;
 mod text_reading;
 mod texts;
-mod widths;
 mod words;
 
 pub use columns::{COLUMNS as IMPORT_COLUMNS, Heading, is_column, is_named as is_column_named};

@@ -4,12 +4,12 @@ ghost use Rattle.std.specs.Prelude.{◌≡◌, false, is_some, true};
 ghost use Rattle.csv.specs.Reading.{strip_bom};
 ghost use Rattle.csv.specs.declared.parser.State.TheVariants as st;
 ghost use Rattle.a429_import.specs.ImportQuotes.{breaks_quotes, has_wrong_quotes, is_after_quote, is_in_text, is_inside_quotes, is_misquoted, is_misquoted_from, text_before};
-ghost use Rattle.a429_import.specs.ImportWidths.{state_of};
+ghost use Rattle.a429_import.specs.ImportSteps.{state_of};
 ghost use Rattle.a429_import.specs.Imports.{separated};
 
 use crate::forms::{Form, text_before, without_mark};
 use crate::lines::line_at;
-use crate::widths::{Ended, Part, pass};
+use crate::steps::{Ended, Part, pass};
 
 /// Whether a byte is inside quotes.
 fn is_inside_quotes(part: Part) -> bool
@@ -81,7 +81,7 @@ fn misquoted_place(of_rows: bool, separator: u8, text: &[u8]) -> Option<usize>
 }
 
 /// The line on which such a field begins above the heading: the heading is inside its quotes.
-#[tactic(auto, using(crate::proofs::ImportWidths::same_mark))]
+#[tactic(auto, using(crate::proofs::ImportQuotes::same_mark))]
 fn line_above(text: &[u8], form: Form<'_>) -> Option<u64>
     ensures { is_some result ≡ is_misquoted false (separated form.entry.separator) (text_before form.entry.text.now text.now) }
 {
@@ -93,7 +93,7 @@ fn line_above(text: &[u8], form: Form<'_>) -> Option<u64>
 }
 
 /// The line on which the first such field begins from the heading on.
-#[tactic(auto, using(crate::proofs::ImportWidths::same_mark))]
+#[tactic(auto, using(crate::proofs::ImportQuotes::same_mark))]
 fn line_of_rows(text: &[u8], form: Form<'_>) -> Option<u64>
     ensures { is_some result ≡ is_misquoted true (separated form.entry.separator) form.entry.text.now }
 {

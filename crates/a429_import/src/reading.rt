@@ -5,8 +5,9 @@ ghost use Rattle.csv.specs.Records.{fields_of};
 ghost use Rattle.a429_import.specs.declared.lines.CsvLine.{CsvLine};
 ghost use Rattle.a429_import.specs.declared.rows.ImportRow.{ImportRow};
 ghost use Rattle.a429_import.specs.ImportClashes.{Agree};
-ghost use Rattle.a429_import.specs.ImportReading.{AreBelow, AreRead, AreTaken, HasRows, HaveRows, IsHeadingOf, IsKept, IsTaken, StandsFor, heading_fault, with_line};
-ghost use Rattle.a429_import.specs.ImportRows.{has_label, next_row, with_row};
+ghost use Rattle.a429_import.specs.ImportReading.{AreBelow, AreRead, AreTaken, HasRows, HaveRows, IsAdded, IsHeadingOf, IsTaken, StandsFor, heading_fault};
+ghost use Rattle.a429_import.specs.ImportLimits.{too_many};
+ghost use Rattle.a429_import.specs.ImportRows.{has_label, limited, next_row, with_line, with_row};
 ghost use Rattle.a429_import.specs.ImportTexts.{row_view};
 ghost use Rattle.a429_import.specs.KeptFields.{AreKept, KeepsTexts};
 ghost use Rattle.a429_import.specs.Known.{Knows};
@@ -25,10 +26,7 @@ use std::alloc::{AllocError, Global};
 #[derive(Drop)]
 pub struct RowsRead {
     pub known: Known,
-    /// The rows, up to the first with which there are too many sources or groups, or too many outputs of a group.
     pub kept: Vec<ImportRow>,
-    /// Whether there is such a row.
-    pub is_full: bool,
 }
 
 /// What is known of lines that were read.
@@ -53,7 +51,6 @@ impl RowsRead {
         Ok(RowsRead {
             known: Known::new(alloc, chains)?,
             kept: Vec::new(alloc),
-            is_full: false,
         })
     }
 }
@@ -94,44 +91,57 @@ fn next_row<'a>(
     }
 }
 
-/// Keeps a row, unless the table has too much with it or before it. The answer is whether it has.
-fn keep(
-    alloc: Global,
-    kept: &mut Vec<ImportRow>,
-    is_full: bool,
-    known: &Known,
-    row: &RowFields<'_>,
-) -> Result<bool, AllocError>
-    ensures { IfOk result (λ full. (rows : List ImportRow) → Knows known.now (rows ++ row_view row.now ∷ [])
-        → IsKept is_full kept.old.items rows → IsKept full kept.new.items (rows ++ row_view row.now ∷ [])) }
-{
-    if is_full || known.are_full() {
-        return Ok(true);
-    }
-    kept.push(copy_of(alloc, row)?)?;
-    Ok(false)
-}
-
-/// Takes a row that says something new.
-pub fn take_new(alloc: Global, read: &mut RowsRead, row: &RowFields<'_>) -> Result<(), AllocError>
+/// Adds a row. Error: an allocation failed.
+pub fn push_row(alloc: Global, read: &mut RowsRead, row: &RowFields<'_>) -> Result<(), AllocError>
     requires { (rows : List ImportRow) × Knows read.old.known rows }
     ensures { OnOk result ((rows : List ImportRow) → HasRows read.old rows → HasRows read.new (rows ++ row_view row.now ∷ [])) }
 {
     read.known.note(row)?;
-    let is_full = keep(alloc, &mut read.kept, read.is_full, &read.known, row)?;
-    read.is_full = is_full;
+    read.kept.push(copy_of(alloc, row)?)?;
     Ok(())
 }
 
-/// Takes a row, unless it says nothing new.
-fn take_row(alloc: Global, read: &mut RowsRead, row: &RowFields<'_>) -> Result<(), AllocError>
-    requires { (rows : List ImportRow) × Knows read.old.known rows }
-    ensures { OnOk result ((rows : List ImportRow) → HasRows read.old rows → HasRows read.new (with_row rows (row_view row.now))) }
+/// Takes a row that says something new. The answer is the column of which there is then one too many. Error: an allocation
+/// failed.
+fn take_new(
+    alloc: Global,
+    read: &mut RowsRead,
+    row: &RowFields<'_>,
+) -> Result<Option<ImportColumn>, AllocError>
+    requires { (rows : List ImportRow) × HasRows read.old rows }
+    ensures { IfOk result (λ column. (rows : List ImportRow) → HasRows read.old rows
+        → IsAdded column read.new (λ line. limited line (rows ++ row_view row.now ∷ []) (too_many (rows ++ row_view row.now ∷ []) (row_view row.now)))) }
+{
+    push_row(alloc, read, row)?;
+    Ok(read.known.too_many(row))
+}
+
+/// Takes a row, unless it says nothing new. The answer is the column of which there is then one too many. Error: an allocation
+/// failed.
+fn take_row(
+    alloc: Global,
+    read: &mut RowsRead,
+    row: &RowFields<'_>,
+) -> Result<Option<ImportColumn>, AllocError>
+    requires { (rows : List ImportRow) × HasRows read.old rows }
+    ensures { IfOk result (λ column. (rows : List ImportRow) → HasRows read.old rows
+        → IsAdded column read.new (λ line. with_row line rows (row_view row.now))) }
 {
     if read.known.has_all_of(row) {
-        Ok(())
+        Ok(None)
     } else {
         take_new(alloc, read, row)
+    }
+}
+
+/// The fault of a row, in a column.
+fn row_fault(line: &CsvLine, kind: CsvFaultKind, column: Option<ImportColumn>) -> ImportFault
+    ensures { result ≡ ImportFault.Csv line.now.number kind column }
+{
+    ImportFault::Csv {
+        line: line.number,
+        kind,
+        column,
     }
 }
 
@@ -142,20 +152,16 @@ fn take_below(
     heading: &Heading,
     line: &CsvLine,
 ) -> Result<(), ImportFault>
-    requires { (rows : List ImportRow) × Knows read.old.known rows }
+    requires { (rows : List ImportRow) × HasRows read.old rows }
     ensures { (rows : List ImportRow) → Agree rows → HasRows read.old rows
         → IsTaken result read.new (with_line (fields_of heading.now.line.fields) rows line.now) }
 {
     match next_row(&read.known, heading, line) {
-        Ok(row) => {
-            take_row(alloc, read, &row)?;
-            Ok(())
-        }
-        Err((kind, column)) => Err(ImportFault::Csv {
-            line: line.number,
-            kind,
-            column,
-        }),
+        Ok(row) => match take_row(alloc, read, &row)? {
+            None => Ok(()),
+            Some(column) => Err(row_fault(line, CsvFaultKind::TooMany, Some(column))),
+        },
+        Err((kind, column)) => Err(row_fault(line, kind, column)),
     }
 }
 

@@ -12,8 +12,8 @@ use std::alloc::{AllocError, Global};
 /// How many faulty rows are kept.
 const FAULTY_ROWS: usize = 3;
 
-/// How many rows are kept below a heading that has a fault.
-const ROWS_BELOW: usize = 8;
+/// How many rows are kept below a heading that has a fault: more than a table can have.
+const ROWS_BELOW: usize = 2000;
 
 /// Rows that are refused.
 #[derive(Drop)]
@@ -45,7 +45,6 @@ pub struct Before {
     has_heading: bool,
     has_fault: bool,
     kept: usize,
-    is_full: bool,
 }
 
 /// What is known before a line is taken.
@@ -54,7 +53,6 @@ pub fn before_line(read: &LinesRead) -> Before {
         has_heading: read.heading.is_some(),
         has_fault: read.fault.is_some(),
         kept: read.rows.kept.len(),
-        is_full: read.rows.is_full,
     }
 }
 
@@ -110,9 +108,7 @@ impl RefusedRows {
     ) -> Result<(), AllocError> {
         match &read.heading {
             Some(heading) if before.has_heading => {
-                // the row with which there is too much is not kept with the others
-                let is_above = read.rows.is_full && !before.is_full;
-                let is_new = is_above || before.kept < read.rows.kept.len();
+                let is_new = before.kept < read.rows.kept.len();
                 let is_refused = read.fault.is_some() && !before.has_fault;
                 self.note_below(heading, is_new, is_refused, line)
             }

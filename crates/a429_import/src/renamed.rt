@@ -18,7 +18,7 @@ use crate::keyed_lines::key_end;
 use crate::known::Known;
 use crate::made_names::{in_room_or, numbered_name, plain_name, put_label_end};
 use crate::named_rows::NamedRows;
-use crate::reading::{RowsRead, take_new};
+use crate::reading::{RowsRead, push_row};
 use crate::rows::{ImportRow, RowFields, TextFields};
 use crate::texts::Texts;
 use a429_text::Text;
@@ -371,7 +371,7 @@ fn take_renamed(
         texts: names_of(known, names, row),
         numbers: row.numbers,
     };
-    take_new(alloc, read, &fields)?;
+    push_row(alloc, read, &fields)?;
     Ok(())
 }
 

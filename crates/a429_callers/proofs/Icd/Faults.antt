@@ -1,12 +1,13 @@
 -- The table that is imported_table from an interface control document has no fault.
 use Rattle.std.proofs.Common.{◌≡◌, ◌∙◌, ℕ, ◌<◌, ◌≤◌, pos, true, false, List, [], length, map, take, codes, Option, None, Some, ap, ap₂, sym, subst, refl, arith, eq-eqb}
 use Rattle.std.specs.Prelude.{◌==◌, ◌&&◌, IfSome, IsTrue, filter, is_none, option_and_then, slice_get, unwrap_or}
-use Rattle.std.specs.List.{AllByRecursion, list_any}
+use Rattle.std.specs.List.{AllByRecursion, count_by, list_any}
 use Rattle.std.specs.Option.{option_map_or}
 use Rattle.std.specs.Str.{bytes_eq}
 use Rattle.std.proofs.lemmas.Bool.{and_from, and_parts}
 use Rattle.std.proofs.lemmas.Bool.Decides.{Decides-int_eq}
 use Rattle.std.proofs.lemmas.List.{length-map}
+use Rattle.std.proofs.lemmas.List.Sums.{length-filter}
 use Rattle.std.proofs.lemmas.Option.{same_Some, slice_get_within}
 use Rattle.toml.specs.Data.{Data, member, no_members, string, table}
 use Rattle.a429_word.specs.Bits.{label_of, sdi_of}
@@ -36,7 +37,7 @@ use Rattle.a429_cert.proofs.CheckedPlans.{same_bytes}
 use Rattle.a429_import.specs.declared.firsts.Part.{Part}
 use Rattle.a429_import.specs.declared.firsts.Part.TheVariants.{Groups, Receivers, Sources}
 use Rattle.a429_import.specs.declared.rows.ImportRow.{ImportRow}
-use Rattle.a429_import.specs.ImportTables.{firsts, group_stated, group_tree, groups_of, name_in, number_of, output_tree, part_tree, part_trees, receiver_tree, record_stated, root_members, rows_of_group, sdi_data, source_stated, source_tree, with_filters, words}
+use Rattle.a429_import.specs.ImportTables.{firsts, group_stated, group_tree, groups_of, name_in, number_of, output_tree, part_tree, part_trees, receiver_tree, record_stated, root_members, rows_of_group, sdi_data, source_stated, source_tree, with_filters, words, same_name}
 use Rattle.a429_callers.proofs.Icd.NamedFirsts.{own_firsts}
 use Rattle.a429_callers.proofs.Icd.Groups.{group_rows_are, groups_again, groups_are}
 use Rattle.a429_callers.proofs.Icd.Records.{IsRead, all_read, first_is_of, no_words, source_is}
@@ -44,6 +45,7 @@ use Rattle.a429_callers.proofs.Icd.Rows.{IsRowOf, one_source, read_output, read_
 use Rattle.a429_callers.proofs.Icd.Sound.{few_receivers, few_sources, imported_sound}
 use Rattle.a429_callers.proofs.Icd.FineRows.{bare_receiver, group_fine, output_data, output_fine, outputs_at, receiver_fine, root_fine, source_fine}
 use Rattle.a429_callers.proofs.Icd.NoFaults.{HoldsAtStops, IsFine, no_faults, none_earlier, some_found}
+use Rattle.a429_import.proofs.FewRows.{HasFew}
 use Rattle.a429_import.proofs.ImportRecords.{named_receiver, position_same}
 use Rattle.a429_callers.proofs.Icd.OwnWords.{HaveOwnWords}
 use Rattle.a429_import.proofs.RowsInRecord.{IsAt, first_of}
@@ -340,6 +342,21 @@ module _ (e : TableRecord) (sound : IsSound e) (plain : AllByRecursion (λ recei
     group_count : length (groups_of rows) ≡ length e.groups
     unfolding record_stated
     group_count = sym (length-map (groups_of rows) group_stated) ∙ ap length (groups_again e sound)
+
+    -- as many receivers, sources and groups as a table may have
+    pub has_few : HasFew rows
+    has_few = record {
+      receivers = omega (arith, few_receivers e sound plain, sound.few_receivers);
+      sources = omega (arith, few_sources e sound plain, sound.few_sources);
+      groups = omega (arith, group_count, sound.few_groups);
+    }
+
+    pub outputs_few : (row : ImportRow) → IsRowOf e row → count_by (same_name Groups row) rows ≤ 128
+    outputs_few y Y =
+        let G = group_rows y Y in
+        let many : count_by (same_name Groups y) rows ≡ length G.outputs = sym (length-filter (same_name Groups y) rows) ∙ ap length G.are ∙ length-map G.outputs (read_output e Y.group) in
+        let count = all_at (λ (os : List OutputRow). (1 ≤ length os) × (length os ≤ 128)) e.outputs Y.group_at.0 G.outputs sound.some_outputs G.listed in
+        omega (arith, many, count.1)
 
     root_stop : IsFine root (Root, root)
     unfolding root_members

@@ -16,21 +16,21 @@ use Rattle.a429_cert.specs.PlanText.{plan_text_of}
 use Rattle.a429_import.specs.declared.fault.CsvFaultKind.TheVariants.{Column}
 use Rattle.a429_import.specs.declared.fault.ImportColumn.{ImportColumn}
 use Rattle.a429_import.specs.declared.fault.ImportFault.{ImportFault}
-use Rattle.a429_import.specs.declared.fault.ImportFault.TheVariants.{Csv, NoMemory, Table, Wide}
+use Rattle.a429_import.specs.declared.fault.ImportFault.TheVariants.{Csv, NoMemory, Table}
 use Rattle.a429_import.specs.declared.import.Imported.{Imported}
 use Rattle.a429_import.specs.declared.lines.CsvLine.{CsvLine}
 use Rattle.a429_import.specs.declared.rows.ImportRow.{ImportRow}
 use Rattle.a429_callers.specs.ImportedIcd.{HasPlanTextOf, ImportedIcdIsSamePlan, ImportsPlan, IsWholeInIcd, icd_csv, plainly}
-use Rattle.a429_import.specs.Imports.{AreNamedLines, IsImport, IsImportIf, IsImportOf, has_row_above, is_misquoted_text, is_wide_text}
+use Rattle.a429_import.specs.Imports.{AreNamedLines, IsImport, IsImportIf, IsImportOf, has_row_above, is_misquoted_text}
 use Rattle.a429_import.specs.ImportMaps.{AreNamedBy, names_by}
 use Rattle.a429_import.specs.ImportRows.{CsvFault, rows_after, rows_stated, unless_wrong, without_notes, wrong_column}
 use Rattle.a429_import.specs.ImportTables.{record_stated, root_members}
-use Rattle.a429_callers.proofs.Icd.Faults.{none_at_all}
+use Rattle.a429_callers.proofs.Icd.Faults.{has_few, none_at_all, outputs_few}
 use Rattle.a429_callers.proofs.Icd.Groups.{new_number}
 use Rattle.a429_callers.proofs.Icd.Records.{is_renumbered, sent_part}
 use Rattle.a429_callers.proofs.Icd.Fields.{texts}
 use Rattle.a429_callers.proofs.Icd.Texts.{heading_is_first, quotes_are_right}
-use Rattle.a429_callers.proofs.Icd.Rows.{no_row_is_wide, read_table, rows_stated_are}
+use Rattle.a429_callers.proofs.Icd.Rows.{read_table, rows_stated_are}
 use Rattle.a429_import.proofs.ImportRanges.{same_ok}
 use Rattle.a429_callers.proofs.Icd.OwnWords.{IsReadTable, read_table_is}
 use Rattle.a429_callers.proofs.Icd.RenumberedPlans.{IsRenumbered, is_plan, renumbered_plan, one_text}
@@ -89,7 +89,7 @@ module _ (bytes : List ℕ) (a : Proposed) (A : IsWholeInIcd bytes a) (one_plan 
   no_fault = none_at_all a.station sound A.no_filters station_read.words
 
   lines_state : (lines : List CsvLine) → AreNamedLines [] (icd_csv a) lines → rows_stated lines ≡ Ok rows
-  lines_state lines are = unnamed are.1 are.0 lines are.3 ∙ rows_stated_are a.station sound a.plan are.0 A.plan are.2
+  lines_state lines are = unnamed are.1 are.0 lines are.3 ∙ rows_stated_are a.station sound (has_few a.station sound A.no_filters station_read.words) (outputs_few a.station sound A.no_filters station_read.words) a.plan are.0 A.plan are.2
 
   of_lines : (lines : List CsvLine) → AreNamedLines [] (icd_csv a) lines → (result : Result Imported ImportFault) → IsImportOf lines result → ImportsPlan a result
   of_lines lines are (Ok imported) imports =
@@ -102,15 +102,11 @@ module _ (bytes : List ℕ) (a : Proposed) (A : IsWholeInIcd bytes a) (one_plan 
       }
   of_lines lines are (Err NoMemory) imports = tt
   of_lines lines are (Err (Csv line kind column)) imports = cc (sym imports ∙ lines_state lines are)
-  of_lines lines are (Err (Wide line)) imports = absurd imports
   of_lines lines are (Err (Table fault.NoMemory)) imports = absurd imports
   of_lines lines are (Err (Table (fault.At kind place))) imports =
       let same : imports.0 ≡ rows = same_ok imports.0 rows (sym imports.1 ∙ lines_state lines are) in
       let none : first (faults (table (root_members imports.0))) ≡ None = ap (λ (rows : List ImportRow). first (faults (table (root_members rows)))) same ∙ ap first no_fault in
       absurd (none-some (kind, place) (sym none ∙ imports.2))
-
-  narrow : is_wide_text [] (icd_csv a) ≡ false
-  narrow = no_row_is_wide a.station sound a.plan A.plan
 
   fit : (is_misquoted_text [] (icd_csv a) || has_row_above [] (icd_csv a)) ≡ false
   fit =
@@ -123,11 +119,10 @@ module _ (bytes : List ℕ) (a : Proposed) (A : IsWholeInIcd bytes a) (one_plan 
       of_lines of.0 of.1 result of.2
 
   of_text : (result : Result Imported ImportFault) → IsImport [] plainly (icd_csv a) result → ImportsPlan a result
-  of_text (Ok imported) imports = of_rows (Ok imported) imports.1
+  of_text (Ok imported) imports = of_rows (Ok imported) imports
   of_text (Err NoMemory) imports = tt
-  of_text (Err (Csv line kind column)) imports = of_rows (Err (Csv line kind column)) imports.1
-  of_text (Err (Wide line)) imports = cc (sym imports ∙ narrow)
-  of_text (Err (Table f)) imports = of_rows (Err (Table f)) imports.1
+  of_text (Err (Csv line kind column)) imports = of_rows (Err (Csv line kind column)) imports
+  of_text (Err (Table f)) imports = of_rows (Err (Table f)) imports
 
 pub same_plan : PlansAreUnique → ImportedIcdIsSamePlan
 same_plan one_plan bytes a result A imports = of_text bytes a A one_plan result imports

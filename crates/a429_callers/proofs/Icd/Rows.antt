@@ -1,7 +1,7 @@
 -- The rows that the lines of an interface control document state.
-use Rattle.std.proofs.Common.{◌≡◌, ◌∙◌, ℕ, ◌<◌, ◌≤◌, ◌^◌, Bool, true, false, List, [], ◌∷◌, ◌++◌, length, map, get_or, drop, Option, None, Some, Result, Ok, Err, ap, sym, refl, arith, inl, inr, append_assoc, append-nil, eq-eqb, eqb-true}
+use Rattle.std.proofs.Common.{◌≡◌, ◌∙◌, ℕ, ◌<◌, ◌≤◌, ◌^◌, Bool, true, false, List, [], ◌∷◌, ◌++◌, length, map, get_or, drop, Option, None, Some, Result, Ok, Err, ap, sym, refl, arith, inl, inr, append_assoc, append-nil, eq-eqb, eqb-true, subst}
 use Rattle.std.specs.Prelude.{◌==◌, ◌&&◌, IfSome, if◌then◌else◌, not, nat_lt, slice_get, slice_index_or}
-use Rattle.std.specs.List.{AllByRecursion, AllZip, zip}
+use Rattle.std.specs.List.{AllByRecursion, AllZip, count_by, zip}
 use Rattle.std.specs.Option.{option_map_or, option_or}
 use Rattle.std.specs.Str.{bytes_eq}
 use Rattle.std.proofs.lemmas.List.{length-map}
@@ -28,16 +28,18 @@ use Rattle.a429_import.specs.declared.fault.ImportColumn.TheVariants.{Filters, L
 use Rattle.a429_import.specs.declared.lines.CsvLine.{CsvLine}
 use Rattle.a429_import.specs.declared.rows.ImportRow.{ImportRow}
 use Rattle.a429_documents.specs.Document.{groups_rows, icd_columns, icd_rows, output_row, output_rows, receiver_name}
-use Rattle.a429_import.specs.ImportRows.{CsvFault, agreed, clash, first_clash, is_named, joined, next_row, numbers_of, other_clash, row_of, rows_after, rows_stated, source_clash, texts_of, unless_wrong, with_row, without_notes, wrong_column, is_wrong}
-use Rattle.a429_import.specs.ImportTables.{has_group, is_known}
+use Rattle.a429_import.specs.ImportLimits.{has_too_many_filters, too_many}
+use Rattle.a429_import.specs.ImportRows.{◌>>=◌, CsvFault, agreed, clash, first_clash, is_named, joined, limited, next_row, numbers_of, other_clash, row_of, rows_after, rows_stated, source_clash, texts_of, unless_wrong, with_row, without_notes, wrong_column, is_wrong}
+use Rattle.a429_import.specs.ImportTables.{has_group, is_known, same_name, words}
 use Rattle.a429_import.specs.ImportWords.{stepped, trimmed}
-use Rattle.a429_import.specs.declared.firsts.Part.TheVariants.{Sources}
+use Rattle.a429_import.specs.declared.firsts.Part.TheVariants.{Groups, Sources}
+use Rattle.a429_import.proofs.FewRows.{HasFew, none_too_many}
 use Rattle.a429_import.proofs.ImportNotes.{no_notes}
-use Rattle.a429_import.specs.Imports.{AreLines, has_text, is_wide, is_wide_text}
+use Rattle.a429_import.specs.Imports.{AreLines, has_text}
 use Rattle.a429_text.specs.Fields.{Field}
 use Rattle.a429_text.specs.Sheets.{csv_text_of}
 use Rattle.a429_callers.proofs.Icd.Fields.{texts, IsReadable, name_filled, read_row, row_back, row_by, row_filled, row_from}
-use Rattle.a429_callers.proofs.Icd.Texts.{AreNarrow, AreRowsOf, HaveTexts, lines_back, no_wide_row, read_row_of}
+use Rattle.a429_callers.proofs.Icd.Texts.{AreRowsOf, HaveTexts, lines_back, read_row_of}
 use Rattle.a429_import.proofs.RowsInRecord.{IsAt}
 
 -- ---- what is read
@@ -159,8 +161,19 @@ module _ (e : TableRecord) (sound : IsSound e) where
       let good : IsGroupRow R.group = all_at IsGroupRow e.groups R.group_at.0 R.group sound.group_rows R.group_at.1 in
       ap (λ (name : List ℕ). not (length name == 0)) R.group_name ∙ name_filled R.group.name good.0
 
-  kept_row : (earlier : List ImportRow) (row : ImportRow) → IsRowOf e row → with_row earlier row ≡ earlier ++ row ∷ []
-  kept_row earlier row R = ap (λ (b : Bool). if not b && is_known Sources earlier row then earlier else earlier ++ row ∷ []) (has_group_of row R)
+  kept_row : (line : ℕ) (earlier : List ImportRow) (row : ImportRow) → IsRowOf e row → too_many (earlier ++ row ∷ []) row ≡ None → with_row line earlier row ≡ Ok (earlier ++ row ∷ [])
+  kept_row line earlier row R none =
+      let all : List ImportRow = earlier ++ row ∷ [] in
+      ap (λ (b : Bool). if not b && is_known Sources earlier row then Ok earlier else limited line all (too_many all row)) (has_group_of row R) ∙ ap (limited line all) none
+
+  -- a row of the document has no filters
+  no_filters : (row : ImportRow) → IsRowOf e row → has_too_many_filters row ≡ false
+  unfolding words
+  no_filters row R = ap (λ (text : List ℕ). nat_lt 32 (length (words text))) R.filters
+
+  -- few outputs of each group
+  abbrev pub HaveFewOutputs : List ImportRow → Type 0
+  HaveFewOutputs all = (row : ImportRow) → IsRowOf e row → count_by (same_name Groups row) all ≤ 128
 
   -- ---- which state nothing otherwise
 
@@ -221,15 +234,19 @@ module _ (e : TableRecord) (sound : IsSound e) where
   next_is heading earlier line row is all here = rw is (ap (agreed line.number row) (none_clashes earlier row all here))
 
   after_all : (heading : List (List ℕ)) (lines : List CsvLine) (rows earlier : List ImportRow) → AllZip (λ line row. row_of heading line ≡ Ok row) lines rows → AllByRecursion (IsRowOf e) earlier → AllByRecursion (IsRowOf e) rows
-      → rows_after heading earlier lines ≡ Ok (earlier ++ rows)
-  after_all heading [] [] earlier each all more = ap (λ (rows : List ImportRow). Ok rows) (sym (append-nil earlier))
-  after_all heading [] (row ∷ rows) earlier each all more = absurd each
-  after_all heading (line ∷ lines) [] earlier each all more = absurd each
-  after_all heading (line ∷ lines) (row ∷ rows) earlier each all more =
+      → HasFew (earlier ++ rows) → HaveFewOutputs (earlier ++ rows) → rows_after heading earlier lines ≡ Ok (earlier ++ rows)
+  after_all heading [] [] earlier each all more few outputs = ap (λ (rows : List ImportRow). Ok rows) (sym (append-nil earlier))
+  after_all heading [] (row ∷ rows) earlier each all more few outputs = absurd each
+  after_all heading (line ∷ lines) [] earlier each all more few outputs = absurd each
+  after_all heading (line ∷ lines) (row ∷ rows) earlier each all more few outputs =
+      let same : (earlier ++ row ∷ []) ++ rows ≡ earlier ++ row ∷ rows = append_assoc earlier (row ∷ []) rows in
+      let few_then : HasFew ((earlier ++ row ∷ []) ++ rows) = subst HasFew (sym same) few in
+      let outputs_then : HaveFewOutputs ((earlier ++ row ∷ []) ++ rows) = subst HaveFewOutputs (sym same) outputs in
+      let none : too_many (earlier ++ row ∷ []) row ≡ None = none_too_many earlier row rows few_then (outputs_then row more.0) (no_filters row more.0) in
       rw (next_is heading earlier line row each.0 all more.0)
-      (ap (λ (rows : List ImportRow). rows_after heading rows lines) (kept_row earlier row more.0)
-      ∙ after_all heading lines rows (earlier ++ row ∷ []) each.1 (all_joined (IsRowOf e) earlier (row ∷ []) all (more.0, tt)) more.1
-      ∙ ap (λ (rows : List ImportRow). Ok rows) (append_assoc earlier (row ∷ []) rows))
+      (ap (λ (taken : Result (List ImportRow) CsvFault). taken >>= λ (all : List ImportRow). rows_after heading all lines) (kept_row line.number earlier row more.0 none)
+      ∙ after_all heading lines rows (earlier ++ row ∷ []) each.1 (all_joined (IsRowOf e) earlier (row ∷ []) all (more.0, tt)) more.1 few_then outputs_then
+      ∙ ap (λ (rows : List ImportRow). Ok rows) same)
 
   -- ---- the rows of the document
 
@@ -336,14 +353,14 @@ module _ (e : TableRecord) (sound : IsSound e) where
   unfolding trimmed stepped
   heading_stays = refl
 
-  stated_from : (lines : List CsvLine) (texts : List (List (List ℕ))) → AreRowsOf (icd_columns ∷ texts) lines → AllZip IsReadAs texts (read_table e) → rows_stated lines ≡ Ok (read_table e)
+  stated_from : (lines : List CsvLine) (texts : List (List (List ℕ))) → AreRowsOf (icd_columns ∷ texts) lines → AllZip IsReadAs texts (read_table e) → HasFew (read_table e) → HaveFewOutputs (read_table e) → rows_stated lines ≡ Ok (read_table e)
   unfolding rows_stated
-  stated_from [] texts are read = absurd (longer (read_row_of icd_columns) (map read_row_of texts) are.fields)
-  stated_from (heading ∷ lines) texts are read =
+  stated_from [] texts are read few outputs = absurd (longer (read_row_of icd_columns) (map read_row_of texts) are.fields)
+  stated_from (heading ∷ lines) texts are read few outputs =
       let head : fields_of heading.fields ≡ icd_columns = first_is (fields_of heading.fields) (read_row_of icd_columns) (map (λ (l : CsvLine). fields_of l.fields) lines) (map read_row_of texts) are.fields ∙ heading_stays in
       let rest = later_are (fields_of heading.fields) (read_row_of icd_columns) (map (λ (l : CsvLine). fields_of l.fields) lines) (map read_row_of texts) are.fields in
       let stated : rows_after icd_columns [] lines ≡ Ok (read_table e) =
-      after_all icd_columns lines (read_table e) [] (lines_read lines texts (read_table e) rest are.separators.1 read) tt rows_are in
+      after_all icd_columns lines (read_table e) [] (lines_read lines texts (read_table e) rest are.separators.1 read) tt rows_are few outputs in
       ap (λ (o : Option ImportColumn). unless_wrong heading lines o) (ap wrong_column head ∙ no_wrong_column)
       ∙ ap (λ (h : List (List ℕ)). rows_after h [] (without_notes h lines)) head
       ∙ ap (rows_after icd_columns []) (no_notes icd_columns lines [] (read_table e) stated)
@@ -357,28 +374,11 @@ module _ (e : TableRecord) (sound : IsSound e) where
   have_texts (t ∷ texts) [] read = absurd read
   have_texts (t ∷ texts) (row ∷ rows) read = (ap (λ (fields : List (List ℕ)). has_text (map trimmed fields)) read.0.0 ∙ read.0.1, have_texts texts rows read.1)
 
-  -- a row that is read has as many fields as the heading
-  narrow_by : (t : Bool) (fields : List (List ℕ)) (row : ImportRow) (read : Result ImportRow CsvFault) → (length (map trimmed fields) == length icd_columns) ≡ t → (if t then read else Err (0, Form, None)) ≡ Ok row
-      → is_wide fields ≡ false
-  narrow_by true fields row read same h = ap (nat_lt 100000) (sym (length-map fields trimmed) ∙ eqb-true (length (map trimmed fields)) (length icd_columns) same)
-  narrow_by false fields row read same h = cc
-
-  are_narrow : (texts : List (List (List ℕ))) (rows : List ImportRow) → AllZip IsReadAs texts rows → AreNarrow texts
-  are_narrow [] rows read = tt
-  are_narrow (t ∷ texts) [] read = absurd read
-  are_narrow (t ∷ texts) (row ∷ rows) read =
-      let fields : List (List ℕ) = map trimmed t in
-      let here = narrow_by (length fields == length icd_columns) t row (joined 0 (numbers_of 44 icd_columns fields) (texts_of icd_columns fields)) refl (read.0.2 0) in
-      (ap is_wide read.0.0 ∙ here, are_narrow texts rows read.1)
-
   all_read : (p : PlanTable) → IsPlanOf e p → AllZip IsReadAs (map texts (icd_rows false e p)) (read_table e)
   all_read p planned =
       zip_texts (icd_rows false e p) (read_table e) (groups_read e.groups e.outputs (groups_of p) planned.groups sound.group_rows sound.known_sources sound.intervals sound.holds)
 
-  pub no_row_is_wide : (p : PlanTable) → IsPlanOf e p → is_wide_text [] (csv_text_of (icd_columns ∷ map texts (icd_rows false e p))) ≡ false
-  no_row_is_wide p planned = no_wide_row (map texts (icd_rows false e p)) (refl, are_narrow (map texts (icd_rows false e p)) (read_table e) (all_read p planned))
-
-  pub rows_stated_are : (p : PlanTable) (lines : List CsvLine) → IsPlanOf e p → AreLines [] (csv_text_of (icd_columns ∷ map texts (icd_rows false e p))) lines → rows_stated lines ≡ Ok (read_table e)
-  rows_stated_are p lines planned are =
+  pub rows_stated_are : HasFew (read_table e) → HaveFewOutputs (read_table e) → (p : PlanTable) (lines : List CsvLine) → IsPlanOf e p → AreLines [] (csv_text_of (icd_columns ∷ map texts (icd_rows false e p))) lines → rows_stated lines ≡ Ok (read_table e)
+  rows_stated_are few outputs p lines planned are =
       let read = all_read p planned in
       stated_from lines (map texts (icd_rows false e p)) (lines_back (map texts (icd_rows false e p)) lines (heading_filled, have_texts (map texts (icd_rows false e p)) (read_table e) read) are) read

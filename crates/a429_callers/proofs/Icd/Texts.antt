@@ -17,10 +17,10 @@ use Rattle.a429_documents.specs.Document.{icd_columns}
 use Rattle.a429_import.specs.ImportForms.{ends_line, first_line, from_heading, from_line, heading_among, heading_of, is_heading, separator_in, separators, without_byte_order_mark}
 use Rattle.a429_import.specs.ImportRows.{is_named}
 use Rattle.a429_import.specs.ImportWords.{stepped, trimmed}
-use Rattle.a429_import.specs.Imports.{AreLines, has_row_above, has_text, has_wide_row, is_misquoted_text, is_wide, is_wide_text, separated}
+use Rattle.a429_import.specs.Imports.{AreLines, has_row_above, has_text, is_misquoted_text, separated}
 use Rattle.a429_import.specs.ImportQuotes.{has_wrong_quotes, is_misquoted, is_misquoted_from}
 use Rattle.a429_import.proofs.FirstPlaces.{position_first}
-use Rattle.a429_import.proofs.HeadingFirst.{no_row_above, no_wide_row_above, nothing_before}
+use Rattle.a429_import.proofs.HeadingFirst.{no_row_above, nothing_before}
 use Rattle.a429_import.proofs.ImportForms.{among_here}
 use Rattle.a429_import.proofs.WrittenQuotes.{written_right}
 
@@ -156,26 +156,6 @@ lines_back rows lines texts h =
       fields = ap (map (λ (l : CsvLine). fields_of l.fields)) lines_are ∙ same;
       separators = subst (λ (ls : List CsvLine). AllByRecursion (λ l. l.separator ≡ 44) ls) (sym lines_are) (subst (λ (s : ℕ). AllByRecursion (λ l. l.separator ≡ s) h.all) separator h.separators);
     }
-
--- ---- no row has too many fields
-
--- each row has few fields
-abbrev pub AreNarrow : List (List (List ℕ)) → Type 0
-AreNarrow rows = AllByRecursion (λ row. is_wide (read_back row) ≡ false) rows
-
-none_wide : (n : ℕ) (rows : List (List (List ℕ))) → AreNarrow rows → list_any is_wide (records_from default_config n st.StartRecord (text_of rows)) ≡ false
-unfolding records_from
-none_wide zero rows narrow = refl
-none_wide (suc n) [] narrow = ap (λ (o : Option Read). list_any is_wide (records_next (records_from default_config n) o)) no_record
-none_wide (suc n) (row ∷ rows) narrow =
-    ap (λ (o : Option Read). list_any is_wide (records_next (records_from default_config n) o)) (first_record row rows)
-    ∙ ap₂ (λ (a b : Bool). a || b) narrow.0 (none_wide n rows narrow.1)
-
-pub no_wide_row : (rows : List (List (List ℕ))) → AreNarrow (icd_columns ∷ rows) → is_wide_text [] (csv_text_of (icd_columns ∷ rows)) ≡ false
-unfolding csv_text_of has_wide_row
-no_wide_row rows narrow =
-    no_wide_row_above [] (text rows) (from_itself rows)
-    ∙ ap₂ (λ (s : ℕ) (xs : List ℕ). has_wide_row s xs) (commas_separate rows) (unmarked rows) ∙ none_wide (length (text rows) + 1) (icd_columns ∷ rows) narrow
 
 -- ---- no row is above the heading
 

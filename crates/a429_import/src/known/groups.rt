@@ -1,20 +1,19 @@
 //! The groups of rows, each with its bit rate and the number of its outputs.
-ghost use Rattle.std.specs.Prelude.{◌≡◌, ◌++◌, ◌∷◌, [], ◌<◌, if◌then◌else◌, true, IfOk, List, None, OnOk, Option, Some, length, map, min, slice_get, slice_index_or};
-ghost use Rattle.std.specs.List.{position_from};
+ghost use Rattle.std.specs.Prelude.{◌≡◌, ◌&&◌, ◌++◌, ◌∷◌, [], ◌<◌, if◌then◌else◌, true, IfOk, List, None, OnOk, Option, Some, length, map, min, nat_lt, slice_get, slice_index_or};
 ghost use Rattle.a429_import.specs.declared.firsts.Part.TheVariants as part;
 ghost use Rattle.a429_import.specs.declared.rows.ImportRow.{ImportRow};
 ghost use Rattle.a429_import.specs.ImportClashes.{Agree, first_part_clash};
-ghost use Rattle.a429_import.specs.ImportLimits.{has_too_many_outputs, has_wrong_rate};
+ghost use Rattle.a429_import.specs.ImportLimits.{has_too_many_outputs};
 ghost use Rattle.a429_import.specs.ImportTables.{groups_of};
 ghost use Rattle.a429_import.specs.ImportTexts.{row_view};
-ghost use Rattle.a429_import.specs.Known.{KnowsGroups, are_groups_full, one_more, one_output, rate_clash};
+ghost use Rattle.a429_import.specs.Known.{KnowsGroups, one_more, one_output, rate_clash};
 
 use crate::clashes::{RowClash, numbered};
 use crate::fault::ImportColumn;
-use crate::limits::{count_flags, first_above, first_wrong_rate};
+use crate::limits::count_flags;
 use crate::named_rows::{FoundName, NamedRows};
 use crate::rows::RowFields;
-use a429_equipment::{GROUPS, OUTPUTS};
+use a429_equipment::OUTPUTS;
 use std::alloc::{AllocError, Global};
 
 /// The groups of rows, each with the bit rate that its first row states.
@@ -46,6 +45,13 @@ fn count(outputs: &mut Vec<u8>, place: usize)
     if place < outputs.len() {
         outputs[place] = one_output(outputs[place]);
     }
+}
+
+/// Whether these are too many outputs, if the flag is set.
+fn is_above(flag: bool, outputs: usize) -> bool
+    ensures { result ≡ (flag && nat_lt 128 outputs) }
+{
+    flag && OUTPUTS < outputs
 }
 
 impl KnownGroups {
@@ -110,26 +116,24 @@ impl KnownGroups {
         count_flags(&self.flags)
     }
 
-    /// The number of the first group with a wrong bit rate. `None` if there is none.
-    pub fn wrong_rate(&self) -> Option<usize>
-        ensures { (rows : List ImportRow) → KnowsGroups self.now rows
-            → result ≡ position_from has_wrong_rate 0 (groups_of rows) }
+    /// The number of outputs of the group at a place, up to one above the limit; 0 if there is no such group.
+    fn outputs_at(&self, place: usize) -> usize
+        ensures { result ≡ slice_index_or self.now.outputs.items place 0 }
     {
-        first_wrong_rate(&self.flags, &self.rates)
+        match self.outputs.get(place) {
+            Some(count) => usize::from(*count),
+            None => 0,
+        }
     }
 
-    /// The number of the first group with too many outputs. `None` if there is none.
-    pub fn too_many_outputs(&self) -> Option<usize>
-        ensures { (rows : List ImportRow) → KnowsGroups self.now rows
-            → result ≡ position_from (has_too_many_outputs rows) 0 (groups_of rows) }
+    /// Whether there are too many outputs of a row's group.
+    pub fn has_too_many_outputs(&self, row: &RowFields<'_>) -> bool
+        requires { (rows : List ImportRow) × KnowsGroups self.now rows }
+        ensures { (rows : List ImportRow) → KnowsGroups self.now rows → result ≡ has_too_many_outputs rows (row_view row.now) }
     {
-        first_above(&self.flags, &self.outputs)
-    }
-
-    /// Whether there are too many groups, or a group has too many outputs.
-    pub fn are_full(&self) -> bool
-        ensures { (rows : List ImportRow) → KnowsGroups self.now rows → result ≡ are_groups_full rows }
-    {
-        GROUPS < self.len() || self.too_many_outputs().is_some()
+        match self.named.find(row.texts.group) {
+            Some(found) => is_above(!row.texts.group.is_empty(), self.outputs_at(found.place)),
+            None => false,
+        }
     }
 }

@@ -1,21 +1,17 @@
 //! The receivers of rows, each with its filters.
 ghost use Rattle.std.specs.Prelude.{◌≡◌, ◌++◌, ◌∷◌, [], if◌then◌else◌, IfOk, List, None, OnOk, Some, length};
-ghost use Rattle.std.specs.List.{position_from};
 ghost use Rattle.std.specs.Str.{bytes_eq};
 ghost use Rattle.a429_import.specs.declared.firsts.Part.TheVariants as part;
 ghost use Rattle.a429_import.specs.declared.rows.ImportRow.{ImportRow};
 ghost use Rattle.a429_import.specs.FirstRows.{first_from};
 ghost use Rattle.a429_import.specs.ImportClashes.{Agree, first_part_clash};
 ghost use Rattle.a429_import.specs.ImportFields.{field_in};
-ghost use Rattle.a429_import.specs.ImportLimits.{has_too_many_filters};
-ghost use Rattle.a429_import.specs.ImportTables.{firsts};
 ghost use Rattle.a429_import.specs.ImportTexts.{row_view};
 ghost use Rattle.a429_import.specs.Known.{KnowsReceivers, filters_clash};
 ghost use Rattle.a429_import.specs.Names.{AreTexts, texts_of};
 
 use crate::clashes::{RowClash, numbered};
 use crate::fault::ImportColumn;
-use crate::limits::{first_true, has_too_many_filters};
 use crate::named_rows::NamedRows;
 use crate::rows::RowFields;
 use crate::texts::Texts;
@@ -26,8 +22,6 @@ use std::alloc::{AllocError, Global};
 pub struct KnownReceivers {
     pub named: NamedRows,
     filters: Texts,
-    /// Whether there are too many filters.
-    too_many: Vec<bool>,
 }
 
 impl KnownReceivers {
@@ -38,7 +32,6 @@ impl KnownReceivers {
         Ok(KnownReceivers {
             named: NamedRows::new(alloc, chains)?,
             filters: Texts::new(alloc),
-            too_many: Vec::new(alloc),
         })
     }
 
@@ -86,7 +79,6 @@ impl KnownReceivers {
         }
         self.named.push(row.texts.receiver, number)?;
         self.filters.push(row.texts.filters.as_bytes())?;
-        self.too_many.push(has_too_many_filters(row.texts.filters))?;
         Ok(())
     }
 
@@ -112,13 +104,5 @@ impl KnownReceivers {
             Some(found) => Some(found.first),
             None => None,
         }
-    }
-
-    /// The number of the first receiver with too many filters. `None` if there is none.
-    pub fn too_many_filters(&self) -> Option<usize>
-        ensures { (rows : List ImportRow) → KnowsReceivers self.now rows
-            → result ≡ position_from has_too_many_filters 0 (firsts part.Receivers rows) }
-    {
-        first_true(&self.too_many)
     }
 }

@@ -5,27 +5,22 @@ use Rattle.a429_import.specs.ImportTables.{record_stated, root_members}
 use Rattle.a429_import.specs.KeptFields.{lines_kept}
 use Rattle.a429_import.specs.Known.{Knows}
 use Rattle.a429_import.specs.TableTexts.{IsTableText, rows_before}
-use Rattle.a429_import.proofs.FullRows.{has_kept}
-use Rattle.a429_import.proofs.ImportLimits.{limit_fault_is_first}
 use Rattle.a429_import.proofs.Imports.{record_read, table_refused}
 use Rattle.a429_import.proofs.ImportRanges.{same_ok}
 use Rattle.a429_import.proofs.PrintedTables.{pieces_read}
 use Rattle.a429_import.proofs.import.table_of_rows.Goals as goal
 
-pub returns-in-Some : goal.returns-in-Some
-returns-in-Some c = λ rows has ranges. limit_fault_is_first rows (c.in-Some.kind, c.in-Some.place) (sym (c.limit_fault.ensures rows has.known) ∙ c.in-Some.is)
-
 pub table_text-requires : goal.table_text-requires
 table_text-requires c =
     let (rows, has) = c.requires.rows in
     record {
-      known = subst (Knows c.args.read.now.known) (sym (c.deref.ensures.value ∙ has_kept c.args.read.now rows c.limit_fault.result has (c.limit_fault.ensures rows has.known) c.in-None.is)) has.known;
+      known = subst (Knows c.args.read.now.known) (sym (c.deref.ensures.value ∙ has.kept)) has.known;
       comments = c.requires.comments;
     }
 
 pub returns-in-Ok : goal.returns-in-Ok
 returns-in-Ok c = λ rows has ranges.
-    let kept : c.deref.result.now ≡ rows = c.deref.ensures.value ∙ has_kept c.args.read.now rows c.limit_fault.result has (c.limit_fault.ensures rows has.known) c.in-None.is in
+    let kept : c.deref.result.now ≡ rows = c.deref.ensures.value ∙ has.kept in
     let bytes : List ℕ = c.as_bytes.result.now in
     let same : bytes ≡ string_bytes c.in_ok-text.text = c.as_bytes.ensures.value ∙ c.as_str.ensures.value in
     let text = subst (λ rs. IsTableText (lines_kept c.args.comments.kept.now) (rows_before c.args.comments.made_of) rs (string_bytes c.in_ok-text.text)) kept c.in_ok-text.ensures in
@@ -36,7 +31,7 @@ returns-in-Ok c = λ rows has ranges.
 
 pub returns-in-Err : goal.returns-in-Err
 returns-in-Err c = λ rows has ranges.
-    let kept : c.deref.result.now ≡ rows = c.deref.ensures.value ∙ has_kept c.args.read.now rows c.limit_fault.result has (c.limit_fault.ensures rows has.known) c.in-None.is in
+    let kept : c.deref.result.now ≡ rows = c.deref.ensures.value ∙ has.kept in
     let bytes : List ℕ = c.as_bytes.result.now in
     let same : bytes ≡ string_bytes c.in_ok-text.text = c.as_bytes.ensures.value ∙ c.as_str.ensures.value in
     let text = subst (λ rs. IsTableText (lines_kept c.args.comments.kept.now) (rows_before c.args.comments.made_of) rs (string_bytes c.in_ok-text.text)) kept c.in_ok-text.ensures in

@@ -1,7 +1,7 @@
 use Rattle.std.proofs.Common.{◌∙◌, ◌||◌, ◌+◌, Bool, List, ℕ, ap, drop, get_or, refl, sym}
 use Rattle.csv.specs.declared.parser.Config.{Config}
 use Rattle.a429_import.specs.ImportQuotes.{is_misquoted_from}
-use Rattle.a429_import.specs.ImportWidths.{state_of}
+use Rattle.a429_import.specs.ImportSteps.{state_of}
 use Rattle.a429_import.specs.Imports.{separated}
 use Rattle.a429_import.proofs.ImportQuotes.{at_end_of, passed_to}
 use Rattle.a429_import.proofs.quotes.misquoted_place.Goals as goal

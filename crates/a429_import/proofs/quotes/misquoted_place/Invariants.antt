@@ -1,7 +1,7 @@
 use Rattle.std.proofs.Common.{◌≡◌, drop}
 use Rattle.csv.specs.declared.parser.State.TheVariants as st
 use Rattle.a429_import.specs.ImportQuotes.{is_misquoted_from}
-use Rattle.a429_import.specs.ImportWidths.{state_of}
+use Rattle.a429_import.specs.ImportSteps.{state_of}
 use Rattle.a429_import.specs.Imports.{separated}
 use Rattle.a429_import.proofs.quotes.misquoted_place.Given as goal
 

@@ -7,7 +7,7 @@ use Rattle.a429_import.proofs.ImportNotes.{held_taken, row_taken}
 use Rattle.a429_import.proofs.reading.take_stated.Goals as goal
 
 pub take_below-requires : goal.take_below-requires
-take_below-requires c = let known = c.requires.below.1 in (known.rows, known.has.known)
+take_below-requires c = let known = c.requires.below.1 in (known.rows, known.has)
 
 pub returns-in-Some : goal.returns-in-Some
 returns-in-Some c = λ below known.

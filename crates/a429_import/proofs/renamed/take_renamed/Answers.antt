@@ -5,4 +5,4 @@ use Rattle.a429_import.proofs.renamed.take_renamed.Goals as goal
 
 pub returns : goal.returns
 returns c = λ all rows known names has.
-    subst (λ (texts : RowTexts). HasRows c.take_new.new.read (rows ++ (record { texts = texts; numbers = c.args.row.now.numbers }) ∷ [])) (c.names_of.ensures all known names) (c.in_ok-take_new.ensures rows has)
+    subst (λ (texts : RowTexts). HasRows c.push_row.new.read (rows ++ (record { texts = texts; numbers = c.args.row.now.numbers }) ∷ [])) (c.names_of.ensures all known names) (c.in_ok-push_row.ensures rows has)

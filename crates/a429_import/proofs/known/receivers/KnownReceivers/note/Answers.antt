@@ -1,4 +1,4 @@
-use Rattle.std.proofs.Common.{◌∙◌, ◌∷◌, ◌++◌, [], Bool, ap, List, ℕ}
+use Rattle.std.proofs.Common.{◌∙◌, ◌∷◌, ◌++◌, [], ap, List, ℕ}
 use Rattle.a429_import.specs.declared.firsts.Part.TheVariants.{Receivers}
 use Rattle.a429_import.specs.declared.known.receivers.KnownReceivers.{KnownReceivers}
 use Rattle.a429_import.specs.declared.rows.ImportRow.{ImportRow}
@@ -19,7 +19,7 @@ returns-in-Some c = λ rows number knows.
 pub returns : goal.returns
 returns c = λ rows number knows.
     let old : KnownReceivers = c.args.self.now in
-    let new : KnownReceivers = record { named = c.push.new.self; filters = c.push-2.new.self; too_many = c.push-3.new.self } in
+    let new : KnownReceivers = record { named = c.push.new.self; filters = c.push-2.new.self } in
     let row : ImportRow = row_view c.args.row.now in
     let nowhere = none_found old.named _ c.in-None.ensures in
-    receivers_added old new rows row knows c.in_ok-push.ensures.indexed c.in_ok-push.ensures.names (c.in_ok-push.ensures.firsts ∙ ap (λ (n : ℕ). numbers_of old.named.firsts ++ n ∷ []) number) nowhere (c.in_ok-push-2.ensures.texts ∙ ap (λ (b : List ℕ). texts_of old.filters ++ b ∷ []) c.as_bytes.ensures.value) c.in_ok-push-2.ensures.are (c.in_ok-push-3.ensures.items ∙ ap (λ (b : Bool). old.too_many.items ++ b ∷ []) c.has_too_many_filters.ensures)
+    receivers_added old new rows row knows c.in_ok-push.ensures.indexed c.in_ok-push.ensures.names (c.in_ok-push.ensures.firsts ∙ ap (λ (n : ℕ). numbers_of old.named.firsts ++ n ∷ []) number) nowhere (c.in_ok-push-2.ensures.texts ∙ ap (λ (b : List ℕ). texts_of old.filters ++ b ∷ []) c.as_bytes.ensures.value) c.in_ok-push-2.ensures.are

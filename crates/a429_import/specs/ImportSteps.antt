@@ -1,0 +1,25 @@
+-- How the library `csv` passes a byte (vocabulary of contracts).
+use Rattle.csv.specs.declared.parser.Action.{Action}
+use Rattle.csv.specs.declared.parser.Action.TheVariants as act
+use Rattle.csv.specs.declared.parser.State.{State}
+use Rattle.csv.specs.declared.parser.State.TheVariants as st
+use Rattle.a429_import.specs.declared.steps.Ended.{Ended}
+use Rattle.a429_import.specs.declared.steps.Ended.TheVariants as ends
+use Rattle.a429_import.specs.declared.steps.Part.{Part}
+use Rattle.a429_import.specs.declared.steps.Part.TheVariants as part
+
+-- the state in which the library `csv` is then
+abbrev pub state_of : Part → State
+state_of part.Row = st.StartRecord
+state_of part.Return = st.AfterCr
+state_of part.Field = st.StartField
+state_of part.Text = st.InField
+state_of part.Quoted = st.InQuoted
+state_of part.Quote = st.AfterQuote
+
+-- what ends when it takes a byte
+abbrev pub ended_by : Action → Ended
+ended_by act.Skip = ends.Nothing
+ended_by act.Copy = ends.Nothing
+ended_by act.EndField = ends.Field
+ended_by act.EndRecord = ends.Row
