@@ -12,6 +12,8 @@ use Rattle.a429_arguments.specs.declared.options.OptionName.{OptionName}
 use Rattle.a429_arguments.specs.declared.options.OptionName.TheVariants as option
 use Rattle.a429_arguments.specs.declared.options.TextForm.{TextForm}
 use Rattle.a429_arguments.specs.declared.options.TextForm.TheVariants as form
+use Rattle.a429_arguments.specs.declared.times.Drift.{Drift}
+use Rattle.a429_arguments.specs.declared.times.Drift.TheVariants as drift
 use Rattle.a429_arguments.specs.declared.times.LogOrigin.{LogOrigin}
 use Rattle.a429_arguments.specs.declared.times.LogOrigin.TheVariants as origin
 use Rattle.a429_arguments.specs.declared.times.Shift.{Shift}
@@ -83,6 +85,18 @@ shift_by text None = option_map shift.Later (number_up_to last_shift text)
 abbrev pub shift_in : Text → Option Shift
 shift_in text = shift_by text (strip_byte 45 text)
 
+-- the most parts in 10^9 by which clocks may drift apart: six digits
+abbrev pub last_drift : ℕ
+last_drift = 999999
+
+-- by how much a clock is fast, by a text and what follows its minus, if it begins with one
+abbrev pub drift_by : Text → Option Text → Option Drift
+drift_by text (Some digits) = option_map drift.Slow (number_up_to last_drift digits)
+drift_by text None = option_map drift.Fast (number_up_to last_drift text)
+
+abbrev pub drift_in : Text → Option Drift
+drift_in text = drift_by text (strip_byte 45 text)
+
 -- a text has this form
 abbrev pub fits : TextForm → Text → Bool
 fits form.Any text = true
@@ -93,6 +107,7 @@ fits form.Order text = bytes_eq text (codes "label") || bytes_eq text (codes "wo
 fits form.Rename text = is_rename text
 fits form.Tolerance text = is_tolerance text
 fits form.Shift text = is_some (shift_in text)
+fits form.Drift text = is_some (drift_in text)
 
 -- ---- what some options say, which are read with a usual value
 
@@ -115,6 +130,10 @@ origin_of given = unwrap_or (option_and_then origin_in (text_given given option.
 -- by how much the times of what was sent are moved
 abbrev pub shift_of : Given → Shift
 shift_of given = unwrap_or (option_and_then shift_in (text_given given option.Shift)) (shift.Later 0)
+
+-- by how much their clock is fast
+abbrev pub drift_of : Given → Drift
+drift_of given = unwrap_or (option_and_then drift_in (text_given given option.Drift)) (drift.Fast 0)
 
 -- ---- what was found
 

@@ -3,9 +3,9 @@
 use crate::forms::Verb;
 use crate::options::OptionName;
 use crate::recording_help::{
-    CHANNEL, EVENTS, FROM, HEARD_LOGS, IGNORE, IMPORT_ROWS, JUDGE, JUDGE_END, LAST_TIME, LOG, ONLY,
-    QUIET, RATE, REVERSED, SENT, SHIFT, SIMULATE, SIMULATE_END, SLACK, SUMMARY, SUMMARY_JSON,
-    SURVEY, SURVEY_END, TIME, TOLERANCE, UNTIL,
+    ALIGN, CHANNEL, DRIFT, EVENTS, FROM, HEARD_LOGS, IGNORE, IMPORT_ROWS, JUDGE, JUDGE_END,
+    LAST_TIME, LOG, LOG_MAP, ONLY, QUIET, RATE, REVERSED, SENT, SHIFT, SIMULATE, SIMULATE_END,
+    SLACK, SUMMARY, SUMMARY_JSON, SURVEY, SURVEY_END, TICK, TIME, TOLERANCE, UNTIL,
 };
 
 /// The help of a command: its first line, and its end, which has an example.
@@ -57,7 +57,7 @@ pub fn option_help(verb: Verb, option: OptionName) -> OptionHelp {
         OptionName::Json => ("", JSON),
         OptionName::Stamp => ("", STAMP),
         OptionName::Text => ("", TEXT_LABELS),
-        OptionName::Map => ("HEADING=COLUMN", MAP),
+        OptionName::Map if verb == Verb::Import => ("HEADING=COLUMN", MAP),
         OptionName::Names => ("", NAMES),
         OptionName::Fill => ("", FILL),
         OptionName::All => ("", ALL),
@@ -102,6 +102,10 @@ fn own_help(option: OptionName) -> (&'static str, &'static str) {
         OptionName::KeepColumns => ("HEADING", KEEP_COLUMNS),
         OptionName::Ignore => ("CHANNEL", IGNORE),
         OptionName::Shift => ("US", SHIFT),
+        OptionName::Drift => ("PPB", DRIFT),
+        OptionName::Align => ("", ALIGN),
+        OptionName::Tick => ("NS", TICK),
+        OptionName::Map => ("HEADING=COLUMN", LOG_MAP),
         _ => ("", ""),
     }
 }

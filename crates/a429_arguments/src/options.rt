@@ -45,6 +45,9 @@ pub enum OptionName {
     KeepColumns,
     Ignore,
     Shift,
+    Drift,
+    Align,
+    Tick,
 }
 
 /// Which texts an option takes.
@@ -66,6 +69,8 @@ pub enum TextForm {
     Tolerance,
     /// Microseconds of at most fourteen digits, which may follow a minus.
     Shift,
+    /// Parts in 10^9 of at most six digits, which may follow a minus.
+    Drift,
 }
 
 /// What is given with an option.
@@ -121,7 +126,7 @@ macro_rules! options {
 
 /// The options, in the order of `OptionName`: the name of each without the two hyphens, and what is given with it. The
 /// ranges are those of docs/RULES.md, Limits; that of `--rate` is the bit rate of a line (ARINC 429 Part 1).
-pub static OPTIONS: [(OptionName, &str, OptionKind); 40] = [
+pub static OPTIONS: [(OptionName, &str, OptionKind); 43] = [
     flag!(Csv, "csv"),
     flag!(Json, "json"),
     flag!(Stamp, "stamp"),
@@ -162,6 +167,9 @@ pub static OPTIONS: [(OptionName, &str, OptionKind); 40] = [
     texts!(KeepColumns, "keep-columns", Any),
     texts!(Ignore, "ignore", Any),
     text!(Shift, "shift", Shift),
+    text!(Drift, "drift", Drift),
+    flag!(Align, "align"),
+    number!(Tick, "tick", 1, 1_000_000_000),
 ];
 
 /// The options of the commands that have some, in the order in which help lists them.
@@ -184,15 +192,16 @@ pub const LOAD_OPTIONS: &[OptionName] = options![Limit, Csv, Json, Stamp];
 pub const DIFF_OPTIONS: &[OptionName] = options![All, Csv, Json, Stamp];
 
 pub const SIMULATE_OPTIONS: &[OptionName] = options![
-    Time, From, Channel, Ignore, Reversed, Until, Sent, Summary, Csv, Json
+    Time, Tick, From, Map, Channel, Ignore, Reversed, Until, Sent, Summary, Csv, Json
 ];
 
 pub const SURVEY_OPTIONS: &[OptionName] = options![
-    Time, From, Until, Channel, Ignore, Reversed, Rate, Rows, Slack, Csv, Json
+    Time, Tick, From, Until, Map, Channel, Ignore, Reversed, Rate, Rows, Slack, Csv, Json
 ];
 
 pub const JUDGE_OPTIONS: &[OptionName] = options![
-    In, Tolerance, Events, Time, From, Until, Shift, Channel, Ignore, Reversed, Csv, Json
+    In, Tolerance, Events, Time, Tick, From, Until, Align, Shift, Drift, Map, Channel, Ignore,
+    Reversed, Csv, Json
 ];
 
 pub const ENCODE_OPTIONS: &[OptionName] = options![Sdi, Ssm, Data, Bnr, Bits, Bcd, Csv, Json];

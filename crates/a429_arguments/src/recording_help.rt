@@ -43,10 +43,10 @@ shortest period if that is less]";
 pub const EVENTS: &str = "A row for each finding instead of each output";
 
 pub const JUDGE_END: &str = "\
-Both logs are on one clock, or --shift moves OUT to that of IN. With `--from
-first` times are counted from the first word of IN. There is a row for each
-output, and a row for each group that counts its foreign words. The status is 1
-if something is found:
+Both logs are on one clock, or OUT is moved to that of IN. With `--from first`
+times are counted from the first word of IN. There is a row for each output, and
+a row for each group that counts its foreign words. The status is 1 if something
+is found:
   wrong    the word that was sent did not come in before
   stale    a later word came in before
   soon     it was sent before the minimum interval was over
@@ -98,6 +98,21 @@ pub const LAST_TIME: &str = "Ignore words after US, as --from counts times";
 pub const SHIFT: &str = "\
 Move the times of what the box sent by US, as in
 --shift=-500, to the clock of IN [default: 0]";
+
+pub const DRIFT: &str = "\
+By how much the clock of OUT is fast, in parts in 10^9;
+=-PPB if it is slow [default: 0]";
+
+pub const ALIGN: &str = "\
+Find --shift and --drift by the words that change, and
+print both";
+
+pub const TICK: &str = "\
+Times are hexadecimal counts of NS nanoseconds";
+
+pub const LOG_MAP: &str = "\
+Take a column with this heading as the column COLUMN,
+as in --map Line=channel; may be given again";
 
 pub const SENT: &str = "Only the words that are sent, as a log for `judge`";
 

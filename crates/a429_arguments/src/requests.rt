@@ -3,7 +3,7 @@ ghost use Rattle.std.specs.Prelude.{◌≡◌, ◌<◌, ◌^◌, ℕ, List, Opti
 ghost use Rattle.clap.specs.Words.{HasKind, Text, found_of, one_of, rows_of, subcommand_rows_of};
 ghost use Rattle.a429_arguments.specs.CommandLine.{IsRow, is_flag, name_id, number_id};
 ghost use Rattle.a429_arguments.specs.Texts.{texts_of};
-ghost use Rattle.a429_arguments.specs.Given.{form_of, has_given, long_number_given, number_given, order_of, origin_of, shift_of, text_given, unit_of, values_of};
+ghost use Rattle.a429_arguments.specs.Given.{form_of, has_given, long_number_given, number_given, drift_of, order_of, origin_of, shift_of, text_given, unit_of, values_of};
 ghost use Rattle.a429_arguments.specs.Requests.{AskedBytes, IsRead, asked_of};
 ghost use Rattle.a429_arguments.specs.RequestRows.{AreGivenTexts, AsksFor, IsAskedBy, IsFound, IsGivenNumber, IsGivenText};
 ghost use Rattle.a429_arguments.specs.Numbers.{number_of, number_up_to};
@@ -13,7 +13,7 @@ use crate::command_line::{build_command, words_error};
 use crate::forms::{CommandForm, NameForm, NumberForm, Verb, command_named};
 use crate::options::OptionName;
 use crate::rules::fault_of;
-use crate::times::{LogOrigin, Shift, order_in, origin_in, shift_in, unit_in};
+use crate::times::{Drift, LogOrigin, Shift, drift_in, order_in, origin_in, shift_in, unit_in};
 use crate::values::{has, text_given};
 use a429_logs::{BitOrder, TimeUnit};
 use a429_text::SheetForm;
@@ -130,6 +130,16 @@ impl<'a> Asked<'a> {
         match self.text(OptionName::Shift) {
             Some(text) => shift_in(text).unwrap_or(Shift::Later(0)),
             None => Shift::Later(0),
+        }
+    }
+
+    /// By how much the clock of what was sent is fast: by nothing, unless `--drift` is given.
+    pub fn drift(&self) -> Drift
+        ensures { result ≡ drift_of (asked_of self.now).given }
+    {
+        match self.text(OptionName::Drift) {
+            Some(text) => drift_in(text).unwrap_or(Drift::Fast(0)),
+            None => Drift::Fast(0),
         }
     }
 }

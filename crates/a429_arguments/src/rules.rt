@@ -8,7 +8,7 @@ ghost use Rattle.a429_arguments.specs.Rules.{are_refused, breaks_by, fits_option
 
 use crate::forms::Verb;
 use crate::options::{OptionKind, OptionName, TextForm};
-use crate::times::{origin_in, shift_in, unit_in};
+use crate::times::{drift_in, origin_in, shift_in, unit_in};
 use crate::tolerances::{is_general_twice, is_tolerance};
 use crate::values::has;
 use a429_text::renames::{has_one_from_twice, is_rename};
@@ -32,7 +32,7 @@ pub enum Rule {
 }
 
 /// The rules, in the order in which they are checked. With a command: the rule is for that command alone.
-pub static RULES: [(Rule, Option<Verb>); 31] = [
+pub static RULES: [(Rule, Option<Verb>); 35] = [
     (
         Rule::OneOf(OptionName::Data, OptionName::Bnr, OptionName::Bcd),
         Some(Verb::Encode),
@@ -70,6 +70,10 @@ pub static RULES: [(Rule, Option<Verb>); 31] = [
     (Rule::Excludes(OptionName::Stamp, OptionName::Code), None),
     (Rule::Excludes(OptionName::Keep, OptionName::Csv), None),
     (Rule::Excludes(OptionName::Keep, OptionName::Json), None),
+    (Rule::Fits(OptionName::Drift), None),
+    (Rule::Excludes(OptionName::Align, OptionName::Shift), None),
+    (Rule::Excludes(OptionName::Align, OptionName::Drift), None),
+    (Rule::Excludes(OptionName::Tick, OptionName::Time), None),
 ];
 
 /// What is wrong with arguments that break a rule, for people.
@@ -102,11 +106,18 @@ fn message(rule: Rule) -> &'static str {
         Rule::Fits(OptionName::Shift) => {
             "'--shift <US>' takes a number of at most 14 digits, such as 500, or =-500 for the other way"
         }
+        Rule::Fits(OptionName::Drift) => {
+            "'--drift <PPB>' takes a number of at most 6 digits, such as 50000 for 50 ppm, or =-50000 for the other way"
+        }
         Rule::Fits(_) => "'--from <TIME>' takes 'first' or a number of at most 18 digits",
         Rule::Excludes(OptionName::Stamp, _) => {
             "'--stamp' cannot be used with '--json' or '--c'"
         }
         Rule::Excludes(OptionName::Keep, _) => "'--keep' cannot be used with '--csv' or '--json'",
+        Rule::Excludes(OptionName::Align, _) => {
+            "'--align' cannot be used with '--shift' or '--drift'"
+        }
+        Rule::Excludes(OptionName::Tick, _) => "'--tick' and '--time' cannot be used together",
         Rule::Excludes(OptionName::Csv, _) => "'--csv' and '--json' cannot be used together",
         Rule::Excludes(_, OptionName::Board) => "'--c' and '--board' cannot be used together",
         Rule::Excludes(OptionName::Board, _) => "'--all' and '--board' cannot be used together",
@@ -127,6 +138,7 @@ fn fits(form: TextForm, text: &str) -> bool
         TextForm::Rename => is_rename(text),
         TextForm::Tolerance => is_tolerance(text),
         TextForm::Shift => shift_in(text).is_some(),
+        TextForm::Drift => drift_in(text).is_some(),
     }
 }
 

@@ -2,7 +2,7 @@
 //! order of bits.
 ghost use Rattle.std.specs.Prelude.{◌≡◌, option_map};
 ghost use Rattle.clap.specs.Lexer.{strip_byte};
-ghost use Rattle.a429_arguments.specs.Given.{last_origin, last_shift, order_in, origin_in, shift_in, unit_in};
+ghost use Rattle.a429_arguments.specs.Given.{drift_in, last_drift, last_origin, last_shift, order_in, origin_in, shift_in, unit_in};
 ghost use Rattle.a429_arguments.specs.Numbers.{number_up_to};
 
 use a429_logs::{BitOrder, TimeUnit};
@@ -27,6 +27,16 @@ const LAST_SHIFT: u64 = 99_999_999_999_999;
 pub enum Shift {
     Later(u64),
     Earlier(u64),
+}
+
+/// How far clocks may drift apart, in parts in 10^9: six digits (profile).
+const LAST_DRIFT: u64 = 999_999;
+
+/// By how much a clock is fast or slow against another, in parts in 10^9, 0 to 10^6 - 1.
+#[derive(Clone, Copy, PartialEq, Eq)]
+pub enum Drift {
+    Fast(u64),
+    Slow(u64),
 }
 
 /// The unit that a text states. `None` if it is none of the four that there are.
@@ -117,5 +127,36 @@ pub fn shift_in(text: &str) -> Option<Shift>
     match after_minus(text) {
         Some(digits) => earlier_in(digits),
         None => later_in(text),
+    }
+}
+
+/// How fast a clock is, by the text of that. `None` if the text is no number of at most six digits.
+fn fast_in(text: &str) -> Option<Drift>
+    ensures { result ≡ option_map Drift.Fast (number_up_to last_drift text.now) }
+{
+    match time_in(text, LAST_DRIFT) {
+        Some(parts) => Some(Drift::Fast(parts)),
+        None => None,
+    }
+}
+
+/// How slow it is.
+fn slow_in(text: &str) -> Option<Drift>
+    ensures { result ≡ option_map Drift.Slow (number_up_to last_drift text.now) }
+{
+    match time_in(text, LAST_DRIFT) {
+        Some(parts) => Some(Drift::Slow(parts)),
+        None => None,
+    }
+}
+
+/// By how much a clock is fast, or slow after a minus, by the text of that. `None` if it is no number of at most six digits,
+/// which may follow a minus.
+pub fn drift_in(text: &str) -> Option<Drift>
+    ensures { result ≡ drift_in text.now }
+{
+    match after_minus(text) {
+        Some(digits) => slow_in(digits),
+        None => fast_in(text),
     }
 }
