@@ -115,6 +115,10 @@ fits form.Drift text = is_some (drift_in text)
 abbrev pub form_of : Given → SheetForm
 form_of given = if has_given given option.Csv then sheet.Csv else (if has_given given option.Json then sheet.Json else sheet.Columns)
 
+-- the unit of the times in a log, if it is given
+abbrev pub given_unit : Given → Option TimeUnit
+given_unit given = option_and_then unit_in (text_given given option.Time)
+
 -- the unit of the times in a log
 abbrev pub unit_of : Given → TimeUnit
 unit_of given = unwrap_or (option_and_then unit_in (text_given given option.Time)) unit.Microseconds

@@ -3,7 +3,7 @@ ghost use Rattle.std.specs.Prelude.{◌≡◌, ◌<◌, ◌^◌, ℕ, List, Opti
 ghost use Rattle.clap.specs.Words.{HasKind, Text, found_of, one_of, rows_of, subcommand_rows_of};
 ghost use Rattle.a429_arguments.specs.CommandLine.{IsRow, is_flag, name_id, number_id};
 ghost use Rattle.a429_arguments.specs.Texts.{texts_of};
-ghost use Rattle.a429_arguments.specs.Given.{form_of, has_given, long_number_given, number_given, drift_of, order_of, origin_of, shift_of, text_given, unit_of, values_of};
+ghost use Rattle.a429_arguments.specs.Given.{form_of, given_unit, has_given, long_number_given, number_given, drift_of, order_of, origin_of, shift_of, text_given, unit_of, values_of};
 ghost use Rattle.a429_arguments.specs.Requests.{AskedBytes, IsRead, asked_of};
 ghost use Rattle.a429_arguments.specs.RequestRows.{AreGivenTexts, AsksFor, IsAskedBy, IsFound, IsGivenNumber, IsGivenText};
 ghost use Rattle.a429_arguments.specs.Numbers.{number_of, number_up_to};
@@ -100,6 +100,16 @@ impl<'a> Asked<'a> {
         match self.text(OptionName::Time) {
             Some(text) => unit_in(text).unwrap_or(TimeUnit::Microseconds),
             None => TimeUnit::Microseconds,
+        }
+    }
+
+    /// The unit of the times in a log. `None` if `--time` is not given.
+    pub fn given_unit(&self) -> Option<TimeUnit>
+        ensures { result ≡ given_unit (asked_of self.now).given }
+    {
+        match self.text(OptionName::Time) {
+            Some(text) => unit_in(text),
+            None => None,
         }
     }
 

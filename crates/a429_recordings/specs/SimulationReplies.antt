@@ -14,7 +14,7 @@ use Rattle.a429_arguments.specs.Texts.{texts_of}
 use Rattle.a429_console.specs.Names.{naming_of}
 use Rattle.a429_console.specs.Outputs.{AppendsPending, IsPut, OrNoMemory, memory_refused}
 use Rattle.a429_console.specs.RefusalText.{OrMemory, refusal_line}
-use Rattle.a429_arguments.specs.Given.{Given, form_of, has_given, long_number_given, order_of, origin_of, unit_of}
+use Rattle.a429_arguments.specs.Given.{Given, form_of, given_unit, has_given, long_number_given, order_of, origin_of}
 use Rattle.a429_arguments.specs.declared.options.OptionName.TheVariants as option
 use Rattle.a429_console.specs.Tables.{IsProposedBy, IsTableRefusal}
 use Rattle.a429_console.specs.declared.refusals.CommandRefusal.{CommandRefusal}
@@ -46,7 +46,7 @@ clock_from origin.First = record { base = None; last = 0 }
 
 -- how the first line of a log is read
 abbrev pub reading_for : Given → Reading
-reading_for given = record { unit = unit_of given; order = order_of given; shape = None; calendar = Open; clock = clock_from (origin_of given) }
+reading_for given = record { unit = given_unit given; order = order_of given; shape = None; has_rows = false; calendar = Open; clock = clock_from (origin_of given) }
 
 -- how lines are written, by whether only the words that are sent have one, and by the form of what is printed
 abbrev pub line_style : Bool → SheetForm → LineStyle

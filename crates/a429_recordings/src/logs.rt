@@ -33,5 +33,5 @@ fn clock_from(from: LogOrigin) -> Clock
 pub fn reading_for(asked: &Asked) -> Reading
     ensures { result ≡ reading_for (asked_of asked.now).given }
 {
-    Reading::new(asked.unit(), clock_from(asked.origin())).with_order(asked.order())
+    Reading::new(asked.given_unit(), clock_from(asked.origin())).with_order(asked.order())
 }

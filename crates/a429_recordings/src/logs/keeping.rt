@@ -9,7 +9,7 @@ ghost use Rattle.a429_recordings.specs.LogViews.{view_of, viewed};
 use crate::logs::views::LogView;
 use a429_console::refusals::evidence::{Evidence, LineEvidence, LogEvidence, LogRefusal};
 use a429_console::refusals::{CommandRefusal, Refused};
-use a429_logs::{LogReader, Reading, Shape, StatedWord};
+use a429_logs::{LogReader, Reading, Shape, StatedWord, TimeUnit};
 use std::alloc::{AllocFailed, Global};
 
 /// Why a word of a log was not kept.
@@ -75,7 +75,7 @@ fn refuse_line<T: WordKeeper>(
         why,
         number: log.number,
         shape,
-        unit: log.reading.unit,
+        unit: log.reading.unit.unwrap_or(TimeUnit::Microseconds),
     };
     Refused::with(
         CommandRefusal::LogLine { line },
