@@ -25,6 +25,7 @@ mod imports;
 mod keeping;
 mod keys;
 mod lists;
+mod log_parts;
 mod logs;
 mod mistakes;
 mod nearest;

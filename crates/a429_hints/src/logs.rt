@@ -3,12 +3,13 @@
 use crate::files::other_file;
 use crate::hint::HintText;
 use crate::lists::{begin_names, has_name, nearest_of};
+use crate::log_parts::field_form;
 use crate::rows::short_text;
 use crate::scripts::{NOT_UTF8, is_script_word, tell_no_word};
 use a429_console::hints::warnings::PassedLines;
 use a429_console::refusals::evidence::{LineEvidence, LogEvidence, LogRefusal};
 use a429_logs::{
-    Column, Fields, HeadingFault, LineFault, Mark, Places, RowFault, TimeUnit, WordPlaces,
+    Column, Fields, HeadingFault, LineFault, Mark, Places, RowFault, TimeUnit, Width, WordPlaces,
 };
 use a429_text::renames::renamed;
 
@@ -30,7 +31,8 @@ struct ReadLine<'a> {
 
 /// The places of the fields in a log without a heading.
 const PLAIN: Places = Places {
-    count: 3,
+    width: Width { all: 3, bare: 3 },
+    unit: None,
     time: 0,
     name: 1,
     word: WordPlaces::Whole(2),
@@ -49,14 +51,14 @@ pub fn tell_log_line<'a>(
     let Ok(text) = str::from_utf8(&line.bytes) else {
         return hint.say_line(NOT_UTF8);
     };
-    let (mark, places) = match log.shape {
-        Some(shape) => (shape.mark, shape.places),
-        None => (Mark::in_line(text.as_bytes()), PLAIN),
+    let (mark, unit, places) = match log.shape {
+        Some(shape) => (shape.mark, shape.unit, shape.places),
+        None => (Mark::in_line(text.as_bytes()), log.unit, PLAIN),
     };
     let read = ReadLine {
         text,
         mark,
-        unit: log.unit,
+        unit,
         places,
         is_first: log.shape.is_none(),
         channels,
@@ -217,14 +219,19 @@ fn tell_group(line: &LineEvidence, read: &ReadLine<'_>, hint: &HintText) {
 /// The names that a column can have.
 fn names_of(column: Column) -> &'static str {
     match column {
-        Column::Time => "time",
+        Column::Time | Column::TimeIn(_) => "time",
         Column::Name => "receiver, channel, bus, group or name",
         Column::Word => "word, hex or data",
         Column::Hex => "data or data_dec",
+        Column::Octal => "data_oct",
+        Column::Binary => "data_bin",
         Column::Decimal => "data_dec",
         Column::Label => "label",
+        Column::HexLabel => "label_hex",
+        Column::DecimalLabel => "label_dec",
         Column::Sdi => "sdi",
         Column::Ssm => "ssm",
+        Column::Parity => "parity",
     }
 }
 
@@ -257,17 +264,30 @@ fn tell_heading(fault: HeadingFault, hint: &HintText) {
 
 /// Says what is wrong with a row.
 fn tell_row(line: &LineEvidence, read: &ReadLine<'_>, fault: RowFault, hint: &HintText) {
-    hint.say_line(match fault {
-        RowFault::Fields => return tell_count(read, hint),
-        RowFault::Time => return tell_time(read, hint),
-        RowFault::Falls => return tell_fall(line, read, hint),
-        RowFault::Word => return tell_word(read, hint),
-        RowFault::Early => "the word comes before the time of --from",
-        RowFault::Label => "the label is not three octal digits, 000 to 377",
-        RowFault::Sdi => "the SDI is not 0 to 3, nor two binary digits",
-        RowFault::Ssm => "the SSM is not 0 to 3, nor two binary digits",
-        RowFault::Value => "the data is not a number of 19 bits",
-    });
+    match fault {
+        RowFault::Fields => tell_count(read, hint),
+        RowFault::Time => tell_time(read, hint),
+        RowFault::Falls => tell_fall(line, read, hint),
+        RowFault::Word => tell_word(read, hint),
+        RowFault::Early => hint.say_line("the word comes before the time of --from"),
+        _ => tell_part(read, fault, hint),
+    }
+}
+
+/// Says what is wrong with a field of a word, and which column it is in.
+fn tell_part(read: &ReadLine<'_>, fault: RowFault, hint: &HintText) {
+    let WordPlaces::Parts(parts) = read.places.word else {
+        return tell_word(read, hint);
+    };
+    let wrong = field_form(&parts, fault);
+    hint.begin(": ");
+    hint.say_two("the {} {?}", wrong.name, field(read, wrong.place));
+    hint.say_two(
+        " in column {} is not {}",
+        wrong.place.saturating_add(1),
+        wrong.form,
+    );
+    hint.end("");
 }
 
 /// Says how many fields a line has, and how many it has to have.
@@ -278,7 +298,7 @@ fn tell_count(read: &ReadLine<'_>, hint: &HintText) {
         _ => "blanks",
     };
     let form = "the number of fields is {}, not {}; fields are separated by {}";
-    hint.line_three(form, count(read), read.places.count, marks);
+    hint.line_three(form, count(read), read.places.width.all, marks);
 }
 
 /// Whether a text is one or more decimal digits.
@@ -289,6 +309,14 @@ fn is_number(text: &str) -> bool {
         }
     }
     !text.is_empty()
+}
+
+/// Whether a text is digits with one point or comma between them.
+fn is_decimal(text: &str) -> bool {
+    match text.split_once(['.', ',']) {
+        Some((whole, fraction)) => is_number(whole) && is_number(fraction),
+        None => false,
+    }
 }
 
 /// Says what is wrong with the form of a time.
@@ -306,11 +334,13 @@ fn tell_time(read: &ReadLine<'_>, hint: &HintText) {
     }
     let fault = if time.starts_with('+') || time.starts_with('-') {
         "has a sign; write the time without it"
+    } else if time.contains('/') {
+        "is not YYYY/MM/DD HH:MM:SS; a date begins with its year, since 02/01 may be a day of January or of February"
     } else if time.contains(':') {
         "is not HH:MM:SS, DDD:HH:MM:SS or YYYY-MM-DDTHH:MM:SS, or has another form than the first time"
     } else if read.unit != TimeUnit::Microseconds {
         "is not a time; a time is a decimal number, such as 12.5"
-    } else if time.contains('.') || time.contains(',') {
+    } else if is_decimal(time) {
         "has a decimal point; a time is in whole microseconds; for seconds give --time s, for milliseconds --time ms"
     } else {
         "is not a time; a time is in whole microseconds, 1 to 18 digits"

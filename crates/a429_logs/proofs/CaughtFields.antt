@@ -65,12 +65,12 @@ left-none place fields none within = omega (arith, ap (λ (l : List (List ℕ)).
 pub left-some : (place : ℕ) (fields : List (List ℕ)) (field : List ℕ) (rest : List (List ℕ)) → drop place fields ≡ field ∷ rest → place < length fields
 left-some place fields field rest some = omega (arith, ap (λ (l : List (List ℕ)). length l) some, length-drop place fields)
 
-pub caught-other : (places : Places) (fields : List (List ℕ)) → (length fields ≡ places.count → ⊥) → None ≡ caught_in places fields
-caught-other places fields other = let no_row : (length fields == places.count) ≡ false = grind (arith, nat_tests) in rw no_row refl
+pub caught-other : (count : ℕ) (places : Places) (fields : List (List ℕ)) → (length fields ≡ count → ⊥) → None ≡ caught_in count places fields
+caught-other count places fields other = let no_row : (length fields == count) ≡ false = grind (arith, nat_tests) in rw no_row refl
 
-pub caught-row : (places : Places) (fields : List (List ℕ)) (place : ℕ) → place ≡ places.count → length fields ≡ place
+pub caught-row : (count : ℕ) (places : Places) (fields : List (List ℕ)) (place : ℕ) → place ≡ count → length fields ≡ place
     → Some (record { time = seen places.time place fields; name = seen places.name place fields; word = seen (word_place places.word) place fields })
-    ≡ caught_in places fields
-caught-row places fields place last all =
-    let row : (length fields == places.count) ≡ true = grind (arith, nat_tests) in
+    ≡ caught_in count places fields
+caught-row count places fields place last all =
+    let row : (length fields == count) ≡ true = grind (arith, nat_tests) in
     rw (row, sym all, seen-all places.time fields, seen-all places.name fields, seen-all (word_place places.word) fields) refl

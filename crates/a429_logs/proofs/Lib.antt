@@ -1,4 +1,5 @@
 mod PartsOfText
+mod QuotedText
 mod MicrosDigits
 mod FoundColumns
 mod CaughtFields
@@ -10,4 +11,6 @@ mod PlainRows
 mod FirstMarks
 mod ReadDigits
 mod Reversals
+mod Parities
+mod Titles
 mod CalendarDays

@@ -23,7 +23,7 @@ pub record IsBuilt (label sdi value ssm raw : ℕ) : Type 0 where
   pub value_is : data_of raw ≡ value
   pub ssm_is : ssm_of raw ≡ ssm
 
-bits_small : (label sdi value ssm : ℕ) → sdi < 4 → value < 2 ^ 19 → ssm < 4 → word_bits label sdi value ssm < 2 ^ 31
+pub bits_small : (label sdi value ssm : ℕ) → sdi < 4 → value < 2 ^ 19 → ssm < 4 → word_bits label sdi value ssm < 2 ^ 31
 bits_small label sdi value ssm s v m = omega (arith, reversed_small label)
 
 -- with its low 31 bits

@@ -8,9 +8,9 @@ use Rattle.std.proofs.lemmas.Bool.{and_parts, ltb-true}
 use Rattle.std.proofs.lemmas.Bool.Decides.{nat_tests}
 use Rattle.std.proofs.lemmas.Option.{cond_some}
 use Rattle.a429_word.specs.Hexadecimal.{raw_word}
-use Rattle.a429_logs.specs.LogColumns.{plain_places}
+use Rattle.a429_logs.specs.LogColumns.{plain_places, width_of}
 use Rattle.a429_logs.specs.LogDates.{calendar_time, or_second, written_time}
-use Rattle.a429_logs.specs.LogFields.{field_in, fields_of, parts_of}
+use Rattle.a429_logs.specs.LogFields.{field_in, fields_of, has_quotes, parts_of}
 use Rattle.a429_logs.specs.LogRows.{in_micros, row_of, unreversed, whole_word}
 use Rattle.a429_logs.specs.LogTimes.{decimal_digits, is_point, micros, time_by, time_of, whole_time}
 use Rattle.a429_logs.specs.declared.fields.Mark.TheVariants.{Blank}
@@ -24,9 +24,9 @@ filled : (x : List ℕ) → 0 < length x → field_in Blank x ≡ Some x
 filled [] some = absurd (omega (arith, some))
 filled (b ∷ bs) some = refl
 
-three_fields : (line t n w : List ℕ) → parts_of Blank line ≡ t ∷ n ∷ w ∷ [] → 0 < length t → 0 < length n → 0 < length w → fields_of Blank line ≡ t ∷ n ∷ w ∷ []
+three_fields : (line t n w : List ℕ) → has_quotes line ≡ false → parts_of Blank line ≡ t ∷ n ∷ w ∷ [] → 0 < length t → 0 < length n → 0 < length w → fields_of Blank line ≡ t ∷ n ∷ w ∷ []
 unfolding fields_of
-three_fields line t n w parts time name word = rw (parts, filled t time, filled n name, filled w word) refl
+three_fields line t n w plain parts time name word = rw (plain, parts, filled t time, filled n name, filled w word) refl
 
 -- ---- times
 
@@ -80,10 +80,10 @@ unfolding whole_word raw_word
 some_word [] raw is = absurd (cc is)
 some_word (b ∷ bs) raw is = omega arith
 
-pub plain_row : (order : BitOrder) (line t n w : List ℕ) (time raw : ℕ) → parts_of Blank line ≡ t ∷ n ∷ w ∷ [] → decimal_digits t ≡ Some time → 0 < length n → whole_word w ≡ Some raw
+pub plain_row : (order : BitOrder) (line t n w : List ℕ) (time raw : ℕ) → has_quotes line ≡ false → parts_of Blank line ≡ t ∷ n ∷ w ∷ [] → decimal_digits t ≡ Some time → 0 < length n → whole_word w ≡ Some raw
     → row_of Microseconds order Blank plain_places (fields_of Blank line) ≡ Ok (in_micros (record { time = time; name = n; raw = unreversed order raw }))
-unfolding row_of
-plain_row order line t n w time raw parts digits name word =
+unfolding row_of width_of
+plain_row order line t n w time raw plain parts digits name word =
     let N = number t time digits in
-    let fields = three_fields line t n w parts N.some name (some_word w raw word) in
+    let fields = three_fields line t n w plain parts N.some name (some_word w raw word) in
     rw (fields, plain_time t time N, word) refl

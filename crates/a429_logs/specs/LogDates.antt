@@ -1,10 +1,10 @@
 -- Times of day, times of the year and dates in a log (profile: log).
-use Rattle.std.specs.Prelude.{◌==◌, ◌&&◌, ◌+◌, ◌-◌, ◌*◌, ◌∷◌, [], ℕ, Bool, List, Option, Some, None, drop, get_or, if◌then◌else◌, length, nat_le, option_map, position, take, unwrap_or}
+use Rattle.std.specs.Prelude.{◌==◌, ◌&&◌, ◌||◌, ◌+◌, ◌-◌, ◌*◌, ◌∷◌, [], ℕ, Bool, List, Option, Some, None, drop, get_or, if◌then◌else◌, length, nat_le, option_map, position, take, unwrap_or}
 use Rattle.a429_logs.specs.GregorianCalendar.{days_before, is_leap, month_length}
 use Rattle.a429_logs.specs.LogFields.{parts_of}
 use Rattle.a429_logs.specs.LogTimes.{decimal_digits, is_point, time_of}
 use Rattle.a429_logs.specs.declared.fields.Mark.{Mark}
-use Rattle.a429_logs.specs.declared.fields.Mark.TheVariants.{Colon, Dash}
+use Rattle.a429_logs.specs.declared.fields.Mark.TheVariants.{Colon, Dash, Slash}
 use Rattle.a429_logs.specs.declared.times.TimeUnit.{TimeUnit}
 use Rattle.a429_logs.specs.declared.times.TimeUnit.TheVariants.{Seconds}
 use Rattle.a429_logs.specs.declared.written.Date.{Date}
@@ -86,7 +86,7 @@ clock_time mark text = or_second (option_map OfDay (day_time mark (parts_of Colo
 
 -- ---- dates
 
--- YYYY-MM-DD (ISO 8601), and the microseconds of the year before that day
+-- YYYY-MM-DD (ISO 8601) or YYYY/MM/DD, and the microseconds of the year before that day
 abbrev pub day_of : Three → Option Date
 day_of t =
     if_some (digits_within 4 0 9999 t.first) (λ year. if_some (digits_within 2 1 12 t.second) (λ month.
@@ -94,7 +94,7 @@ day_of t =
     Some (record { year = year; time = of_day * days_before year month day }))))
 
 unfoldable pub date_of : List ℕ → Option Date
-date_of text = if_some (three_of (parts_of Dash text)) day_of
+date_of text = if_some (or_second (three_of (parts_of Dash text)) (three_of (parts_of Slash text))) day_of
 
 -- a time of day may end in `Z`
 abbrev pub without_zone : List ℕ → List ℕ
@@ -106,9 +106,9 @@ at_time date time = if_some date (λ d. option_map (λ t. OfDate (record d { tim
 unfoldable pub dated_time : Mark → List ℕ → List ℕ → Option WrittenTime
 dated_time mark date time = at_time (date_of date) (day_time mark (parts_of Colon (without_zone time)))
 
--- a date and a time of day have a `T` between them
+-- a date and a time of day have a `T` or a space between them
 abbrev pub is_date_end : ℕ → Bool
-is_date_end b = b == 84
+is_date_end b = b == 84 || b == 32
 
 abbrev pub calendar_by : Mark → List ℕ → Option ℕ → Option WrittenTime
 calendar_by mark text None = clock_time mark text

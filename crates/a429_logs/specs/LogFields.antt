@@ -1,12 +1,15 @@
 -- The lines of a log, and the fields of a line (profile: log).
-use Rattle.std.specs.Prelude.{◌≡◌, ◌==◌, ◌&&◌, ◌-◌, ◌∷◌, [], ℕ, Bool, List, Option, Some, None, MatchOption, if◌then◌else◌, drop, filter_map, length, take}
-use Rattle.std.specs.List.{list_any, prefix_len, slice_split, suffix_len}
+use Rattle.std.specs.Prelude.{◌≡◌, ◌==◌, ◌&&◌, ◌-◌, ◌∷◌, [], ℕ, Bool, false, List, Option, Some, None, MatchOption, if◌then◌else◌, drop, filter_map, get_or, is_some, length, nat_le, not, option_map, position, suc, take}
+use Rattle.std.specs.List.{list_any, onto_first, prefix_len, slice_split, suffix_len}
 use Rattle.std.specs.Option.{option_map_or}
 use Rattle.std.specs.Char.{is_ascii_whitespace}
 use Rattle.a429_logs.specs.declared.fields.Fields.{Fields}
 use Rattle.a429_logs.specs.declared.fields.Mark.{Mark}
-use Rattle.a429_logs.specs.declared.fields.Mark.TheVariants.{LineFeed, Blank, Comma, Semicolon, Colon, Dash}
+use Rattle.a429_logs.specs.declared.fields.Mark.TheVariants.{LineFeed, Blank, Comma, Semicolon, Colon, Dash, Slash}
+use Rattle.a429_logs.specs.declared.fields.LineParts.{LineParts}
+use Rattle.a429_logs.specs.declared.fields.LineParts.TheVariants.{Plain, Quoted}
 use Rattle.a429_logs.specs.declared.fields.Parts.{Parts}
+use Rattle.a429_logs.specs.declared.fields.QuotedParts.{QuotedParts}
 
 -- a byte ends a line, a field, or a part of a time or a date; a blank is a space, a tab, a carriage return or a form feed
 abbrev pub is_mark : Mark → ℕ → Bool
@@ -16,6 +19,7 @@ is_mark Comma b = b == 44
 is_mark Semicolon b = b == 59
 is_mark Colon b = b == 58
 is_mark Dash b = b == 45
+is_mark Slash b = b == 47
 
 -- without the blanks at both ends
 unfoldable pub trimmed : List ℕ → List ℕ
@@ -23,9 +27,53 @@ trimmed s =
     let t = drop (prefix_len is_ascii_whitespace s) s in
     take (length t - suffix_len is_ascii_whitespace t) t
 
+-- the parts of a text before, between and after marks
+abbrev pub parts_of : Mark → List ℕ → List (List ℕ)
+parts_of mark text = slice_split (is_mark mark) text
+
+-- ---- quotes
+
+abbrev pub is_quote : ℕ → Bool
+is_quote b = b == 34
+
+abbrev pub has_quotes : List ℕ → Bool
+has_quotes line = is_some (position is_quote line)
+
+-- each quote opens or closes, so a quote that is doubled leaves all as it was
+abbrev pub turned : Bool → ℕ → Bool
+turned inside b = if is_quote b then not inside else inside
+
+-- a mark inside quotes is none
+abbrev pub ends_part : Mark → Bool → ℕ → Bool
+ends_part mark inside b = not inside && is_mark mark b
+
+-- the place of the first mark outside quotes, from inside of them or outside
+unfoldable pub first_outside : Mark → Bool → List ℕ → Option ℕ
+first_outside mark inside [] = None
+first_outside mark inside (b ∷ bs) = if ends_part mark inside b then Some 0 else option_map suc (first_outside mark (turned inside b) bs)
+
+-- the parts of a text before, between and after marks outside quotes
+unfoldable pub quoted_parts : Mark → Bool → List ℕ → List (List ℕ)
+quoted_parts mark inside [] = [] ∷ []
+quoted_parts mark inside (b ∷ bs) =
+    if ends_part mark inside b then [] ∷ quoted_parts mark false bs else onto_first b (quoted_parts mark (turned inside b) bs)
+
+-- what is between the quotes at both ends, if they are there
+abbrev pub is_quoted : List ℕ → Bool
+is_quoted text = nat_le 2 (length text) && (is_quote (get_or text 0 0) && is_quote (get_or text (length text - 1) 0))
+
+unfoldable pub unquoted : List ℕ → List ℕ
+unquoted text = if is_quoted text then drop 1 (take (length text - 1) text) else text
+
+-- ---- fields
+
+-- a line has a mark outside quotes
+abbrev pub has_mark : Mark → List ℕ → Bool
+has_mark mark line = if has_quotes line then is_some (first_outside mark false line) else list_any (is_mark mark) line
+
 -- what separates the fields of a line: a semicolon if it has one, otherwise a comma if it has one, otherwise blanks
 unfoldable pub mark_in : List ℕ → Mark
-mark_in line = if list_any (is_mark Semicolon) line then Semicolon else if list_any (is_mark Comma) line then Comma else Blank
+mark_in line = if has_mark Semicolon line then Semicolon else if has_mark Comma line then Comma else Blank
 
 -- the field of a part between two marks: between blanks nothing is no field
 abbrev pub field_in : Mark → List ℕ → Option (List ℕ)
@@ -33,13 +81,13 @@ field_in Blank [] = None
 field_in Blank (x ∷ xs) = Some (x ∷ xs)
 field_in _ part = Some (trimmed part)
 
--- the parts of a text before, between and after marks
-abbrev pub parts_of : Mark → List ℕ → List (List ℕ)
-parts_of mark text = slice_split (is_mark mark) text
+abbrev pub quoted_field_in : Mark → List ℕ → Option (List ℕ)
+quoted_field_in mark part = option_map unquoted (field_in mark part)
 
 -- the fields of a line
 unfoldable pub fields_of : Mark → List ℕ → List (List ℕ)
-fields_of mark line = filter_map (field_in mark) (parts_of mark line)
+fields_of mark line =
+    if has_quotes line then filter_map (quoted_field_in mark) (quoted_parts mark false line) else filter_map (field_in mark) (parts_of mark line)
 
 -- a byte order mark (UTF-8) may come first
 abbrev pub without_byte_order_mark : List ℕ → List ℕ
@@ -55,5 +103,12 @@ Takes shown result old new = MatchOption result ((old ≡ []) × (new ≡ [])) (
 abbrev pub parts_left : Parts → List (List ℕ)
 parts_left p = option_map_or (λ text. parts_of p.mark text.now) p.left []
 
+abbrev pub quoted_left : QuotedParts → List (List ℕ)
+quoted_left p = option_map_or (λ text. quoted_parts p.mark false text.now) p.left []
+
+abbrev pub line_fields_left : LineParts → List (List ℕ)
+line_fields_left (Plain p) = filter_map (field_in p.mark) (parts_left p)
+line_fields_left (Quoted p) = filter_map (quoted_field_in p.mark) (quoted_left p)
+
 abbrev pub fields_left : Fields → List (List ℕ)
-fields_left f = filter_map (field_in f.parts.mark) (parts_left f.parts)
+fields_left f = line_fields_left f.parts

@@ -1,10 +1,11 @@
 -- Logs of words, as recorders write them (profile: log): what their lines state, in order, up to the first fault.
-use Rattle.std.specs.Prelude.{◌==◌, ◌-◌, ◌≤◌, ◌∷◌, [], ⊤, ℕ, Bool, true, List, Option, Some, None, Result, Ok, Err, if◌then◌else◌, nat_lt, unwrap_or}
+use Rattle.std.specs.Prelude.{◌==◌, ◌&&◌, ◌||◌, ◌+◌, ◌-◌, ◌≤◌, ◌∷◌, [], ⊤, ℕ, Bool, true, false, List, Option, Some, None, Result, Ok, Err, if◌then◌else◌, is_ok, nat_lt, not, unwrap_or}
+use Rattle.std.specs.Char.{is_ascii_digit}
 use Rattle.std.specs.List.{enumerate_from}
 use Rattle.a429_logs.specs.Calendars.{Timed, timed_row}
-use Rattle.a429_logs.specs.LogColumns.{is_heading, places_of, plain_places}
+use Rattle.a429_logs.specs.LogColumns.{is_heading, places_of, plain_places, width_of}
 use Rattle.a429_logs.specs.LogFields.{fields_of, mark_in, parts_of, trimmed, without_byte_order_mark}
-use Rattle.a429_logs.specs.LogRows.{Stated, row_of, stated_by}
+use Rattle.a429_logs.specs.LogRows.{Stated, field_at, row_of, stated_by}
 use Rattle.a429_logs.specs.declared.clocks.Clock.{Clock}
 use Rattle.a429_logs.specs.declared.columns.HeadingFault.{HeadingFault}
 use Rattle.a429_logs.specs.declared.columns.Places.{Places}
@@ -13,11 +14,15 @@ use Rattle.a429_logs.specs.declared.fields.Mark.TheVariants.{LineFeed}
 use Rattle.a429_logs.specs.declared.reader.LogFault.{LogFault}
 use Rattle.a429_logs.specs.declared.reading.LineFault.{LineFault}
 use Rattle.a429_logs.specs.declared.reading.LineFault.TheVariants.{Heading, Row}
+use Rattle.a429_logs.specs.declared.reading.OpeningLine.{OpeningLine}
+use Rattle.a429_logs.specs.declared.reading.OpeningLine.TheVariants.{Passed, Columns, FirstRow, Title}
 use Rattle.a429_logs.specs.declared.reading.Reading.{Reading}
 use Rattle.a429_logs.specs.declared.reading.Shape.{Shape}
 use Rattle.a429_logs.specs.declared.rows.RowFault.{RowFault}
 use Rattle.a429_logs.specs.declared.rows.RowFault.TheVariants.{Early, Falls}
 use Rattle.a429_logs.specs.declared.rows.StatedWord.{StatedWord}
+use Rattle.a429_logs.specs.declared.times.TimeUnit.{TimeUnit}
+use Rattle.a429_logs.specs.declared.times.TimeUnit.TheVariants.{Microseconds}
 
 -- ---- times, from a base on
 
@@ -66,7 +71,7 @@ abbrev pub with_clock : Reading → Shape → Timed → Result Stated RowFault �
 with_clock reading shape timed (Err why) = record { next = reading; states = Err (Row why) }
 with_clock reading shape timed (Ok word) =
     record {
-      next = record reading { shape = Some shape; calendar = timed.calendar; clock = clock_after reading.clock timed.word };
+      next = record reading { shape = Some shape; has_rows = true; calendar = timed.calendar; clock = clock_after reading.clock timed.word };
       states = Ok (Some word);
     }
 
@@ -78,20 +83,29 @@ with_calendar reading shape (Ok timed) = with_clock reading shape timed (on_cloc
 -- the word of a row in a form
 abbrev pub word_of_row : Reading → List ℕ → Shape → Result Timed RowFault
 word_of_row reading line shape =
-    timed_row reading.calendar (row_of reading.unit reading.order shape.mark shape.places (fields_of shape.mark line))
+    timed_row reading.calendar (row_of shape.unit reading.order shape.mark shape.places (fields_of shape.mark line))
 
 abbrev pub read_row : Reading → List ℕ → Shape → LineRead
 read_row reading line shape = with_calendar reading shape (word_of_row reading line shape)
 
+-- the unit of times: the one that is given, otherwise that of the heading, otherwise the microsecond
+abbrev pub unit_for : Option TimeUnit → Option TimeUnit → TimeUnit
+unit_for (Some unit) heading = unit
+unit_for None heading = unwrap_or heading Microseconds
+
 abbrev pub with_heading : Reading → Mark → Result Places HeadingFault → LineRead
 with_heading reading mark (Err why) = record { next = reading; states = Err (Heading why) }
-with_heading reading mark (Ok places) = record { next = record reading { shape = Some (record { mark = mark; places = places }) }; states = Ok None }
+with_heading reading mark (Ok places) =
+    record {
+      next = record reading { shape = Some (record { mark = mark; unit = unit_for reading.unit places.unit; places = places }) };
+      states = Ok None;
+    }
 
 -- the first line that is not passed over is a heading or a row, and its marks are those of all lines
 abbrev pub read_first : Reading → List ℕ → Mark → LineRead
 read_first reading line mark =
     if is_heading (fields_of mark line) then with_heading reading mark (places_of (fields_of mark line))
-    else read_row reading line (record { mark = mark; places = plain_places })
+    else read_row reading line (record { mark = mark; unit = unit_for reading.unit None; places = plain_places })
 
 abbrev pub read_stated : Reading → List ℕ → Option Shape → LineRead
 read_stated reading line None = read_first reading line (mark_in line)
@@ -102,6 +116,81 @@ read_line reading line =
     if is_passed_over line then record { next = reading; states = Ok None }
     else read_stated reading line reading.shape
 
+-- ---- titles above the heading
+
+-- what a line is before the first heading or row
+abbrev pub names_columns : List ℕ → Bool
+names_columns line = is_heading (fields_of (mark_in line) line) && is_ok (places_of (fields_of (mark_in line) line))
+
+abbrev pub is_plain_row : Reading → List ℕ → Bool
+is_plain_row reading line = is_ok (row_of (unit_for reading.unit None) reading.order (mark_in line) plain_places (fields_of (mark_in line) line))
+
+unfoldable pub opening_line : Reading → List ℕ → OpeningLine
+opening_line reading line =
+    if is_passed_over line then Passed
+    else if names_columns line then Columns
+    else if is_plain_row reading line then FirstRow
+    else Title
+
+-- how many titles there are above a heading, and the lines from the heading on
+pub record Titled : Type 0 where
+  pub titles : ℕ
+  pub lines : List (ℕ × List ℕ)
+
+abbrev pub one_title : Option Titled → Option Titled
+one_title None = None
+one_title (Some t) = Some (record t { titles = t.titles + 1 })
+
+abbrev pub heading_by : OpeningLine → List (ℕ × List ℕ) → Option Titled → Option Titled
+heading_by Passed lines later = later
+heading_by Title lines later = one_title later
+heading_by Columns lines later = Some (record { titles = 0; lines = lines })
+heading_by FirstRow lines later = None
+
+-- the heading is the first line that names the columns, if no row comes before it
+abbrev pub heading_from : Reading → List (ℕ × List ℕ) → Option Titled
+heading_from reading [] = None
+heading_from reading (line ∷ lines) = heading_by (opening_line reading line.1) (line ∷ lines) (heading_from reading lines)
+
+-- titles are above the heading; without a heading there are none
+unfoldable pub without_titles : Reading → List (ℕ × List ℕ) → Titled
+without_titles reading lines = unwrap_or (heading_from reading lines) (record { titles = 0; lines = lines })
+
+-- ---- a tail after the last row
+
+-- the field of its time begins with no digit
+abbrev pub begins_with_digit : List ℕ → Bool
+begins_with_digit [] = false
+begins_with_digit (c ∷ cs) = is_ascii_digit c
+
+abbrev pub has_time : Shape → List ℕ → Bool
+has_time shape line = begins_with_digit (field_at shape.places.time (fields_of shape.mark line))
+
+-- a line with fewer fields than the heading
+abbrev pub is_short : Shape → List ℕ → Bool
+is_short shape line = nat_lt (width_of (fields_of shape.mark line)).bare shape.places.width.bare
+
+abbrev pub are_passed : List (ℕ × List ℕ) → Bool
+are_passed [] = true
+are_passed (line ∷ lines) = is_passed_over line.1 && are_passed lines
+
+-- Lines are no rows: none of them has a time. The last one may have a time, if it is short: it is cut.
+abbrev pub is_no_row : Shape → List ℕ → Bool
+is_no_row shape line = is_passed_over line || not (has_time shape line)
+
+abbrev pub are_no_rows : Shape → List (ℕ × List ℕ) → Bool
+are_no_rows shape [] = true
+are_no_rows shape (line ∷ lines) =
+    if is_no_row shape line.1 then are_no_rows shape lines else is_short shape line.1 && are_passed lines
+
+-- lines after a row that are no rows
+abbrev pub tail_by : Option Shape → List (ℕ × List ℕ) → Bool
+tail_by None lines = false
+tail_by (Some shape) lines = are_no_rows shape lines
+
+unfoldable pub is_tail : Reading → List (ℕ × List ℕ) → Bool
+is_tail reading lines = reading.has_rows && tail_by reading.shape lines
+
 -- ---- logs
 
 -- a word with the number of its line, or a fault with its line; lines are numbered from 1
@@ -109,34 +198,50 @@ pub record WordAt : Type 0 where
   pub line : ℕ
   pub word : Stated
 
-abbrev pub entry_then : ℕ → Result (Option Stated) LineFault → List (Result WordAt LogFault) → List (Result WordAt LogFault)
-entry_then n (Err why) later = Err (record { line = n; why = why }) ∷ []
-entry_then n (Ok None) later = later
-entry_then n (Ok (Some word)) later = Ok (record { line = n; word = word }) ∷ later
+-- a fault in a tail is none
+abbrev pub entry_then : ℕ → Bool → Result (Option Stated) LineFault → List (Result WordAt LogFault) → List (Result WordAt LogFault)
+entry_then n tail (Err why) later = if tail then [] else Err (record { line = n; why = why }) ∷ []
+entry_then n tail (Ok None) later = later
+entry_then n tail (Ok (Some word)) later = Ok (record { line = n; word = word }) ∷ later
+
+-- the lines are a tail, read as far as the first one
+abbrev pub tail_at : LineRead → List (ℕ × List ℕ) → Bool
+tail_at read lines = is_tail read.next lines
 
 abbrev pub entries_from : Reading → List (ℕ × List ℕ) → List (Result WordAt LogFault)
 entries_from reading [] = []
 entries_from reading ((n, line) ∷ lines) =
-    entry_then n (read_line reading line).states (entries_from (read_line reading line).next lines)
+    entry_then n (tail_at (read_line reading line) ((n, line) ∷ lines)) (read_line reading line).states
+    (entries_from (read_line reading line).next lines)
+
+-- the lines of a log, with their numbers
+abbrev pub lines_of : List ℕ → List (ℕ × List ℕ)
+lines_of text = enumerate_from 1 (parts_of LineFeed (without_byte_order_mark text))
 
 -- what a log states: its words, up to the first fault, if there is one
 unfoldable pub log_entries : Reading → List ℕ → List (Result WordAt LogFault)
-log_entries reading text = entries_from reading (enumerate_from 1 (parts_of LineFeed (without_byte_order_mark text)))
+log_entries reading text = entries_from reading (without_titles reading (lines_of text)).lines
 
 -- ---- several logs, read as if they were one
 
 -- how the first line of the next log is read: times go on, and the form is found again
 abbrev pub next_log : Reading → Reading
-next_log reading = record reading { shape = None }
+next_log reading = record reading { shape = None; has_rows = false }
 
--- how the line after some lines is read
+-- how the line after some lines is read; no line is read after a tail
+abbrev pub past_then : Bool → Result (Option Stated) LineFault → Reading → Reading → Reading
+past_then tail (Err why) next later = if tail then next else later
+past_then tail (Ok word) next later = later
+
 abbrev pub reading_past : Reading → List (ℕ × List ℕ) → Reading
 reading_past reading [] = reading
-reading_past reading ((n, line) ∷ lines) = reading_past (read_line reading line).next lines
+reading_past reading ((n, line) ∷ lines) =
+    past_then (tail_at (read_line reading line) ((n, line) ∷ lines)) (read_line reading line).states (read_line reading line).next
+    (reading_past (read_line reading line).next lines)
 
 -- how the first line is read of the log that follows another one
 unfoldable pub reading_after : Reading → List ℕ → Reading
-reading_after reading text = next_log (reading_past reading (enumerate_from 1 (parts_of LineFeed (without_byte_order_mark text))))
+reading_after reading text = next_log (reading_past reading (without_titles reading (lines_of text)).lines)
 
 -- what a log states, and then this, unless the log has a fault
 abbrev pub and_then : List (Result WordAt LogFault) → List (Result WordAt LogFault) → List (Result WordAt LogFault)

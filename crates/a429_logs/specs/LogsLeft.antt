@@ -1,9 +1,11 @@
 -- What is left of a log that is read (profile: log).
-use Rattle.std.specs.Prelude.{◌≡◌, ◌+◌, [], ⊤, ℕ, List, Option, Some, None, Result, Ok, Err, if◌then◌else◌}
+use Rattle.std.specs.Prelude.{◌≡◌, ◌+◌, ◌∷◌, [], ⊤, Bool, ℕ, List, Option, Some, None, Result, Ok, Err, if◌then◌else◌}
 use Rattle.std.specs.List.{enumerate_from}
 use Rattle.a429_logs.specs.LogFields.{parts_left}
-use Rattle.a429_logs.specs.LogRows.{stated_by}
-use Rattle.a429_logs.specs.Logs.{WordAt, entries_from, next_log, reading_past}
+use Rattle.a429_logs.specs.LogRows.{Stated, stated_by}
+use Rattle.a429_logs.specs.LogDates.{or_second}
+use Rattle.a429_logs.specs.Logs.{Titled, WordAt, entries_from, lines_of, next_log, read_line, reading_past, tail_at, without_titles}
+use Rattle.a429_logs.specs.declared.reading.LineFault.{LineFault}
 use Rattle.a429_logs.specs.declared.reader.LogFault.{LogFault}
 use Rattle.a429_logs.specs.declared.reader.LogReader.{LogReader}
 use Rattle.a429_logs.specs.declared.reader.LogWord.{LogWord}
@@ -21,11 +23,45 @@ entries_left r = entries_from r.reading (lines_left r)
 abbrev pub reading_left : LogReader → Reading
 reading_left r = next_log (reading_past r.reading (lines_left r))
 
+-- the number of the first line of the tail, if there is one
+abbrev pub tail_then : ℕ → Bool → Result (Option Stated) LineFault → Option ℕ → Option ℕ
+tail_then n tail (Err why) later = if tail then Some n else None
+tail_then n tail (Ok word) later = later
+
+abbrev pub tail_from : Reading → List (ℕ × List ℕ) → Option ℕ
+tail_from reading [] = None
+tail_from reading ((n, line) ∷ lines) =
+    tail_then n (tail_at (read_line reading line) ((n, line) ∷ lines)) (read_line reading line).states (tail_from (read_line reading line).next lines)
+
+-- the same for a whole log, and how many titles are above its heading
+unfoldable pub tail_of : Reading → List ℕ → Option ℕ
+tail_of reading text = tail_from reading (without_titles reading (lines_of text)).lines
+
+unfoldable pub titles_of : Reading → List ℕ → ℕ
+titles_of reading text = (without_titles reading (lines_of text)).titles
+
+-- known of the tail, or left to find
+abbrev pub tail_left : LogReader → Option ℕ
+tail_left r = or_second r.passed.tail (tail_from r.reading (lines_left r))
+
+abbrev pub titles_now : LogReader → ℕ
+titles_now r = r.passed.titles
+
+-- the lines of a reader, and the titles above them
+abbrev pub titled_by : LogReader → Titled
+titled_by r = record { titles = r.passed.titles; lines = lines_left r }
+
 -- unless a line is faulty, the next log is read as before
 abbrev pub GoesOn : Option (Result LogWord LogFault) → Reading → Reading → Type 0
 GoesOn None old new = new ≡ old
 GoesOn (Some (Ok w)) old new = new ≡ old
 GoesOn (Some (Err fault)) old new = ⊤
+
+-- the same of the tail
+abbrev pub TailGoesOn : Option (Result LogWord LogFault) → Option ℕ → Option ℕ → Type 0
+TailGoesOn None old new = new ≡ old
+TailGoesOn (Some (Ok w)) old new = new ≡ old
+TailGoesOn (Some (Err fault)) old new = ⊤
 
 -- the form of rows so far
 abbrev pub shape_now : LogReader → Option Shape

@@ -1,93 +1,12 @@
 //! The columns of a log with a heading.
-ghost use Rattle.std.specs.Prelude.{◌≡◌, Ok, Err, MatchResult, length};
-ghost use Rattle.a429_logs.specs.declared.columns.Column.TheVariants.{Decimal, Hex, Label};
-ghost use Rattle.a429_logs.specs.LogColumns.{as_parts, data_word, decimal_value, found_in, found_next, is_column, is_heading, is_named, names_in, noted, parts_places, place_of, places_of, plain_places, value_by, value_place, word_by, word_places, word_without};
+ghost use Rattle.std.specs.Prelude.{◌≡◌, ◌&&◌, ◌+◌, ◌-◌, ◌^◌, ◌≤◌, Ok, Err, MatchResult, length};
+ghost use Rattle.a429_logs.specs.LogColumns.{as_parts, data_word, fits, found_in, found_next, has_unit, is_absent, is_heading, label_place, names_in, noted, optional, parity_place, parts_places, place_of, places_of, plain_places, unit_in, value_in_base, value_place, wider, width_of, word_by, word_places, word_without};
+ghost use Rattle.a429_logs.specs.LogFields.{fields_of};
+ghost use Rattle.a429_logs.specs.declared.cells.Column.TheVariants.{DecimalLabel, Hex, HexLabel, Label};
 
+use crate::cells::{Column, Found};
 use crate::fields::{Fields, Mark};
-
-/// The columns that are read. Others are passed over.
-#[derive(Clone, Copy)]
-pub enum Column {
-    /// When a word comes in.
-    Time,
-    /// The receiver, the channel, the bus or the group of a word.
-    Name,
-    /// A word, as eight hexadecimal digits.
-    Word,
-    /// The 19 data bits of a word as hexadecimal digits; without a label the word.
-    Hex,
-    /// The 19 data bits of a word as decimal digits.
-    Decimal,
-    /// The label of a word, in octal.
-    Label,
-    /// The SDI of a word.
-    Sdi,
-    /// The SSM of a word.
-    Ssm,
-}
-
-/// Whether a text is the name of a column, in any case.
-fn is_named(name: &[u8], text: &str) -> bool
-    ensures { result ≡ is_named text.now name.now }
-{
-    text.as_bytes().eq_ignore_ascii_case(name)
-}
-
-impl Column {
-    /// Whether a field of a heading is the name of this column, in any case.
-    fn is(self, name: &[u8]) -> bool
-        ensures { result ≡ is_column self name.now }
-    {
-        match self {
-            Column::Time => is_named(name, "time"),
-            Column::Name => {
-                is_named(name, "receiver")
-                    || is_named(name, "channel")
-                    || is_named(name, "bus")
-                    || is_named(name, "group")
-                    || is_named(name, "name")
-            }
-            Column::Word => is_named(name, "word") || is_named(name, "hex"),
-            Column::Hex => is_named(name, "data") || is_named(name, "data_hex"),
-            Column::Decimal => is_named(name, "data_dec"),
-            Column::Label => is_named(name, "label"),
-            Column::Sdi => is_named(name, "sdi"),
-            Column::Ssm => is_named(name, "ssm"),
-        }
-    }
-}
-
-/// The place of a column in a heading, counted from 0.
-#[derive(Clone, Copy)]
-pub enum Found {
-    Absent,
-    At(usize),
-    Twice,
-}
-
-impl Found {
-    /// What is found after one more place that has the column: this place, or that the column is there twice.
-    fn noted(self, place: usize) -> Found
-        ensures { result ≡ noted self place }
-    {
-        match self {
-            Found::Absent => Found::At(place),
-            _ => Found::Twice,
-        }
-    }
-
-    /// What is found after one more field of the heading, the one at this place. Nothing changes if the field does not
-    /// name the column.
-    fn after(self, column: Column, place: usize, name: &[u8]) -> Found
-        ensures { result ≡ found_next column self place name.now }
-    {
-        if column.is(name) {
-            self.noted(place)
-        } else {
-            self
-        }
-    }
-}
+use crate::times::TimeUnit;
 
 /// What is wrong with a heading.
 #[derive(Clone, Copy)]
@@ -98,14 +17,16 @@ pub enum HeadingFault {
     Repeats(Column),
 }
 
-/// The base in which the 19 data bits of a word are written.
+/// The base in which a number is written.
 #[derive(Clone, Copy)]
 pub enum Base {
+    Two,
+    Eight,
     Ten,
     Sixteen,
 }
 
-/// The column of the 19 data bits.
+/// The column of a number, and its base.
 #[derive(Clone, Copy)]
 pub struct ValuePlace {
     pub base: Base,
@@ -115,10 +36,12 @@ pub struct ValuePlace {
 /// The columns of a word that is given by its label, SDI, SSM and data.
 #[derive(Clone, Copy)]
 pub struct PartsPlaces {
-    pub label: usize,
+    pub label: ValuePlace,
     pub sdi: usize,
     pub ssm: usize,
     pub value: ValuePlace,
+    /// The column of parities. Without it the parity of words is odd.
+    pub parity: Option<usize>,
 }
 
 /// The columns of a word.
@@ -129,13 +52,63 @@ pub enum WordPlaces {
     Parts(PartsPlaces),
 }
 
+/// How many fields a line has.
+#[derive(Clone, Copy)]
+pub struct Width {
+    pub all: usize,
+    /// The same without an empty field at the end.
+    pub bare: usize,
+}
+
+impl Width {
+    /// The width of a line with one field more.
+    fn wider(self, field: &[u8]) -> Width
+        requires { self.all + 1 ≤ 2 ^ 64 - 1 }
+        ensures { result ≡ wider self field.now }
+    {
+        let all = self.all + 1;
+        Width {
+            all,
+            bare: if field.is_empty() { self.all } else { all },
+        }
+    }
+
+    /// The width of a line.
+    pub fn of(mark: Mark, line: &[u8]) -> Width
+        ensures width { result ≡ width_of (fields_of mark line.now) }
+        ensures all { result.all ≡ length (fields_of mark line.now) }
+    {
+        let mut width = Width { all: 0, bare: 0 };
+        let mut fields = Fields::of(mark, line);
+        for place in 0..line.len() + 1 {
+            let Some(field) = fields.next() else {
+                return width;
+            };
+            width = width.wider(field);
+        }
+        width
+    }
+}
+
 /// The columns of a log, counted from 0, and how many columns there are.
 #[derive(Clone, Copy)]
 pub struct Places {
-    pub count: usize,
+    /// The width of the heading.
+    pub width: Width,
+    /// The unit that the heading says of times.
+    pub unit: Option<TimeUnit>,
     pub time: usize,
     pub name: usize,
     pub word: WordPlaces,
+}
+
+impl Places {
+    /// Whether a row of this width has a field for each column.
+    pub fn fits(&self, width: Width) -> bool
+        ensures { result ≡ fits self.now width }
+    {
+        width.all == self.width.all || width.bare == self.width.bare
+    }
 }
 
 /// A log's first line, cut at these marks.
@@ -155,19 +128,6 @@ impl Heading<'_> {
             Some([first, ..]) => !first.is_ascii_digit(),
             _ => true,
         }
-    }
-
-    /// How many columns it has.
-    fn count(&self) -> usize
-        ensures { result ≡ length (names_in self.now) }
-    {
-        let mut fields = Fields::of(self.mark, self.line);
-        for count in 0..self.line.len() + 1 {
-            if fields.next().is_none() {
-                return count;
-            }
-        }
-        self.line.len() + 1
     }
 
     /// The place of a column.
@@ -196,51 +156,83 @@ impl Heading<'_> {
         }
     }
 
+    /// The column of a number with digits in this base, if it is there; otherwise the other one.
+    fn value_in_base(
+        &self,
+        column: Column,
+        base: Base,
+        otherwise: Result<ValuePlace, HeadingFault>,
+    ) -> Result<ValuePlace, HeadingFault>
+        ensures { result ≡ value_in_base (names_in self.now) column base otherwise }
+    {
+        match self.find(column) {
+            Found::Absent => otherwise,
+            Found::Twice => Err(HeadingFault::Repeats(column)),
+            Found::At(place) => Ok(ValuePlace { base, place }),
+        }
+    }
+
     /// The column of the 19 data bits.
     #[tactic(auto, unfolding(crate::specs::LogColumns::value_place))]
     fn value_place(&self) -> Result<ValuePlace, HeadingFault>
         ensures { result ≡ value_place (names_in self.now) }
     {
-        match self.find(Column::Hex) {
-            Found::At(place) => {
-                Ok(ValuePlace {
-                    base: Base::Sixteen,
-                    place,
-                })
-            }
-            Found::Twice => Err(HeadingFault::Repeats(Column::Hex)),
-            Found::Absent => self.decimal_place(),
-        }
+        let none = Err(HeadingFault::Lacks(Column::Hex));
+        let decimal = self.value_in_base(Column::Decimal, Base::Ten, none);
+        let binary = self.value_in_base(Column::Binary, Base::Two, decimal);
+        let octal = self.value_in_base(Column::Octal, Base::Eight, binary);
+        self.value_in_base(Column::Hex, Base::Sixteen, octal)
     }
 
-    /// The column of the 19 data bits as decimal digits.
-    fn decimal_place(&self) -> Result<ValuePlace, HeadingFault>
-        ensures { result ≡ decimal_value (found_in (names_in self.now) Decimal) }
+    /// Whether no column has labels.
+    fn has_no_label(&self) -> bool
+        ensures { result ≡ (is_absent (found_in (names_in self.now) Label) && (is_absent (found_in (names_in self.now) HexLabel)
+            && is_absent (found_in (names_in self.now) DecimalLabel))) }
     {
-        match self.find(Column::Decimal) {
-            Found::At(place) => {
-                Ok(ValuePlace {
-                    base: Base::Ten,
-                    place,
-                })
-            }
-            Found::Twice => Err(HeadingFault::Repeats(Column::Decimal)),
-            Found::Absent => Err(HeadingFault::Lacks(Column::Hex)),
+        self.find(Column::Label).is_absent()
+            && self.find(Column::HexLabel).is_absent()
+            && self.find(Column::DecimalLabel).is_absent()
+    }
+
+    /// The column of labels. `None` if there is none.
+    #[tactic(auto, unfolding(crate::specs::LogColumns::label_place))]
+    fn label_place(&self) -> Option<Result<ValuePlace, HeadingFault>>
+        ensures { result ≡ label_place (names_in self.now) }
+    {
+        if self.has_no_label() {
+            return None;
+        }
+        let none = Err(HeadingFault::Lacks(Column::Label));
+        let decimal = self.value_in_base(Column::DecimalLabel, Base::Ten, none);
+        let hex = self.value_in_base(Column::HexLabel, Base::Sixteen, decimal);
+        Some(self.value_in_base(Column::Label, Base::Eight, hex))
+    }
+
+    /// The column of parities, if there is one.
+    fn parity_place(&self) -> Result<Option<usize>, HeadingFault>
+        ensures { result ≡ parity_place (names_in self.now) }
+    {
+        match self.find(Column::Parity) {
+            Found::Absent => Ok(None),
+            Found::Twice => Err(HeadingFault::Repeats(Column::Parity)),
+            Found::At(place) => Ok(Some(place)),
         }
     }
 
     /// The columns of a word with its label in this one.
-    fn parts_places(&self, label: usize) -> Result<PartsPlaces, HeadingFault>
+    fn parts_places(&self, label: ValuePlace) -> Result<PartsPlaces, HeadingFault>
         ensures { result ≡ parts_places (names_in self.now) label }
     {
         let sdi = self.place(Column::Sdi)?;
         let ssm = self.place(Column::Ssm)?;
         let value = self.value_place()?;
+        let parity = self.parity_place()?;
         Ok(PartsPlaces {
             label,
             sdi,
             ssm,
             value,
+            parity,
         })
     }
 
@@ -257,13 +249,12 @@ impl Heading<'_> {
 
     /// The columns of a word, if none is named for whole words.
     fn word_without(&self) -> Result<WordPlaces, HeadingFault>
-        ensures { result ≡ word_without (names_in self.now) (found_in (names_in self.now) Label) }
+        ensures { result ≡ word_without (names_in self.now) (label_place (names_in self.now)) }
     {
-        match self.find(Column::Label) {
-            Found::At(label) => Ok(WordPlaces::Parts(self.parts_places(label)?)),
-            Found::Twice => Err(HeadingFault::Repeats(Column::Label)),
-            Found::Absent => self.data_word(),
-        }
+        let Some(label) = self.label_place() else {
+            return self.data_word();
+        };
+        Ok(WordPlaces::Parts(self.parts_places(label?)?))
     }
 
     /// The columns of a word.
@@ -278,6 +269,31 @@ impl Heading<'_> {
         }
     }
 
+    /// Whether a column of times has this unit as its note.
+    fn has_unit(&self, unit: TimeUnit) -> bool
+        ensures { result ≡ has_unit (names_in self.now) unit }
+    {
+        !self.find(Column::TimeIn(unit)).is_absent()
+    }
+
+    /// The unit that a column of times has as its note.
+    #[tactic(auto, unfolding(crate::specs::LogColumns::unit_in))]
+    fn unit(&self) -> Option<TimeUnit>
+        ensures { result ≡ unit_in (names_in self.now) }
+    {
+        if self.has_unit(TimeUnit::Nanoseconds) {
+            Some(TimeUnit::Nanoseconds)
+        } else if self.has_unit(TimeUnit::Microseconds) {
+            Some(TimeUnit::Microseconds)
+        } else if self.has_unit(TimeUnit::Milliseconds) {
+            Some(TimeUnit::Milliseconds)
+        } else if self.has_unit(TimeUnit::Seconds) {
+            Some(TimeUnit::Seconds)
+        } else {
+            None
+        }
+    }
+
     /// The columns of a log with this heading. Errors: `Lacks` with a column that the heading does not have, `Repeats`
     /// with one that it has twice or more.
     #[tactic(auto, unfolding(crate::specs::LogColumns::places_of))]
@@ -288,7 +304,8 @@ impl Heading<'_> {
         let name = self.place(Column::Name)?;
         let word = self.word_places()?;
         Ok(Places {
-            count: self.count(),
+            width: Width::of(self.mark, self.line),
+            unit: self.unit(),
             time,
             name,
             word,

@@ -1,7 +1,8 @@
 //! The lines of a log, and the fields of a line.
-ghost use Rattle.std.specs.Prelude.{◌≡◌, ◌<◌, ◌∷◌, [], Some, None, IfSome, MatchOption, length, option_map, position};
+ghost use Rattle.std.specs.Prelude.{◌≡◌, ◌<◌, ◌∷◌, [], Some, None, IfSome, MatchOption, filter_map, length, option_map, position};
 ghost use Rattle.std.specs.List.{list_any};
-ghost use Rattle.a429_logs.specs.LogFields.{Takes, field_in, fields_left, fields_of, is_mark, mark_in, parts_left, parts_of, trimmed, without_byte_order_mark};
+ghost use Rattle.std.specs.Prelude.{false};
+ghost use Rattle.a429_logs.specs.LogFields.{Takes, ends_part, field_in, fields_left, fields_of, first_outside, has_mark, has_quotes, is_mark, is_quote, is_quoted, line_fields_left, mark_in, parts_left, parts_of, quoted_field_in, quoted_left, quoted_parts, trimmed, turned, unquoted, without_byte_order_mark};
 
 use memchr::memchr;
 
@@ -17,6 +18,8 @@ pub enum Mark {
     Colon,
     /// In dates.
     Dash,
+    /// In dates.
+    Slash,
 }
 
 impl Mark {
@@ -31,6 +34,7 @@ impl Mark {
             Mark::Semicolon => byte == b';',
             Mark::Colon => byte == b':',
             Mark::Dash => byte == b'-',
+            Mark::Slash => byte == b'/',
         }
     }
 
@@ -52,19 +56,94 @@ impl Mark {
         text.iter().any(|byte| self.is(*byte))
     }
 
+    /// Whether a byte is this mark, outside quotes.
+    fn ends_part(self, inside: bool, byte: u8) -> bool
+        ensures { result ≡ ends_part self inside byte }
+    {
+        !inside && self.is(byte)
+    }
+
+    /// The place of the first such mark outside quotes.
+    fn first_outside(self, text: &[u8]) -> Option<usize>
+        ensures place { result ≡ first_outside self false text.now }
+        ensures within { IfSome result (λ place. place < length text.now) }
+    {
+        let mut inside = false;
+        for place in 0..text.len() {
+            if self.ends_part(inside, text[place]) {
+                return Some(place);
+            }
+            inside = turned(inside, text[place]);
+        }
+        None
+    }
+
+    /// Whether a line has such a mark outside quotes.
+    fn is_in_line(self, line: &[u8]) -> bool
+        ensures { result ≡ has_mark self line.now }
+    {
+        if has_quotes(line) {
+            self.first_outside(line).is_some()
+        } else {
+            self.is_in(line)
+        }
+    }
+
     /// What separates the fields of a log with this first line: semicolons if it has one, otherwise commas if it has
     /// one, otherwise blanks.
     #[tactic(auto, unfolding(crate::specs::LogFields::mark_in))]
     pub fn in_line(line: &[u8]) -> Mark
         ensures { result ≡ mark_in line.now }
     {
-        if Mark::Semicolon.is_in(line) {
+        if Mark::Semicolon.is_in_line(line) {
             Mark::Semicolon
-        } else if Mark::Comma.is_in(line) {
+        } else if Mark::Comma.is_in_line(line) {
             Mark::Comma
         } else {
             Mark::Blank
         }
+    }
+}
+
+/// The place of the first quote.
+#[inline(always)]
+fn first_quote(line: &[u8]) -> Option<usize>
+    ensures { result ≡ position is_quote line.now }
+{
+    memchr(b'"', line)
+}
+
+/// Whether a line has a quote.
+#[inline(always)]
+pub fn has_quotes(line: &[u8]) -> bool
+    ensures { result ≡ has_quotes line.now }
+{
+    first_quote(line).is_some()
+}
+
+/// Whether what follows a byte is inside quotes.
+fn turned(inside: bool, byte: u8) -> bool
+    ensures { result ≡ turned inside byte }
+{
+    if byte == b'"' { !inside } else { inside }
+}
+
+/// Whether a text has quotes at both ends.
+fn is_quoted(text: &[u8]) -> bool
+    ensures { result ≡ is_quoted text.now }
+{
+    text.len() >= 2 && text[0] == b'"' && text[text.len() - 1] == b'"'
+}
+
+/// What is between the quotes at both ends of a text, if they are there.
+#[tactic(auto, unfolding(crate::specs::LogFields::unquoted))]
+fn unquoted(text: &[u8]) -> &[u8]
+    ensures { result.now ≡ unquoted text.now }
+{
+    if is_quoted(text) {
+        &text[1..text.len() - 1]
+    } else {
+        text
     }
 }
 
@@ -135,10 +214,86 @@ fn field_in(mark: Mark, part: &[u8]) -> Option<&[u8]>
     }
 }
 
+/// The field of a part of a line with quotes.
+fn quoted_field_in(mark: Mark, part: &[u8]) -> Option<&[u8]>
+    ensures { option_map (λ field. field.now) result ≡ quoted_field_in mark part.now }
+{
+    match field_in(mark, part) {
+        Some(field) => Some(unquoted(field)),
+        None => None,
+    }
+}
+
+/// The parts of a text before, between and after marks outside quotes, as long as some are left.
+#[derive(Clone, Copy)]
+pub struct QuotedParts<'a> {
+    mark: Mark,
+    left: Option<&'a [u8]>,
+}
+
+impl<'a> QuotedParts<'a> {
+    /// Takes the next part. `None` if none is left.
+    fn next(&mut self) -> Option<&'a [u8]>
+        ensures mark { self.new.mark ≡ self.old.mark }
+        ensures taken { Takes (λ part. part.now) result (quoted_left self.old) (quoted_left self.new) }
+    {
+        let text = self.left?;
+        match self.mark.first_outside(text) {
+            Some(end) => {
+                self.left = Some(&text[end + 1..]);
+                Some(&text[..end])
+            }
+            None => {
+                self.left = None;
+                Some(text)
+            }
+        }
+    }
+
+    /// Takes the next field. `None` if none is left.
+    fn next_field(&mut self) -> Option<&'a [u8]>
+        ensures mark { self.new.mark ≡ self.old.mark }
+        ensures taken { Takes (λ field. field.now) result (filter_map (quoted_field_in self.old.mark) (quoted_left self.old))
+            (filter_map (quoted_field_in self.old.mark) (quoted_left self.new)) }
+    {
+        while let Some(part) = self.next() {
+            if let Some(field) = quoted_field_in(self.mark, part) {
+                return Some(field);
+            }
+        }
+        None
+    }
+}
+
+impl<'a> Parts<'a> {
+    /// Takes the next field. `None` if none is left.
+    fn next_field(&mut self) -> Option<&'a [u8]>
+        ensures mark { self.new.mark ≡ self.old.mark }
+        ensures taken { Takes (λ field. field.now) result (filter_map (field_in self.old.mark) (parts_left self.old))
+            (filter_map (field_in self.old.mark) (parts_left self.new)) }
+    {
+        while let Some(part) = self.next() {
+            if let Some(field) = field_in(self.mark, part) {
+                return Some(field);
+            }
+        }
+        None
+    }
+}
+
+/// The parts of a line, as long as some are left.
+#[derive(Clone, Copy)]
+pub enum LineParts<'a> {
+    /// Of a line without quotes.
+    Plain(Parts<'a>),
+    /// Of a line with quotes.
+    Quoted(QuotedParts<'a>),
+}
+
 /// The fields of a line, as long as some are left.
 #[derive(Clone, Copy)]
 pub struct Fields<'a> {
-    parts: Parts<'a>,
+    parts: LineParts<'a>,
 }
 
 impl<'a> Fields<'a> {
@@ -147,20 +302,24 @@ impl<'a> Fields<'a> {
     pub fn of(mark: Mark, line: &'a [u8]) -> Fields<'a>
         ensures { fields_left result ≡ fields_of mark line.now }
     {
-        Fields {
-            parts: Parts::of(mark, line),
-        }
+        let parts = if has_quotes(line) {
+            LineParts::Quoted(QuotedParts {
+                mark,
+                left: Some(line),
+            })
+        } else {
+            LineParts::Plain(Parts::of(mark, line))
+        };
+        Fields { parts }
     }
 
     /// Takes the next field. `None` if none is left.
     pub fn next(&mut self) -> Option<&'a [u8]>
         ensures taken { Takes (λ field. field.now) result (fields_left self.old) (fields_left self.new) }
     {
-        while let Some(part) = self.parts.next() {
-            if let Some(field) = field_in(self.parts.mark, part) {
-                return Some(field);
-            }
+        match &mut self.parts {
+            LineParts::Plain(parts) => parts.next_field(),
+            LineParts::Quoted(parts) => parts.next_field(),
         }
-        None
     }
 }

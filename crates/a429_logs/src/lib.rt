@@ -2,9 +2,9 @@
 //!
 //! A `LogReader` gives the words of a log one by one: the time of each in microseconds, the name of its receiver or
 //! channel, and its 32 bits; or the first line that is faulty, and why. Fields are separated by blanks, commas or
-//! semicolons. A heading may name the columns. `Reading` says the unit of times, from when on they are counted, and the order of
-//! bits. No
-//! call allocates memory.
+//! semicolons, and may be in quotes. A heading may name the columns, and the unit of times. Titles above it are passed over, and
+//! so are lines after the last row that are no rows. `Reading` says the unit of times, from when on they are counted, and
+//! the order of bits. No call allocates memory.
 //!
 //! ```text
 //! let mut reader = LogReader::open(reading, log);
@@ -15,11 +15,13 @@
 #![tactic(auto)]
 
 mod calendars;
+mod cells;
 mod clocks;
 mod columns;
 mod fields;
 mod gregorian;
 pub mod laws;
+mod parts;
 mod reader;
 mod reading;
 mod rows;
@@ -28,10 +30,11 @@ mod words;
 mod written;
 
 pub use calendars::{Calendar, DateSpan, Span};
+pub use cells::Column;
 pub use clocks::Clock;
-pub use columns::{Base, Column, HeadingFault, PartsPlaces, Places, ValuePlace, WordPlaces};
+pub use columns::{Base, HeadingFault, PartsPlaces, Places, ValuePlace, Width, WordPlaces};
 pub use fields::{Fields, Mark};
-pub use reader::{LogFault, LogReader, LogWord};
+pub use reader::{LogFault, LogReader, LogWord, PassedOver};
 pub use reading::{LineFault, Reading, Shape};
 pub use rows::{RowFault, StatedWord};
 pub use times::TimeUnit;

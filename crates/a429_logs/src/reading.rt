@@ -1,17 +1,17 @@
 //! The lines of a log.
-ghost use Rattle.std.specs.Prelude.{◌≡◌, IfSome, None, Ok, Some};
+ghost use Rattle.std.specs.Prelude.{◌≡◌, IfSome, None, Ok, Some, false};
 ghost use Rattle.a429_logs.specs.LogColumns.{plain_places};
 ghost use Rattle.a429_logs.specs.LogFields.{mark_in};
 ghost use Rattle.a429_logs.specs.Calendars.{shown_timed, timed_by};
 ghost use Rattle.a429_logs.specs.declared.calendars.Calendar.TheVariants.{Open};
 ghost use Rattle.a429_logs.specs.declared.words.BitOrder.TheVariants.{AsWritten};
-ghost use Rattle.a429_logs.specs.Logs.{is_passed_over, next_log, read_first, read_line, read_row, shown_line, with_calendar, word_of_row};
+ghost use Rattle.a429_logs.specs.Logs.{has_time, is_no_row, is_passed_over, is_plain_row, is_short, names_columns, next_log, opening_line, read_first, read_line, read_row, shown_line, unit_for, with_calendar, word_of_row};
 
 use crate::calendars::{Calendar, TimedWord};
 use crate::clocks::Clock;
-use crate::columns::{Heading, HeadingFault, Places, WordPlaces};
+use crate::columns::{Heading, HeadingFault, Places, Width, WordPlaces};
 use crate::fields::{Mark, trimmed};
-use crate::rows::{RowFault, StatedWord, quick_word, row_of};
+use crate::rows::{RowFault, StatedWord, field_at, quick_word, row_of};
 use crate::times::TimeUnit;
 use crate::words::BitOrder;
 
@@ -19,18 +19,22 @@ use crate::words::BitOrder;
 #[derive(Clone, Copy)]
 pub struct Shape {
     pub mark: Mark,
+    /// The unit of times.
+    pub unit: TimeUnit,
     pub places: Places,
 }
 
 impl Shape {
     /// A log without a heading: each line is a time, a name and a word.
-    fn plain(mark: Mark) -> Shape
-        ensures { result ≡ record { mark = mark; places = plain_places } }
+    fn plain(mark: Mark, unit: TimeUnit) -> Shape
+        ensures { result ≡ record { mark = mark; unit = unit; places = plain_places } }
     {
         Shape {
             mark,
+            unit,
             places: Places {
-                count: 3,
+                width: Width { all: 3, bare: 3 },
+                unit: None,
                 time: 0,
                 name: 1,
                 word: WordPlaces::Whole(2),
@@ -39,15 +43,43 @@ impl Shape {
     }
 }
 
+impl Shape {
+    /// Whether the field of a line in the column of times begins with a digit.
+    fn has_time(&self, line: &[u8]) -> bool
+        ensures { result ≡ has_time self.now line.now }
+    {
+        match field_at(self.mark, line, self.places.time) {
+            [first, ..] => first.is_ascii_digit(),
+            [] => false,
+        }
+    }
+
+    /// Whether a line has fewer fields than the heading.
+    pub fn is_short(&self, line: &[u8]) -> bool
+        ensures { result ≡ is_short self.now line.now }
+    {
+        Width::of(self.mark, line).bare < self.places.width.bare
+    }
+
+    /// Whether a line is no row, since it is passed over or has no time.
+    pub fn is_no_row(&self, line: &[u8]) -> bool
+        ensures { result ≡ is_no_row self.now line.now }
+    {
+        is_passed_over(line) || !self.has_time(line)
+    }
+}
+
 /// How the next line of a log is read.
 #[derive(Clone, Copy)]
 pub struct Reading {
-    /// The unit of times.
-    pub unit: TimeUnit,
+    /// The unit of times, if it is given. Otherwise it is that of the heading, or the microsecond.
+    pub unit: Option<TimeUnit>,
     /// The order in which the bits of whole words are written.
     pub order: BitOrder,
     /// The form of rows. `None` before the first line that is not passed over.
     pub shape: Option<Shape>,
+    /// Whether a row of the log was read.
+    pub has_rows: bool,
     /// The form of times, and how they go on over midnight and the end of a year.
     pub calendar: Calendar,
     pub clock: Clock,
@@ -60,9 +92,22 @@ pub enum LineFault {
     Row(RowFault),
 }
 
+/// What a line is above the first row.
+#[derive(Clone, Copy)]
+pub enum OpeningLine {
+    /// It is passed over.
+    Passed,
+    /// A heading.
+    Columns,
+    /// A row of a log without a heading.
+    FirstRow,
+    /// Neither: a title, if a heading follows.
+    Title,
+}
+
 /// Whether a line is passed over: it is empty but for blanks, or begins with `#` after blanks.
 #[tactic(auto, unfolding(crate::specs::Logs::is_passed_over))]
-fn is_passed_over(line: &[u8]) -> bool
+pub fn is_passed_over(line: &[u8]) -> bool
     ensures { result ≡ is_passed_over line.now }
 {
     match trimmed(line) {
@@ -75,13 +120,14 @@ impl Reading {
     ghost use Rattle.a429_logs.specs.declared.reading.Shape.{Shape};
 
     /// How the first line of a log is read, if words are as they are written.
-    pub fn new(unit: TimeUnit, clock: Clock) -> Reading
-        ensures { result ≡ record { unit = unit; order = AsWritten; shape = None; calendar = Open; clock = clock } }
+    pub fn new(unit: Option<TimeUnit>, clock: Clock) -> Reading
+        ensures { result ≡ record { unit = unit; order = AsWritten; shape = None; has_rows = false; calendar = Open; clock = clock } }
     {
         Reading {
             unit,
             order: BitOrder::AsWritten,
             shape: None,
+            has_rows: false,
             calendar: Calendar::Open,
             clock,
         }
@@ -94,12 +140,23 @@ impl Reading {
         Reading { order, ..self }
     }
 
+    /// The unit of times, if a heading says this of it.
+    fn unit_for(&self, heading: Option<TimeUnit>) -> TimeUnit
+        ensures { result ≡ unit_for self.now.unit heading }
+    {
+        match self.unit {
+            Some(unit) => unit,
+            None => heading.unwrap_or(TimeUnit::Microseconds),
+        }
+    }
+
     /// How the first line of the next log is read, after this one: times go on, and the form is found again.
     pub fn for_next_log(self) -> Reading
         ensures { result ≡ next_log self }
     {
         Reading {
             shape: None,
+            has_rows: false,
             ..self
         }
     }
@@ -108,7 +165,7 @@ impl Reading {
     fn word_of_row<'a>(&self, line: &'a [u8], shape: &Shape) -> Result<TimedWord<'a>, RowFault>
         ensures { shown_timed result ≡ word_of_row self.now line.now shape.now }
     {
-        match row_of(self.unit, self.order, shape.mark, &shape.places, line) {
+        match row_of(shape.unit, self.order, shape.mark, &shape.places, line) {
             Ok(row) => self.calendar.timed(row),
             Err(why) => Err(why),
         }
@@ -125,6 +182,7 @@ impl Reading {
         match self.clock.read(timed.word) {
             Ok(word) => {
                 self.shape = Some(shape);
+                self.has_rows = true;
                 self.calendar = timed.calendar;
                 Ok(Some(word))
             }
@@ -139,6 +197,7 @@ impl Reading {
     {
         match self.clock.read(timed.word) {
             Ok(word) => {
+                self.has_rows = true;
                 self.calendar = timed.calendar;
                 Ok(Some(word))
             }
@@ -153,7 +212,7 @@ impl Reading {
         if !self.calendar.is_of_units() {
             return None;
         }
-        let word = quick_word(self.unit, self.order, shape.mark, &shape.places, line)?;
+        let word = quick_word(shape.unit, self.order, shape.mark, &shape.places, line)?;
         Some(TimedWord {
             word,
             calendar: Calendar::Units,
@@ -167,14 +226,50 @@ impl Reading {
         let mark = Mark::in_line(line);
         let heading = Heading { mark, line };
         if !heading.is_heading() {
-            return self.row(line, Shape::plain(mark));
+            return self.row(line, Shape::plain(mark, self.unit_for(None)));
         }
         match heading.places() {
             Ok(places) => {
-                self.shape = Some(Shape { mark, places });
+                let unit = self.unit_for(places.unit);
+                self.shape = Some(Shape { mark, unit, places });
                 Ok(None)
             }
             Err(why) => Err(LineFault::Heading(why)),
+        }
+    }
+
+    /// Whether a line is a heading without a fault.
+    fn names_columns(line: &[u8]) -> bool
+        ensures { result ≡ names_columns line.now }
+    {
+        let heading = Heading {
+            mark: Mark::in_line(line),
+            line,
+        };
+        heading.is_heading() && heading.places().is_ok()
+    }
+
+    /// Whether a line is a row of a log without a heading.
+    fn is_plain_row(&self, line: &[u8]) -> bool
+        ensures { result ≡ is_plain_row self.now line.now }
+    {
+        let shape = Shape::plain(Mark::in_line(line), self.unit_for(None));
+        row_of(shape.unit, self.order, shape.mark, &shape.places, line).is_ok()
+    }
+
+    /// What a line is above the first row.
+    #[tactic(auto, unfolding(crate::specs::Logs::opening_line))]
+    pub fn opening_line(&self, line: &[u8]) -> OpeningLine
+        ensures { result ≡ opening_line self.now line.now }
+    {
+        if is_passed_over(line) {
+            OpeningLine::Passed
+        } else if Reading::names_columns(line) {
+            OpeningLine::Columns
+        } else if self.is_plain_row(line) {
+            OpeningLine::FirstRow
+        } else {
+            OpeningLine::Title
         }
     }
 

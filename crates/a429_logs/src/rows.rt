@@ -2,34 +2,36 @@
 ghost use Rattle.std.specs.Prelude.{◌≡◌, IfSome, Ok, option_map, true};
 ghost use Rattle.a429_logs.specs.LogColumns.{plain_places};
 ghost use Rattle.a429_logs.specs.LogFields.{fields_of};
-ghost use Rattle.a429_logs.specs.LogRows.{caught, caught_in, field_at, in_micros, parts_word, row_of, shown, shown_written, stated_by, word_in, word_place};
+ghost use Rattle.a429_logs.specs.LogRows.{caught, caught_in, field_at, in_micros, parts_word, row_of, row_parity, shown, shown_written, stated_by, word_in, word_place};
 ghost use Rattle.a429_logs.specs.declared.fields.Mark.TheVariants.{Blank};
 ghost use Rattle.a429_logs.specs.declared.times.TimeUnit.TheVariants.{Microseconds};
 
-use crate::columns::{PartsPlaces, Places, WordPlaces};
-use crate::fields::{Fields, Mark, Parts};
+use crate::columns::{PartsPlaces, Places, Width, WordPlaces};
+use crate::fields::{Fields, Mark, Parts, has_quotes};
+use crate::parts::{WrittenParity, parity_in, ssm_in, written_word};
 use crate::times::{TimeUnit, decimal_digits};
-use crate::words::{BitOrder, two_bits, value_in, whole_word, word_of};
+use crate::words::{BitOrder, label_in, two_bits, value_in, whole_word};
 use crate::written::{WrittenTime, written_time};
-use a429_word::Label;
 
 /// What is wrong with a row.
 #[derive(Clone, Copy)]
 pub enum RowFault {
-    /// It has more or fewer fields than there are columns.
+    /// It has more or fewer fields than there are columns. An empty field at the end does not count.
     Fields,
     /// Its time is none: neither one in the unit of the log nor one by a calendar, or not of the form of the first time.
     Time,
     /// Its word is not eight hexadecimal digits.
     Word,
-    /// Its label is not three octal digits, 000 to 377.
+    /// Its label is no number of eight bits.
     Label,
     /// Its SDI is neither 0 to 3 nor two binary digits.
     Sdi,
-    /// Its SSM is neither 0 to 3 nor two binary digits.
+    /// Its SSM is neither 0 to 3, nor two binary digits, nor one of the texts.
     Ssm,
     /// Its data is no number, or has more than 19 bits.
     Value,
+    /// Its parity is neither 0 nor 1, nor one of the texts.
+    Parity,
     /// It comes before the time from which times are counted.
     Early,
     /// Its time is below that of the row before it.
@@ -58,7 +60,7 @@ fn word_place(places: WordPlaces) -> usize
 {
     match places {
         WordPlaces::Whole(place) => place,
-        WordPlaces::Parts(parts) => parts.label,
+        WordPlaces::Parts(parts) => parts.label.place,
     }
 }
 
@@ -77,15 +79,20 @@ fn caught<'a>(column: usize, place: usize, field: &'a [u8], old: &'a [u8]) -> &'
     if column == place { field } else { old }
 }
 
-/// The fields of a row. `None` if there are more or fewer than columns.
-pub fn row_fields<'a>(places: &Places, mark: Mark, line: &'a [u8]) -> Option<RowFields<'a>>
-    ensures { option_map shown result ≡ caught_in places.now (fields_of mark line.now) }
+/// The fields of a row. `None` if there are more or fewer than this number.
+fn row_fields<'a>(
+    count: usize,
+    places: &Places,
+    mark: Mark,
+    line: &'a [u8],
+) -> Option<RowFields<'a>>
+    ensures { option_map shown result ≡ caught_in count places.now (fields_of mark line.now) }
 {
     let mut time: &'a [u8] = &[];
     let mut name: &'a [u8] = &[];
     let mut word: &'a [u8] = &[];
     let mut fields = Fields::of(mark, line);
-    for place in 0..places.count {
+    for place in 0..count {
         let field = fields.next()?;
         time = caught(places.time, place, field, time);
         name = caught(places.name, place, field, name);
@@ -98,7 +105,7 @@ pub fn row_fields<'a>(places: &Places, mark: Mark, line: &'a [u8]) -> Option<Row
 }
 
 /// The field of a line in a column.
-fn field_at(mark: Mark, line: &[u8], place: usize) -> &[u8]
+pub fn field_at(mark: Mark, line: &[u8], place: usize) -> &[u8]
     ensures { result.now ≡ field_at place (fields_of mark line.now) }
 {
     let mut fields = Fields::of(mark, line);
@@ -110,16 +117,28 @@ fn field_at(mark: Mark, line: &[u8], place: usize) -> &[u8]
     fields.next().unwrap_or(&[])
 }
 
+/// The parity that a row states; without a column of parities it is odd.
+fn row_parity(place: Option<usize>, mark: Mark, line: &[u8]) -> Option<WrittenParity>
+    ensures { result ≡ row_parity place (fields_of mark line.now) }
+{
+    match place {
+        Some(place) => parity_in(field_at(mark, line, place)),
+        None => Some(WrittenParity::Odd(true)),
+    }
+}
+
 /// A word by its label, SDI, SSM and data.
 fn parts_word(parts: &PartsPlaces, mark: Mark, line: &[u8]) -> Result<u32, RowFault>
     ensures { result ≡ parts_word parts.now (fields_of mark line.now) }
 {
-    let label = Label::of_digits(field_at(mark, line, parts.label)).ok_or(RowFault::Label)?;
+    let text = field_at(mark, line, parts.label.place);
+    let label = label_in(parts.label.base, text).ok_or(RowFault::Label)?;
     let sdi = two_bits(field_at(mark, line, parts.sdi)).ok_or(RowFault::Sdi)?;
-    let ssm = two_bits(field_at(mark, line, parts.ssm)).ok_or(RowFault::Ssm)?;
+    let ssm = ssm_in(field_at(mark, line, parts.ssm)).ok_or(RowFault::Ssm)?;
     let text = field_at(mark, line, parts.value.place);
     let value = value_in(parts.value.base, text).ok_or(RowFault::Value)?;
-    Ok(word_of(label, sdi, ssm, value))
+    let parity = row_parity(parts.parity, mark, line).ok_or(RowFault::Parity)?;
+    Ok(written_word(label, sdi, ssm, value, parity))
 }
 
 /// The word of a row that begins with this field.
@@ -150,7 +169,11 @@ fn is_plain(unit: TimeUnit, mark: Mark, places: &Places) -> bool
 {
     match (unit, mark, places.word) {
         (TimeUnit::Microseconds, Mark::Blank, WordPlaces::Whole(2)) => {
-            places.count == 3 && places.time == 0 && places.name == 1
+            places.width.all == 3
+                && places.width.bare == 3
+                && places.unit.is_none()
+                && places.time == 0
+                && places.name == 1
         }
         _ => false,
     }
@@ -161,6 +184,9 @@ fn is_plain(unit: TimeUnit, mark: Mark, places: &Places) -> bool
 fn plain_row(order: BitOrder, line: &[u8]) -> Option<StatedWord<'_>>
     ensures { IfSome result (λ w. row_of Microseconds order Blank plain_places (fields_of Blank line.now) ≡ Ok (in_micros (stated_by w))) }
 {
+    if has_quotes(line) {
+        return None;
+    }
     let mut parts = Parts::of(Mark::Blank, line);
     let time = parts.next()?;
     let name = parts.next()?;
@@ -205,7 +231,11 @@ pub fn row_of<'a>(
 ) -> Result<RowWord<'a>, RowFault>
     ensures { shown_written result ≡ row_of unit order mark places.now (fields_of mark line.now) }
 {
-    let Some(row) = row_fields(places, mark, line) else {
+    let width = Width::of(mark, line);
+    if !places.fits(width) {
+        return Err(RowFault::Fields);
+    }
+    let Some(row) = row_fields(width.all, places, mark, line) else {
         return Err(RowFault::Fields);
     };
     let Some(time) = written_time(unit, mark, row.time) else {

@@ -1,7 +1,8 @@
 //! Times of day, times of the year and dates, as a log writes them.
 ghost use Rattle.std.specs.Prelude.{◌≡◌, ◌≤◌, ◌<◌, ◌*◌, IfSome, option_map, position};
-ghost use Rattle.a429_logs.specs.LogDates.{calendar_time, clock_time, date_of, dated_time, day_of, day_time, digits_within, hour_of, is_date_end, seconds_of, shown_three, three_of, time_of_day, within, without_zone, written_time, year_time};
-ghost use Rattle.a429_logs.specs.LogFields.{parts_left};
+ghost use Rattle.a429_logs.specs.LogDates.{or_second, calendar_time, clock_time, date_of, dated_time, day_of, day_time, digits_within, hour_of, is_date_end, seconds_of, shown_three, three_of, time_of_day, within, without_zone, written_time, year_time};
+ghost use Rattle.a429_logs.specs.LogFields.{parts_left, parts_of};
+ghost use Rattle.a429_logs.specs.declared.fields.Mark.TheVariants.{Dash, Slash};
 
 use crate::fields::{Mark, Parts};
 use crate::gregorian::{days_before, is_leap, month_length};
@@ -167,13 +168,23 @@ fn day_of(parts: &ThreeParts<'_>) -> Option<Date>
     })
 }
 
-/// The beginning of the day that `YYYY-MM-DD` states.
+/// The year, the month and the day of a date.
+fn date_parts(text: &[u8]) -> Option<ThreeParts<'_>>
+    ensures { option_map shown_three result ≡ or_second (three_of (parts_of Dash text.now)) (three_of (parts_of Slash text.now)) }
+{
+    match three_of(Parts::of(Mark::Dash, text)) {
+        Some(three) => Some(three),
+        None => three_of(Parts::of(Mark::Slash, text)),
+    }
+}
+
+/// The beginning of the day that `YYYY-MM-DD` or `YYYY/MM/DD` states.
 #[tactic(auto, unfolding(crate::specs::LogDates::date_of))]
 fn date_of(text: &[u8]) -> Option<Date>
     ensures value { result ≡ date_of text.now }
     ensures few { IfSome result (λ d. d.time ≤ 403 * 86400000000) }
 {
-    let three = three_of(Parts::of(Mark::Dash, text))?;
+    let three = date_parts(text)?;
     day_of(&three)
 }
 
@@ -205,7 +216,7 @@ fn dated_time(mark: Mark, date: &[u8], time: &[u8]) -> Option<WrittenTime>
 fn is_date_end(byte: u8) -> bool
     ensures { result ≡ is_date_end byte }
 {
-    byte == b'T'
+    byte == b'T' || byte == b' '
 }
 
 /// The place of the first such byte.

@@ -1,12 +1,11 @@
 -- The command `simulate`: what it writes, and its status (profile: docs/FORMATS.md, Output of `simulate`).
-use Rattle.std.specs.Prelude.{◌≡◌, ◌∷◌, [], ◌++◌, ◌⊎◌, ℕ, List, Bool, true, false, Option, None, Some, Ok, Result, MatchResult, IfOk, codes, take, unwrap_or}
+use Rattle.std.specs.Prelude.{◌≡◌, ◌∷◌, [], ◌++◌, ◌⊎◌, ℕ, List, Bool, true, false, Option, None, Some, Ok, Result, MatchResult, IfOk, codes, take}
 use Rattle.a429_text.specs.declared.sheets.SheetForm.{SheetForm}
 use Rattle.a429_text.specs.declared.sheets.SheetForm.TheVariants as form
 use Rattle.a429_arguments.specs.declared.times.LogOrigin.{LogOrigin}
 use Rattle.a429_arguments.specs.declared.times.LogOrigin.TheVariants as origin
 use Rattle.a429_logs.specs.declared.calendars.Calendar.TheVariants.{Open}
 use Rattle.a429_logs.specs.declared.clocks.Clock.{Clock}
-use Rattle.a429_logs.specs.declared.times.TimeUnit.TheVariants as units
 use Rattle.a429_logs.specs.declared.reading.Reading.{Reading}
 use Rattle.a429_slots.specs.Proposed.{Proposed}
 use Rattle.a429_console.specs.FileReadings.{AreReadLogs, IsFileRefusal, IsFirstUnreadLog, readable}
@@ -47,7 +46,7 @@ clock_from origin.First = record { base = None; last = 0 }
 
 -- how the first line of a log is read
 abbrev pub reading_for : Given → Reading
-reading_for given = record { unit = unwrap_or (unit_of given) units.Microseconds; order = order_of given; shape = None; calendar = Open; clock = clock_from (origin_of given) }
+reading_for given = record { unit = unit_of given; order = order_of given; shape = None; has_rows = false; calendar = Open; clock = clock_from (origin_of given) }
 
 -- how lines are written, by whether only the words that are sent have one, and by the form of what is printed
 abbrev pub line_style : Bool → SheetForm → LineStyle

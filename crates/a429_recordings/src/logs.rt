@@ -9,7 +9,7 @@ pub mod views;
 use crate::logs::views::LogView;
 use a429_arguments::requests::Asked;
 use a429_arguments::times::LogOrigin;
-use a429_logs::{Clock, Reading, TimeUnit};
+use a429_logs::{Clock, Reading};
 
 /// The names of logs that are read one after another, and which of their words are taken.
 #[derive(Clone, Copy)]
@@ -33,9 +33,5 @@ fn clock_from(from: LogOrigin) -> Clock
 pub fn reading_for(asked: &Asked) -> Reading
     ensures { result ≡ reading_for (asked_of asked.now).given }
 {
-    Reading::new(
-        asked.unit().unwrap_or(TimeUnit::Microseconds),
-        clock_from(asked.origin()),
-    )
-    .with_order(asked.order())
+    Reading::new(asked.unit(), clock_from(asked.origin())).with_order(asked.order())
 }

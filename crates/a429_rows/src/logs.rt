@@ -36,7 +36,7 @@ fn words_in(
     names: &[&str],
     log: &[u8],
 ) -> Result<Vec<Word>, usize> {
-    let reading = Reading::new(TimeUnit::Microseconds, Clock::from_time(0));
+    let reading = Reading::new(Some(TimeUnit::Microseconds), Clock::from_time(0));
     let mut words = Vec::new(alloc);
     let mut reader = LogReader::open(reading, log);
     while let Some(entry) = reader.next() {

@@ -11,7 +11,7 @@ use crate::logs::views::LogView;
 use a429_console::hints::warnings::{PassedLines, Warning};
 use a429_console::refusals::evidence::{Evidence, LineEvidence, LogEvidence, LogRefusal};
 use a429_console::refusals::{CommandRefusal, Refused};
-use a429_logs::{LogReader, PassedOver, Reading, Shape, StatedWord};
+use a429_logs::{LogReader, PassedOver, Reading, Shape, StatedWord, TimeUnit};
 use std::alloc::{AllocFailed, Global};
 
 /// Why a word of a log was not kept.
@@ -62,6 +62,14 @@ struct NumberedLog<'a> {
     reading: Reading,
 }
 
+/// The unit of the times of a log whose rows have this form so far.
+fn unit_in(shape: Option<Shape>, reading: Reading) -> TimeUnit {
+    match shape {
+        Some(shape) => shape.unit,
+        None => reading.unit.unwrap_or(TimeUnit::Microseconds),
+    }
+}
+
 /// The refusal of a faulty line of a log, with that line. The log's rows have this form so far.
 fn refuse_line<T: WordKeeper>(
     alloc: Global,
@@ -77,7 +85,7 @@ fn refuse_line<T: WordKeeper>(
         why,
         number: log.number,
         shape,
-        unit: log.reading.unit,
+        unit: unit_in(shape, log.reading),
     };
     Refused::with(
         CommandRefusal::LogLine { line },

@@ -1,6 +1,6 @@
-use Rattle.std.proofs.Common.{◌≡◌, ◌∙◌, ◌<◌, ◌∷◌, [], List, ℕ, ap, arith, length, rules, sym}
+use Rattle.std.proofs.Common.{◌≡◌, ◌∙◌, ◌<◌, ◌∷◌, [], false, List, ℕ, ap, arith, length, rules, sym}
 use Rattle.std.specs.Prelude.{Ok}
-use Rattle.a429_logs.specs.LogFields.{parts_left, parts_of}
+use Rattle.a429_logs.specs.LogFields.{has_quotes, parts_left, parts_of}
 use Rattle.a429_logs.specs.LogRows.{in_micros}
 use Rattle.a429_logs.specs.declared.fields.Mark.TheVariants.{Blank}
 use Rattle.a429_logs.proofs.PlainRows.{plain_row}
@@ -19,5 +19,6 @@ returns c =
     let some : 0 < length n = grind (arith, c.is_empty.ensures, c.if-is_empty.false) in
     let raw : ℕ = c.in_ok-raw.raw in
     let time : ℕ = c.in_ok-time-2.time in
-    plain_row c.args.order c.args.line.now t n w time raw parts (sym c.in_ok-time-2.ensures) some (sym c.in_ok-raw.ensures)
+    let plain : has_quotes c.args.line.now ≡ false = search rules in
+    plain_row c.args.order c.args.line.now t n w time raw plain parts (sym c.in_ok-time-2.ensures) some (sym c.in_ok-raw.ensures)
     ∙ ap (λ (r : ℕ). Ok (in_micros (record { time = time; name = n; raw = r }))) (sym c.unreversed.ensures)

@@ -20,9 +20,9 @@ returns-in_err-field c =
     let fields = fields_of c.args.mark c.args.line.now in
     let places = c.args.places.now in
     let none : fields_left c.loop-place.fields ≡ [] = search rules in
-    let below : c.loop-place.place < places.count = search rules in
+    let below : c.loop-place.place < c.args.count = search rules in
     let few = left-none c.loop-place.place fields (c.loop-place.invariant.left ∙ none) c.loop-place.invariant.within in
-    search (rules, caught-other places fields (λ all. omega (arith, all, few, below)))
+    search (rules, caught-other c.args.count places fields (λ all. omega (arith, all, few, below)))
 
 pub loop-place-preserved : goal.loop-place-preserved
 loop-place-preserved c =
@@ -51,7 +51,7 @@ returns-in-None c =
     let fields = fields_of c.args.mark c.args.line.now in
     let places = c.args.places.now in
     let place : ℕ = c.loop-place.place in
-    let last : place ≡ places.count = search rules in
+    let last : place ≡ c.args.count = search rules in
     let none : fields_left c.loop-place.fields ≡ [] = search rules in
     let all = left-none place fields (c.loop-place.invariant.left ∙ none) c.loop-place.invariant.within in
-    rw (c.loop-place.invariant.time, c.loop-place.invariant.name, c.loop-place.invariant.word) (caught-row places fields place last all)
+    rw (c.loop-place.invariant.time, c.loop-place.invariant.name, c.loop-place.invariant.word) (caught-row c.args.count places fields place last all)

@@ -2,7 +2,7 @@ use Rattle.std.proofs.Common.{◌≡◌, ◌∙◌, ◌+◌, ◌∷◌, ℕ, Lis
 use Rattle.std.specs.List.{enumerate_from}
 use Rattle.a429_logs.specs.LogFields.{fields_left}
 use Rattle.a429_logs.specs.LogColumns.{found_by, found_in, found_next, found_with, places_in}
-use Rattle.a429_logs.specs.declared.columns.Found.{Found}
+use Rattle.a429_logs.specs.declared.cells.Found.{Found}
 use Rattle.a429_logs.proofs.FoundColumns.{fields_few, found-end, found-next}
 use Rattle.a429_logs.proofs.columns.Heading.find.Goals as goal
 

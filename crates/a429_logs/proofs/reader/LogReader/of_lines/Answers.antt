@@ -4,7 +4,7 @@ use Rattle.a429_logs.specs.LogFields.{is_mark}
 use Rattle.a429_logs.specs.declared.fields.Mark.TheVariants.{LineFeed}
 use Rattle.std.proofs.lemmas.List.Sums.{count_by-le-length}
 use Rattle.std.proofs.lemmas.List.Splits.{length-slice_split}
-use Rattle.a429_logs.proofs.reader.LogReader.open.Goals as goal
+use Rattle.a429_logs.proofs.reader.LogReader.of_lines.Goals as goal
 
 pub invariant_of-result : goal.invariant_of-result
 invariant_of-result c = record {

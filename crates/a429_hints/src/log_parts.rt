@@ -1,0 +1,61 @@
+//! The forms of the fields of a word in a log.
+
+use a429_logs::{Base, PartsPlaces, RowFault};
+
+/// What the digits of a label are.
+fn label_form(base: Base) -> &'static str {
+    match base {
+        Base::Ten => "a decimal number from 0 to 255",
+        Base::Sixteen => "one or two hexadecimal digits",
+        _ => "one to three octal digits, 0 to 377",
+    }
+}
+
+/// What the digits of data are.
+fn value_form(base: Base) -> &'static str {
+    match base {
+        Base::Two => "a binary number of at most 19 bits",
+        Base::Eight => "an octal number of at most 19 bits",
+        Base::Ten => "a decimal number below 524288",
+        Base::Sixteen => "one to five hexadecimal digits, at most 7ffff",
+    }
+}
+
+/// A field of a word: what it is, its place, and the form that it has to have.
+#[derive(Clone, Copy)]
+pub struct FieldForm {
+    pub name: &'static str,
+    pub place: usize,
+    pub form: &'static str,
+}
+
+/// The field of a word that has a fault.
+pub fn field_form(parts: &PartsPlaces, fault: RowFault) -> FieldForm {
+    match fault {
+        RowFault::Label => FieldForm {
+            name: "label",
+            place: parts.label.place,
+            form: label_form(parts.label.base),
+        },
+        RowFault::Sdi => FieldForm {
+            name: "SDI",
+            place: parts.sdi,
+            form: "0 to 3, or two binary digits",
+        },
+        RowFault::Ssm => FieldForm {
+            name: "SSM",
+            place: parts.ssm,
+            form: "0 to 3, two binary digits, or NO, NCD, FT, FW, Normal, Test or Fail",
+        },
+        RowFault::Parity => FieldForm {
+            name: "parity",
+            place: parts.parity.unwrap_or(0),
+            form: "0, 1, odd, even, ok or error",
+        },
+        _ => FieldForm {
+            name: "data",
+            place: parts.value.place,
+            form: value_form(parts.value.base),
+        },
+    }
+}
