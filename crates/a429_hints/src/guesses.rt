@@ -1,6 +1,7 @@
 //! Which fields of a heading are likely meant by columns that it lacks.
 
 use crate::file_rows::FileRows;
+use crate::lists::field_count;
 use crate::nearest::Nearest;
 use a429_import::{CsvLine, IMPORT_COLUMNS, ImportColumn, is_column, is_column_named};
 use std::alloc::{AllocError, Global};
@@ -182,7 +183,7 @@ fn is_taken(guesses: &[Guess], place: usize) -> bool {
 /// How many fields of a heading name a column.
 pub fn times_in(heading: &CsvLine, column: ImportColumn) -> usize {
     let mut times: usize = 0;
-    for place in 0..heading.len() {
+    for place in 0..field_count(heading) {
         if is_column_named(column, heading.field(place)) {
             times = times.saturating_add(1);
         }
@@ -198,7 +199,7 @@ pub fn is_missing(file: FileRows, column: ImportColumn) -> bool {
 /// The likeliest field for a column among those that name no column and are not taken.
 fn likeliest(file: FileRows, column: ImportColumn, guesses: &[Guess]) -> Option<usize> {
     let mut best: Option<(usize, usize)> = None;
-    for place in 0..file.titles.len() {
+    for place in 0..field_count(file.titles) {
         if is_column(file.heading.line.field(place)) || is_taken(guesses, place) {
             continue;
         }
@@ -251,7 +252,7 @@ fn nearest(
     guesses: &[Guess],
 ) -> Option<usize> {
     let mut nearest = Nearest::to(column.name());
-    for place in 0..file.titles.len() {
+    for place in 0..field_count(file.titles) {
         if is_column(file.heading.line.field(place)) || is_taken(guesses, place) {
             continue;
         }
@@ -266,7 +267,7 @@ fn nearest(
 
 /// The place of the first field of a heading that is this text.
 fn place_of(file: FileRows, text: &str) -> Option<usize> {
-    for place in 0..file.titles.len() {
+    for place in 0..field_count(file.titles) {
         if file.titles.field(place) == text.as_bytes() {
             return Some(place);
         }
@@ -313,14 +314,6 @@ fn add_nearest(alloc: Global, guesses: &mut Vec<Guess>, file: FileRows) -> Resul
     Ok(())
 }
 
-/// The field that is read as the source, or is likely meant by it.
-fn source_place(file: FileRows, guesses: &[Guess]) -> Option<usize> {
-    match guess_for(guesses, ImportColumn::Source) {
-        Some(guess) => Some(guess.place),
-        None => column_place(file, ImportColumn::Source),
-    }
-}
-
 /// The guesses with another field for the source, and the field of the source for the receiver. Error: an allocation failed.
 fn swapped(
     alloc: Global,
@@ -350,7 +343,11 @@ fn with_swapped(
     if !is_missing(file, receiver) || guess_for(&guesses, receiver).is_some() {
         return Ok(guesses);
     }
-    let Some(named) = source_place(file, &guesses) else {
+    let named = match guess_for(&guesses, ImportColumn::Source) {
+        Some(guess) => Some(guess.place),
+        None => column_place(file, ImportColumn::Source),
+    };
+    let Some(named) = named else {
         return Ok(guesses);
     };
     match likeliest(file, ImportColumn::Source, &guesses) {
@@ -361,7 +358,7 @@ fn with_swapped(
 
 /// The first field that names a column.
 pub fn column_place(file: FileRows, column: ImportColumn) -> Option<usize> {
-    for place in 0..file.heading.line.len() {
+    for place in 0..field_count(&file.heading.line) {
         if is_column_named(column, file.heading.line.field(place)) {
             return Some(place);
         }

@@ -5,7 +5,7 @@ use crate::guesses::{
     Guess, are_alike, guess_for, guesses_of, is_in_other_guess, is_missing, text_of, times_in,
 };
 use crate::hint::HintText;
-use crate::lists::{LISTED, say_more};
+use crate::lists::{LISTED, field_count, say_more};
 use crate::nearest::Nearest;
 use crate::retries::{say_command, say_map};
 use a429_import::{
@@ -52,7 +52,7 @@ fn tell_keep(titles: &CsvLine, text: &str, name: &str, hint: &HintText) {
 
 /// Whether HEADING of a text is a field of the heading.
 fn has_field(titles: &CsvLine, text: &str) -> bool {
-    for place in 0..titles.len() {
+    for place in 0..field_count(titles) {
         if is_about(titles.field(place), text) {
             return true;
         }
@@ -123,7 +123,7 @@ fn tell_twice(file: FileRows, column: ImportColumn, times: usize, hint: &HintTex
     );
     if matches!(column, ImportColumn::MinUs | ImportColumn::MaxUs) {
         hint.say(", as");
-        for place in 0..file.titles.len() {
+        for place in 0..field_count(file.titles) {
             if is_column_named(column, file.heading.line.field(place)) {
                 hint.say_one(" {?}", text_of(file.titles.field(place)));
             }
@@ -199,7 +199,7 @@ fn say_fields(titles: &CsvLine, hint: &HintText) {
 /// The field of a heading that is nearest to a name. Fields that name a column are left out.
 fn nearest_field<'a>(alloc: Global, titles: &'a CsvLine, name: &'a str) -> Option<&'a str> {
     let mut nearest = Nearest::to(name);
-    for place in 0..titles.len() {
+    for place in 0..field_count(titles) {
         let text = text_of(titles.field(place));
         if is_column(titles.field(place)) {
             continue;

@@ -3,7 +3,17 @@
 use crate::hint::HintText;
 use crate::nearest::Nearest;
 use crate::rows::short_text;
+use a429_import::CsvLine;
 use std::alloc::Global;
+use std::cmp::min;
+
+/// How many fields of a heading are looked at: as many columns as spreadsheet programs have.
+const FIELDS: usize = 16384;
+
+/// The number of fields of a heading that are looked at.
+pub fn field_count(heading: &CsvLine) -> usize {
+    min(heading.len(), FIELDS)
+}
 
 /// The maximum number of names that a hint lists.
 pub const LISTED: usize = 16;

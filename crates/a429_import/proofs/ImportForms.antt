@@ -1,11 +1,9 @@
 -- The lines of a text, from its heading on.
-use Rattle.std.proofs.Common.{Bor, ◌≡◌, ◌∙◌, ◌∷◌, ◌++◌, ◌+◌, ◌-◌, ◌<◌, ◌≤◌, [], ℕ, true, false, zero, suc, Bool, List, None, Option, Some, ap, ap₂, arith, cond, drop, filter, inl, map, subst, sym, take}
-use Rattle.std.specs.Prelude.{nat_lt, option_map, position}
-use Rattle.std.specs.List.{AllByRecursion, count_by, find, slice_split}
-use Rattle.std.specs.Option.{option_or}
-use Rattle.std.proofs.lemmas.Bool.Decides.{nat_tests}
-use Rattle.std.proofs.lemmas.List.Sums.{sum_by-cons}
-use Rattle.std.proofs.lemmas.List.{map-append}
+use Rattle.std.proofs.Common.{Bor, ◌≡◌, ◌∙◌, ◌∷◌, ◌++◌, ◌+◌, ◌-◌, ◌<◌, ◌≤◌, [], ℕ, true, false, zero, suc, Bool, List, None, Option, Some, ap, ap₂, arith, cond, drop, filter, inl, length, map, not, refl, slice_index_or, subst, sym, take}
+use Rattle.std.specs.Prelude.{◌==◌, ◌&&◌, ◌||◌, option_map}
+use Rattle.std.specs.List.{AllByRecursion, find}
+use Rattle.std.specs.Option.{option_map_or, option_or}
+use Rattle.std.proofs.lemmas.List.{drop_all, map-append}
 use Rattle.csv.specs.Reading.{AreRecords, ReadRecord, strip_bom}
 use Rattle.csv.specs.Records.{fields_of}
 use Rattle.csv.specs.declared.parser.State.TheVariants as st
@@ -13,11 +11,10 @@ use Rattle.csv.specs.declared.reader.Reader.{Reader}
 use Rattle.csv.proofs.ReadFacts.{rows-end, rows-more}
 use Rattle.a429_import.specs.declared.forms.Form.{Form}
 use Rattle.a429_import.specs.declared.lines.CsvLine.{CsvLine}
-use Rattle.a429_import.specs.ImportForms.{first_line, from_heading, heading_among, is_heading, later_lines, separator_in, separators}
+use Rattle.a429_import.specs.ImportForms.{after_separator, ends_line, field_len, from_heading, heading_among, is_heading, later_lines, len_before, names_column, names_in_row, quotes_end, separator_in, separators}
 use Rattle.a429_import.specs.ImportReading.{HasRead}
 use Rattle.a429_import.specs.Imports.{AreLines, has_text, separated}
 use Rattle.a429_import.specs.ImportWords.{trimmed}
-use Rattle.a429_import.proofs.PartsOfText.{parts_none, parts_some}
 
 one_more_separator : {separator : ℕ} (lines : List CsvLine) (line : CsvLine) → AllByRecursion (λ l. l.separator ≡ separator) lines → line.separator ≡ separator
     → AllByRecursion (λ l. l.separator ≡ separator) (lines ++ line ∷ [])
@@ -62,12 +59,12 @@ read_all maps text form a b all lines separator from has end filled =
 
 -- ---- the heading among lines
 
-pub among_here : (maps : List (List ℕ)) (lines : ℕ) (text : List ℕ) (separator : ℕ) → 0 < lines → find (is_heading maps (first_line text)) separators ≡ Some separator → heading_among maps lines text ≡ Some (separator, text)
+pub among_here : (maps : List (List ℕ)) (lines : ℕ) (text : List ℕ) (separator : ℕ) → 0 < lines → find (is_heading maps text) separators ≡ Some separator → heading_among maps lines text ≡ Some (separator, text)
 unfolding heading_among
 among_here maps zero text separator some found = absurd (omega (arith, some))
 among_here maps (suc lines) text separator some found = ap (λ (o : Option ℕ). option_or (option_map (λ s. (s, text)) o) (heading_among maps lines (later_lines text))) found
 
-pub among_later : (maps : List (List ℕ)) (lines : ℕ) (text : List ℕ) → 0 < lines → find (is_heading maps (first_line text)) separators ≡ None → heading_among maps lines text ≡ heading_among maps (lines - 1) (later_lines text)
+pub among_later : (maps : List (List ℕ)) (lines : ℕ) (text : List ℕ) → 0 < lines → find (is_heading maps text) separators ≡ None → heading_among maps lines text ≡ heading_among maps (lines - 1) (later_lines text)
 unfolding heading_among
 among_later maps zero text some none = absurd (omega (arith, some))
 among_later maps (suc lines) text some none =
@@ -78,26 +75,64 @@ pub among_none : (maps : List (List ℕ)) (lines : ℕ) (text : List ℕ) → li
 unfolding heading_among
 among_none maps lines text none = ap (λ (n : ℕ). heading_among maps n text) none
 
--- ---- the fields of a line
+-- ---- the fields of the first row
 
-pub next_counted : (p : ℕ → Bool) (q : List ℕ → Bool) (left : List ℕ) (place : ℕ) → position p left ≡ Some place
-    → count_by q (slice_split p left) ≡ cond (q (take place left)) 1 0 + count_by q (slice_split p (drop (place + 1) left))
-next_counted p q left place first = ap (count_by q) (parts_some p left place first) ∙ sum_by-cons (λ f. cond (q f) 1 0) (take place left) (slice_split p (drop (place + 1) left))
+-- the last field
+pub names_last : (maps : List (List ℕ)) (separator left : ℕ) (text : List ℕ) → 0 < left → after_separator separator (drop (field_len separator text) text) ≡ None
+    → names_in_row maps separator left text ≡ cond (names_column maps (take (field_len separator text) text)) 1 0 + 0
+unfolding names_in_row
+names_last maps separator zero text some last = absurd (omega (arith, some))
+names_last maps separator (suc n) text some last =
+    ap (λ (o : Option (List ℕ)). cond (names_column maps (take (field_len separator text) text)) 1 0 + option_map_or (names_in_row maps separator n) o 0) last
 
-last_counted : (p : ℕ → Bool) (q : List ℕ → Bool) (left : List ℕ) → position p left ≡ None → count_by q (slice_split p left) ≡ cond (q left) 1 0 + 0
-last_counted p q left none = ap (count_by q) (parts_none p left none) ∙ sum_by-cons (λ f. cond (q f) 1 0) left []
+-- a field before others
+pub names_more : (maps : List (List ℕ)) (separator left : ℕ) (text after : List ℕ) → 0 < left → after_separator separator (drop (field_len separator text) text) ≡ Some after
+    → names_in_row maps separator left text ≡ cond (names_column maps (take (field_len separator text) text)) 1 0 + names_in_row maps separator (left - 1) after
+unfolding names_in_row
+names_more maps separator zero text after some more = absurd (omega (arith, some))
+names_more maps separator (suc n) text after some more =
+    let one : n ≡ suc n - 1 = omega arith in
+    ap (λ (o : Option (List ℕ)). cond (names_column maps (take (field_len separator text) text)) 1 0 + option_map_or (names_in_row maps separator n) o 0) more
+    ∙ ap (λ (m : ℕ). cond (names_column maps (take (field_len separator text) text)) 1 0 + names_in_row maps separator m after) one
 
--- a line is a heading, by the number of fields before the last that name columns
-pub with_last : (p : ℕ → Bool) (q : List ℕ → Bool) (line left : List ℕ) (count : ℕ) → count + count_by q (slice_split p left) ≡ count_by q (slice_split p line) → position p left ≡ None
-    → count + cond (q left) 1 0 ≡ count_by q (slice_split p line)
-with_last p q line left count same none = omega (arith, same, last_counted p q left none)
-
-pub last_yes : (count total : ℕ) → count + 1 ≡ total → nat_lt 0 count ≡ nat_lt 1 total
-last_yes count total same = subst (λ (n : ℕ). nat_lt 0 count ≡ nat_lt 1 n) same (grind (arith, nat_tests))
-
-pub last_no : (count total : ℕ) → count + 0 ≡ total → nat_lt 1 count ≡ nat_lt 1 total
-last_no count total same = ap (nat_lt 1) (omega (arith, same))
+pub names_none : (maps : List (List ℕ)) (separator left : ℕ) (text : List ℕ) → left ≡ 0 → names_in_row maps separator left text ≡ 0
+unfolding names_in_row
+names_none maps separator left text none = ap (λ (n : ℕ). names_in_row maps separator n text) none
 
 pub one_or_none : (b : Bool) → cond b 1 0 ≤ 1
 one_or_none true = omega arith
 one_or_none false = omega arith
+
+-- ---- bytes
+
+-- the end of a text in quotes, after one more byte
+pub end_passed : (is_quote : Bool) (text : List ℕ) (place n : ℕ) → place < length text
+    → quotes_end is_quote n (drop place text)
+    ≡ cond (is_quote && not (slice_index_or text place 0 == 34)) (Some n) (quotes_end (not is_quote && (slice_index_or text place 0 == 34)) (n + 1) (drop (place + 1) text))
+unfolding quotes_end
+end_passed is_quote [] place n below = absurd (omega (arith, below))
+end_passed is_quote (c ∷ text) zero n below = refl
+end_passed is_quote (c ∷ text) (suc place) n below =
+    let one : suc (place + 1) ≡ suc place + 1 = omega arith in
+    let b : ℕ = slice_index_or text place 0 in
+    end_passed is_quote text place n (omega (arith, below))
+    ∙ ap (λ (i : ℕ). cond (is_quote && not (b == 34)) (Some n) (quotes_end (not is_quote && (b == 34)) (n + 1) (drop i (c ∷ text)))) one
+
+pub end_at : (is_quote : Bool) (text : List ℕ) (place n : ℕ) → length text ≤ place → quotes_end is_quote n (drop place text) ≡ cond is_quote (Some n) None
+unfolding quotes_end
+end_at is_quote text place n past = ap (quotes_end is_quote n) (drop_all place text past)
+
+-- the bytes before a separator, after one more byte
+pub len_passed : (separator : ℕ) (text : List ℕ) (place : ℕ) → place < length text
+    → len_before separator (drop place text) ≡ cond ((slice_index_or text place 0 == separator) || ends_line (slice_index_or text place 0)) 0 (suc (len_before separator (drop (place + 1) text)))
+unfolding len_before
+len_passed separator [] place below = absurd (omega (arith, below))
+len_passed separator (c ∷ text) zero below = refl
+len_passed separator (c ∷ text) (suc place) below =
+    let one : suc (place + 1) ≡ suc place + 1 = omega arith in
+    let b : ℕ = slice_index_or text place 0 in
+    len_passed separator text place (omega (arith, below)) ∙ ap (λ (i : ℕ). cond ((b == separator) || ends_line b) 0 (suc (len_before separator (drop i (c ∷ text))))) one
+
+pub len_at : (separator : ℕ) (text : List ℕ) (place : ℕ) → length text ≤ place → len_before separator (drop place text) ≡ 0
+unfolding len_before
+len_at separator text place past = ap (len_before separator) (drop_all place text past)

@@ -23,7 +23,6 @@ pub mod ImportQuotes
 pub mod ImportAbove
 pub mod HeadingFirst
 pub mod WrittenQuotes
-mod PartsOfText
 mod ImportMaps
 pub mod Trimmed
 pub mod KeyedLines

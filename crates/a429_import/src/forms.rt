@@ -1,7 +1,7 @@
 //! The heading of a text: its line, and what separates its fields.
-ghost use Rattle.std.specs.Prelude.{◌≡◌, ◌==◌, if◌then◌else◌, drop, not, option_map, position};
+ghost use Rattle.std.specs.Prelude.{◌≡◌, ◌≤◌, ◌+◌, ◌==◌, ◌&&◌, ◌||◌, IfSome, false, if◌then◌else◌, drop, length, not, option_map, position};
 ghost use Rattle.std.specs.List.{find};
-ghost use Rattle.a429_import.specs.ImportForms.{count_before, ends_line, first_line, from_heading, from_line, heading_among, heading_of, is_heading, later_lines, names_column, separator_in, separators, without_byte_order_mark};
+ghost use Rattle.a429_import.specs.ImportForms.{after_separator, closed_len, count_before, ends_field, ends_line, field_len, from_heading, from_line, heading_among, heading_of, is_heading, later_lines, len_before, names_column, quoted_len, quotes_end, separator_in, separators, without_byte_order_mark};
 ghost use Rattle.a429_import.specs.ImportMaps.{given_texts};
 ghost use Rattle.a429_import.specs.ImportQuotes.{text_before};
 
@@ -75,23 +75,73 @@ fn from_line(text: &[u8]) -> &[u8]
     from_place(text, ends_len(text))
 }
 
-/// The first line of a text.
-fn first_line(text: &[u8]) -> &[u8]
-    ensures { result.now ≡ first_line text.now }
+/// Whether a text in quotes ended before a byte: a quote came just before, and this is none.
+fn ends_quotes(is_quote: bool, byte: u8) -> bool
+    ensures { result ≡ (is_quote && not (byte == 34)) }
 {
-    let len = line_len(text);
-    if len <= text.len() {
-        &text[..len]
-    } else {
-        text
+    is_quote && byte != b'"'
+}
+
+/// Whether a byte is a quote that may close a text in quotes: no such quote came just before.
+fn may_close(is_quote: bool, byte: u8) -> bool
+    ensures { result ≡ (not is_quote && byte == 34) }
+{
+    !is_quote && byte == b'"'
+}
+
+/// The number of bytes up to the end of a text in quotes, with the quote that closes it. `None` if it is not closed.
+fn quotes_end(text: &[u8]) -> Option<usize>
+    ensures end { result ≡ quotes_end false 0 text.now }
+    ensures few { IfSome result (λ n. n ≤ length text.now) }
+{
+    let mut is_quote = false;
+    for place in 0..text.len() {
+        if ends_quotes(is_quote, text[place]) {
+            return Some(place);
+        }
+        is_quote = may_close(is_quote, text[place]);
+    }
+    if is_quote { Some(text.len()) } else { None }
+}
+
+/// Whether a field ends at the beginning of a text.
+fn ends_field(text: &[u8]) -> bool
+    ensures { result ≡ ends_field text.now }
+{
+    match text {
+        [byte, ..] => ends_line(*byte) || *byte == b',' || *byte == b';' || *byte == b'\t',
+        [] => true,
     }
 }
 
-/// The text after its first line.
+/// The bytes after a quote up to the end of the field, if it ends there; 0 otherwise.
+fn closed_len(text: &[u8]) -> usize
+    ensures len { result ≡ closed_len text.now (quotes_end false 0 text.now) }
+    ensures few { result ≤ length text.now + 1 }
+{
+    match quotes_end(text) {
+        Some(end) if ends_field(from_place(text, end)) => end + 1,
+        _ => 0,
+    }
+}
+
+/// The number of bytes of a field in quotes at the beginning of a text; 0 if there is none, or if it is not closed.
+fn quoted_len(text: &[u8]) -> usize
+    ensures len { result ≡ quoted_len text.now }
+    ensures few { result ≤ length text.now }
+{
+    match text {
+        [b'"', rest @ ..] => closed_len(rest),
+        _ => 0,
+    }
+}
+
+/// The text after its first line; a field in quotes at its beginning may have line ends.
 fn later_lines(text: &[u8]) -> &[u8]
     ensures { result.now ≡ later_lines text.now }
 {
-    from_line(from_place(text, line_len(text)))
+    let rest = from_place(text, quoted_len(text));
+    from_line(from_place(rest, line_len(rest)))
 }
 
 /// Whether a field of a line names a column, by itself or by a text HEADING=COLUMN.
@@ -101,11 +151,43 @@ fn names_column(maps: &[&str], field: &[u8]) -> bool
     names_column_by(maps, trimmed(unquoted(field)))
 }
 
-/// The place of the first such byte.
-fn first_separator(separator: u8, line: &[u8]) -> Option<usize>
-    ensures { result ≡ position (λ b. b == separator) line.now }
+/// Whether a byte ends a field.
+fn ends_at(separator: u8, byte: u8) -> bool
+    ensures { result ≡ (byte == separator || ends_line byte) }
 {
-    line.iter().position(|byte| *byte == separator)
+    byte == separator || ends_line(byte)
+}
+
+/// The number of bytes before a separator or a line end.
+fn len_before(separator: u8, text: &[u8]) -> usize
+    ensures len { result ≡ len_before separator text.now }
+    ensures few { result ≤ length text.now }
+{
+    for place in 0..text.len() {
+        if ends_at(separator, text[place]) {
+            return place;
+        }
+    }
+    text.len()
+}
+
+/// The number of bytes of the first field, as it is written.
+fn field_len(separator: u8, text: &[u8]) -> usize
+    ensures len { result ≡ field_len separator text.now }
+    ensures few { result ≤ length text.now }
+{
+    let quoted = quoted_len(text);
+    quoted + len_before(separator, from_place(text, quoted))
+}
+
+/// The text after a separator at its beginning. `None` if there is none.
+fn after_separator(separator: u8, text: &[u8]) -> Option<&[u8]>
+    ensures { option_map (λ rest. rest.now) result ≡ after_separator separator text.now }
+{
+    match text {
+        [byte, rest @ ..] if *byte == separator => Some(rest),
+        _ => None,
+    }
 }
 
 fn one_if(counts: bool) -> usize
@@ -114,24 +196,26 @@ fn one_if(counts: bool) -> usize
     if counts { 1 } else { 0 }
 }
 
-/// Whether two fields or more of a line name columns, if this separates its fields.
-fn is_heading(maps: &[&str], line: &[u8], separator: u8) -> bool
-    ensures { result ≡ is_heading (given_texts maps.now) line.now separator }
+/// Whether two fields or more of the first row name columns, if this separates its fields.
+fn is_heading(maps: &[&str], text: &[u8], separator: u8) -> bool
+    ensures { result ≡ is_heading (given_texts maps.now) text.now separator }
 {
     let mut count = 0;
-    let mut left = line;
-    while let Some(end) = first_separator(separator, left) {
-        count += one_if(names_column(maps, &left[..end]));
-        left = &left[end + 1..];
+    let mut rest = text;
+    let mut left = text.len();
+    while 0 < left {
+        let len = field_len(separator, rest);
+        count += one_if(names_column(maps, &rest[..len]));
+        match after_separator(separator, from_place(rest, len)) {
+            Some(after) => rest = after,
+            None => return 1 < count,
+        }
+        left -= 1;
     }
-    if names_column(maps, left) {
-        0 < count
-    } else {
-        1 < count
-    }
+    1 < count
 }
 
-/// What separates the fields of a line, if it is a heading.
+/// What separates the fields of the first row, if it is a heading.
 fn separator_of(maps: &[&str], line: &[u8]) -> Option<u8>
     ensures { result ≡ find (is_heading (given_texts maps.now) line.now) separators }
 {
@@ -153,7 +237,7 @@ fn heading_among<'a>(maps: &[&str], lines: usize, text: &'a [u8]) -> Option<Form
     let mut rest = text;
     let mut left = lines;
     while 0 < left {
-        match separator_of(maps, first_line(rest)) {
+        match separator_of(maps, rest) {
             Some(separator) => {
                 return Some(Form {
                     separator,

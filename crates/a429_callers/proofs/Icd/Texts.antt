@@ -1,5 +1,5 @@
 -- The text of an interface control document is read as its rows.
-use Rattle.std.proofs.Common.{◌≡◌, ◌∙◌, ◌+◌, ℕ, zero, suc, Bool, true, false, List, [], ◌∷◌, ◌++◌, Option, None, Some, arith, drop, filter, get_or, length, map, take, ap, ap₂, sym, subst, refl}
+use Rattle.std.proofs.Common.{◌≡◌, ◌∙◌, ◌+◌, ℕ, zero, suc, Bool, true, false, List, [], ◌∷◌, ◌++◌, Option, None, Some, arith, drop, filter, get_or, length, map, ap, ap₂, sym, subst, refl}
 use Rattle.std.specs.Prelude.{◌||◌, codes, not, unwrap_or}
 use Rattle.std.specs.List.{AllByRecursion, find, flat_map, list_any}
 use Rattle.std.specs.Option.{option_map_or}
@@ -14,7 +14,7 @@ use Rattle.csv.proofs.RoundTrip.{read-write}
 use Rattle.a429_import.specs.declared.lines.CsvLine.{CsvLine}
 use Rattle.a429_text.specs.Sheets.{csv_text_of}
 use Rattle.a429_documents.specs.Document.{icd_columns}
-use Rattle.a429_import.specs.ImportForms.{ends_line, first_line, from_heading, from_line, heading_among, heading_of, is_heading, separator_in, separators, without_byte_order_mark}
+use Rattle.a429_import.specs.ImportForms.{ends_line, from_heading, from_line, heading_among, heading_of, is_heading, len_before, names_in_row, separator_in, separators, without_byte_order_mark}
 use Rattle.a429_import.specs.ImportRows.{is_named}
 use Rattle.a429_import.specs.ImportWords.{stepped, trimmed}
 use Rattle.a429_import.specs.Imports.{AreLines, has_row_above, has_text, is_misquoted_text, separated}
@@ -63,29 +63,15 @@ heading_text = refl
 abbrev after_names : List ℕ → List ℕ
 after_names rest = (names ++ 10 ∷ []) ++ rest
 
-or_false : (a b : Bool) → (a || b) ≡ false → (a ≡ false) × (b ≡ false)
-or_false true b h = cc
-or_false false b h = (refl, h)
-
-none_before : (p : ℕ → Bool) (xs : List ℕ) → list_any p xs ≡ false → AllByRecursion (λ y. p y ≡ false) xs
-none_before p [] h = tt
-none_before p (x ∷ xs) h = let parts = or_false (p x) (list_any p xs) h in (parts.0, none_before p xs parts.1)
-
 starts : (rest : List ℕ) → from_line (without_byte_order_mark (after_names rest)) ≡ after_names rest
 starts rest = ap (λ (o : Option ℕ). drop (unwrap_or o (length (after_names rest))) (after_names rest)) (position_first (λ b. not (ends_line b)) (after_names rest) 0 103 tt refl refl)
 
-first_names : (rest : List ℕ) → first_line (after_names rest) ≡ names
-first_names rest =
-    ap (λ (o : Option ℕ). take (unwrap_or o (length (after_names rest))) (after_names rest))
-    (position_first ends_line (after_names rest) 114 10 (none_before ends_line names refl) refl refl)
-
-commas : find (is_heading [] names) separators ≡ Some 44
-unfolding is_named trimmed stepped
-commas = refl
+commas : (rest : List ℕ) → find (is_heading [] (after_names rest)) separators ≡ Some 44
+unfolding names_in_row len_before is_named trimmed stepped
+commas rest = refl
 
 heading_there : (rest : List ℕ) → heading_of [] (after_names rest) ≡ Some (44, after_names rest)
-heading_there rest =
-    ap (heading_among [] 11) (starts rest) ∙ among_here [] 11 (after_names rest) 44 (omega arith) (ap (λ (l : List ℕ). find (is_heading [] l) separators) (first_names rest) ∙ commas)
+heading_there rest = ap (heading_among [] 11) (starts rest) ∙ among_here [] 11 (after_names rest) 44 (omega arith) (commas rest)
 
 by_commas : (rest : List ℕ) → separator_in [] (after_names rest) ≡ 44
 by_commas rest = ap (λ (o : Option (ℕ × List ℕ)). option_map_or (λ h. h.0) o 44) (heading_there rest)

@@ -1,14 +1,13 @@
-use Rattle.std.proofs.Common.{◌≡◌, ◌==◌, ◌+◌, ◌≤◌, length}
-use Rattle.std.specs.List.{count_by, slice_split}
-use Rattle.a429_import.specs.ImportForms.{names_column}
+use Rattle.std.proofs.Common.{◌≡◌, ◌+◌, ◌≤◌, length}
+use Rattle.a429_import.specs.ImportForms.{names_in_row}
 use Rattle.a429_import.specs.ImportMaps.{given_texts}
 use Rattle.a429_import.proofs.forms.is_heading.Given as goal
 
-abbrev pub invariant-loop-end : goal.invariant-loop-end
-invariant-loop-end l = record {
-  few : l.count + length l.left ≤ length l.line;
-  same : l.count + count_by (names_column (given_texts l.maps)) (slice_split (λ b. b == l.separator) l.left) ≡ count_by (names_column (given_texts l.maps)) (slice_split (λ b. b == l.separator) l.line);
+abbrev pub invariant-loop-left : goal.invariant-loop-left
+invariant-loop-left l = record {
+  few : l.count + l.left ≤ length l.text;
+  same : l.count + names_in_row (given_texts l.maps) l.separator l.left l.rest ≡ names_in_row (given_texts l.maps) l.separator (length l.text) l.text;
 }
 
-abbrev pub decreases-loop-end : goal.decreases-loop-end
-decreases-loop-end l = length l.left
+abbrev pub decreases-loop-left : goal.decreases-loop-left
+decreases-loop-left l = l.left

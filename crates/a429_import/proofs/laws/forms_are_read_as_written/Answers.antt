@@ -5,7 +5,7 @@ use Rattle.csv.specs.Reading.{records_from, strip_bom}
 use Rattle.a429_word.specs.Decimal.{decimal_number, is_numeral}
 use Rattle.a429_word.specs.Texts.{label_value}
 use Rattle.a429_import.specs.ImportFields.{hold_in, label_in, millis_in, number_in, rate_in, sdi_in, text_in, utf8_in}
-use Rattle.a429_import.specs.ImportForms.{heading_among}
+use Rattle.a429_import.specs.ImportForms.{heading_among, len_before, names_in_row, quotes_end}
 use Rattle.a429_import.specs.ImportIntervals.{interval_in}
 use Rattle.a429_import.specs.ImportQuotes.{is_misquoted_from}
 use Rattle.a429_import.specs.ImportRows.{column_field, column_form, is_named, numbers_of}
@@ -42,7 +42,7 @@ unfolding millis_in decimal_number is_numeral
 returns-clause-millis c = record { whole = refl; point = refl; no_comma = refl; comma = refl; zeros = refl; too_fine = refl; no_digit = refl; thousands = refl; one = refl; small = refl; decimals = refl }
 
 pub returns-clause-headings : goal.returns-clause-headings
-unfolding is_named heading_among trimmed stepped
+unfolding is_named heading_among names_in_row len_before quotes_end trimmed stepped
 returns-clause-headings c = record { any_case = refl; millis = refl; rate = refl; least = refl; most = refl; broken = refl; other = refl; below = refl; none = refl }
 
 pub returns-clause-blanks : goal.returns-clause-blanks
@@ -54,7 +54,7 @@ unfolding interval_in trimmed stepped millis_in number_in decimal_number is_nume
 returns-clause-intervals c = record { least = refl; most = refl; dash = refl; order = refl; one = refl; up = refl; down = refl; decimals = refl; zero = refl; rates = refl; least_rate = refl }
 
 pub returns-clause-maps : goal.returns-clause-maps
-unfolding is_named heading_among rsplit_once trimmed stepped
+unfolding is_named heading_among names_in_row len_before quotes_end rsplit_once trimmed stepped
 returns-clause-maps c = record { named = refl; last_mark = refl; first = refl; other = refl; no_heading = refl; no_column = refl; found = refl }
 
 pub returns-clause-alone : goal.returns-clause-alone
@@ -74,11 +74,11 @@ unfolding names_in chosen plain_of base_of end_of long_name numbered_name in_roo
 returns-clause-chosen c = record { sources = refl; receivers = refl; groups = refl }
 
 pub returns-clause-quotes : goal.returns-clause-quotes
-unfolding is_misquoted_from is_named heading_among strip_bom trimmed stepped
+unfolding is_misquoted_from is_named heading_among names_in_row len_before quotes_end strip_bom trimmed stepped
 returns-clause-quotes c = record { closed = refl; not_closed = refl; doubled = refl; heading = refl; above = refl; after = refl; space = refl; title = refl; within = refl; mark = refl }
 
 pub returns-clause-above : goal.returns-clause-above
-unfolding is_named heading_among strip_bom next_record records_from column_field label_in label_value rsplit_once trimmed stepped
+unfolding is_named heading_among names_in_row len_before quotes_end strip_bom next_record records_from column_field label_in label_value rsplit_once trimmed stepped
 returns-clause-above c = record { row = refl; title = refl; lost_zeros = refl; mapped = refl; unmapped = refl; names = refl; units = refl; fewer = refl; more = refl; below = refl; no_heading = refl }
 
 pub returns-clause-notes : goal.returns-clause-notes
