@@ -7,7 +7,7 @@ EVEN = SECOND ^ 1 << 31
 # the second word with the SSM 1, and with the SSM 0
 NO_DATA, FAILED = 0x248D14C1, 0x848D14C1
 # what the table of the forms has as receivers
-NAMES = ("adc", "1", "2", "RX1", "CH 1", "7")
+NAMES = ("adc", "1", "2", "rx1", "7")
 SECONDS, DAY = 10**6, 86400 * 10**6
 # 2024-01-02 10:00:00
 MORNING = DAY + 36000 * SECONDS
@@ -27,13 +27,13 @@ FORMS = [
     ("milliseconds", ["--time", "ms"], "0.000 1 60000085\n0.360 1 e48d14c1\n", two(0, 360)),
     ("seconds", ["--time", "s"], "0.000000 1 60000085\n0.000360 1 e48d14c1\n", two(0, 360)),
     ("quotes around all fields", [], '"Time";"Channel";"Word"\n"0";"1";"60000085"\n"360";"1";"e48d14c1"\n', two(0, 360)),
-    ("quotes around a name with blanks", [], 'time channel word\n0 "CH 1" 60000085\n360 "CH 1" e48d14c1\n', two(0, 360, "CH 1")),
+    ("quotes around a name with blanks", ["--channel", "CH 1=adc"], 'time channel word\n0 "CH 1" 60000085\n360 "CH 1" e48d14c1\n', two(0, 360, "adc")),
     ("a quoted note with separators", [], 'time,channel,word,note\n0,1,60000085,"a, b"\n360,1,e48d14c1,""\n', two(0, 360)),
     ("a unit in round brackets", [], "Time (s),Ch,Data (hex)\n0.000000,1,0x60000085\n0.000360,1,0xE48D14C1\n", two(0, 360)),
     ("a unit in square brackets", [], "Time [ms];Channel;Word\n0.000;1;60000085\n0.360;1;E48D14C1\n", two(0, 360)),
     ("a unit after an underscore", [], "Time_us,Chan,Raw\n0,1,60000085\n360,1,E48D14C1\n", two(0, 360)),
     ("no blank before the unit", [], "Time(ms),Ch,Raw Data\n0,1,60000085\n0.36,1,e48d14c1\n", two(0, 360)),
-    ("a time stamp and a channel name", [], "Time Stamp;Channel Name;Raw Word\n0;RX1;60000085\n360;RX1;e48d14c1\n", two(0, 360, "RX1")),
+    ("a time stamp and a channel name", [], "Time Stamp;Channel Name;Raw Word\n0;rx1;60000085\n360;rx1;e48d14c1\n", two(0, 360, "rx1")),
     ("fields of the word", [], "Time (s),Bus,Label (oct),SDI,SSM,Data (hex)\n0,1,241,0,3,00000\n0.00036,1,203,00,11,12345\n", two(0, 360)),
     ("data in binary", [], "Time (us);Ch;Label;SDI;Data (bin);SSM\n0;1;241;00;0000000000000000000;11\n360;1;203;00;0010010001101000101;11\n", two(0, 360)),
     ("data in octal", [], "Time (us);Ch;Label;SDI;Data (oct);SSM\n0;1;241;0;0;3\n360;1;203;0;0221505;3\n", two(0, 360)),
@@ -71,5 +71,5 @@ FORMS = [
     ("a byte order mark, and a comma for a point", ["--time", "ms"], "\ufefftime;ch;word\r\n0,000;1;60000085\r\n0,360;1;e48d14c1\r\n", two(0, 360)),
     ("a channel by its number", ["--channel", "3=adc"], "time,ch,word\n0,3,60000085\n360,3,e48d14c1\n", two(0, 360, "adc")),
     ("a heading in another language", ["--map", "Zeit=time"], "Zeit;Kanal;Wort\n0;1;60000085\n360;1;e48d14c1\n", two(0, 360)),
-    ("lines of a system log", [], "Jan  2 10:00:00 box a429[12]: RX1 60000085\nJan  2 10:00:01 box a429[12]: RX1 e48d14c1\n", two(0, SECONDS, "RX1")),
+    ("lines of a system log", [], "Jan  2 10:00:00 box a429[12]: rx1 60000085\nJan  2 10:00:01 box a429[12]: rx1 e48d14c1\n", two(0, SECONDS, "rx1")),
 ]
