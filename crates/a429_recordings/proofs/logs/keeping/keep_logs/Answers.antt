@@ -1,7 +1,7 @@
-use Rattle.std.proofs.Common.{◌≡◌, ◌∙◌, ◌+◌, ◌∷◌, List, ℕ, drop, subst, sym}
+use Rattle.std.proofs.Common.{◌≡◌, ◌∙◌, ◌+◌, ◌∷◌, List, ℕ, ap, drop, subst, sym}
 use Rattle.a429_console.specs.Files.{bytes_of}
 use Rattle.a429_logs.specs.declared.reading.Reading.{Reading}
-use Rattle.a429_recordings.specs.LogItems.{PassesNone}
+use Rattle.a429_recordings.specs.LogItems.{PassesNone, reading_behind}
 use Rattle.a429_recordings.specs.LogViews.{view_of, viewed}
 use Rattle.a429_recordings.proofs.LogLines.{before_fault, before_more, logs_left}
 use Rattle.a429_recordings.proofs.logs.keeping.keep_logs.Goals as goal
@@ -39,5 +39,5 @@ loop-number-preserved g c =
             c.note_passed.ensures (c.in-Ok.ensures.titles ∙ these.0) (c.in-Ok.ensures.tail ∙ these.1) ∙ before.0,
             subst (λ (r : Reading). PassesNone r left) (sym kept.0) these.2,
           );
-      next = rw (here, sym kept.0) at now.invariant.next;
+      next = now.invariant.next ∙ ap (reading_behind now.next) here ∙ ap (λ (r : Reading). reading_behind r left) (sym kept.0);
     }
