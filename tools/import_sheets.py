@@ -39,7 +39,7 @@ SHEETS = [
         '"ICD_12"\t"Selected Course"\t"FCU"\t"FMGC 1"\t"LS"\t"100"\t"0"\t"100"\t"200"',
         '"ICD_13"\t"Selected ""Heading"""\t"FCU"\t"FMGC 1"\t"LS"\t"101"\t"0"\t"100"\t"200"'), 2),
     ("a table of Word: line breaks in the headings", lines(
-        '"Consumer\nLRU"\t"Bus\nspeed"\t"Parameter\nname"\t"Transmitter"\t"Label\n(octal)"\tSDI\t"Minimum\n(ms)"\t"Maximum\n(ms)"',
+        '"Consumer\nLRU"\t"Bus\nspeed"\t"Parameter\nname"\t"Transmitter"\tLabel\tSDI\t"Minimum\n(ms)"\t"Maximum\n(ms)"',
         "Nav Display\tLS\tTrue Heading\tIRS 1\t314\tany\t25\t50", end="\r\n"), 1),
     ("rates in Hz", lines(
         "Destination,Speed,Parameter,Input,Label,SDI,Min rate (Hz),Max rate (Hz)",
