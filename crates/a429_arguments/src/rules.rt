@@ -75,6 +75,45 @@ pub static RULES: [(Rule, Option<Verb>); 34] = [
     (Rule::Excludes(OptionName::Align, OptionName::Drift), None),
 ];
 
+/// What is wrong with a text that has not the form of its option, for people.
+fn form_message(option: OptionName) -> &'static str {
+    match option {
+        OptionName::Channel => {
+            "'--channel <FROM=TO>' takes a channel, '=' and a name, such as 3=adc-1"
+        }
+        OptionName::Map => {
+            "'--map <HEADING=COLUMN>' takes a heading, '=' and a column, such as Equipment=receiver"
+        }
+        OptionName::Tolerance => {
+            "'--tolerance <US>' takes 0 to 30000000, or a group, '=' and such a number, as in engine=500"
+        }
+        OptionName::Width => "'--width <N>' must be 64, 128 or 256",
+        OptionName::Time => "'--time <UNIT>' takes us, ms, s or ns",
+        OptionName::Reversed => "'--reversed <BITS>' takes label or word",
+        OptionName::Shift => {
+            "'--shift <US>' takes a number of at most 14 digits, such as 500, or =-500 for the other way"
+        }
+        OptionName::Drift => {
+            "'--drift <PPB>' takes a number of at most 6 digits, such as 50000 for 50 ppm, or =-50000 for the other way"
+        }
+        _ => "'--from <TIME>' takes 'first' or a number of at most 18 digits",
+    }
+}
+
+/// What is wrong with two options that are not given together, for people.
+fn both_message(option: OptionName, other: OptionName) -> &'static str {
+    match (option, other) {
+        (OptionName::Sent, _) => "'--sent' cannot be used with '--csv', '--json' or '--summary'",
+        (OptionName::Stamp, _) => "'--stamp' cannot be used with '--json' or '--c'",
+        (OptionName::Keep, _) => "'--keep' cannot be used with '--csv' or '--json'",
+        (OptionName::Align, _) => "'--align' cannot be used with '--shift' or '--drift'",
+        (OptionName::Csv, _) => "'--csv' and '--json' cannot be used together",
+        (_, OptionName::Board) => "'--c' and '--board' cannot be used together",
+        (OptionName::Board, _) => "'--all' and '--board' cannot be used together",
+        _ => "'--c' and '--rows' cannot be used with '--csv' or '--json'",
+    }
+}
+
 /// What is wrong with arguments that break a rule, for people.
 fn message(rule: Rule) -> &'static str {
     match rule {
@@ -83,43 +122,12 @@ fn message(rule: Rule) -> &'static str {
         Rule::Needs(OptionName::Slack, _) => "'--slack' needs '--rows'",
         Rule::Needs(OptionName::Text, _) => "'--text' needs '--csv'",
         Rule::Needs(_, _) => "'--json' needs '--summary'",
-        Rule::Fits(OptionName::Channel) => {
-            "'--channel <FROM=TO>' takes a channel, '=' and a name, such as 3=adc-1"
-        }
+        Rule::Fits(option) => form_message(option),
+        Rule::Excludes(option, other) => both_message(option, other),
         Rule::Apart(OptionName::Channel) => "'--channel <FROM=TO>' is given twice for one channel",
-        Rule::Fits(OptionName::Map) => {
-            "'--map <HEADING=COLUMN>' takes a heading, '=' and a column, such as Equipment=receiver"
-        }
         Rule::Apart(OptionName::Map) => "'--map <HEADING=COLUMN>' is given twice for one heading",
-        Rule::Fits(OptionName::Tolerance) => {
-            "'--tolerance <US>' takes 0 to 30000000, or a group, '=' and such a number, as in engine=500"
-        }
         Rule::Apart(_) => "'--tolerance <US>' is given twice for one group",
         Rule::OneGeneral(_) => "'--tolerance <US>' is given twice for all groups",
-        Rule::Excludes(OptionName::Sent, _) => {
-            "'--sent' cannot be used with '--csv', '--json' or '--summary'"
-        }
-        Rule::Fits(OptionName::Width) => "'--width <N>' must be 64, 128 or 256",
-        Rule::Fits(OptionName::Time) => "'--time <UNIT>' takes us, ms, s or ns",
-        Rule::Fits(OptionName::Reversed) => "'--reversed <BITS>' takes label or word",
-        Rule::Fits(OptionName::Shift) => {
-            "'--shift <US>' takes a number of at most 14 digits, such as 500, or =-500 for the other way"
-        }
-        Rule::Fits(OptionName::Drift) => {
-            "'--drift <PPB>' takes a number of at most 6 digits, such as 50000 for 50 ppm, or =-50000 for the other way"
-        }
-        Rule::Fits(_) => "'--from <TIME>' takes 'first' or a number of at most 18 digits",
-        Rule::Excludes(OptionName::Stamp, _) => {
-            "'--stamp' cannot be used with '--json' or '--c'"
-        }
-        Rule::Excludes(OptionName::Keep, _) => "'--keep' cannot be used with '--csv' or '--json'",
-        Rule::Excludes(OptionName::Align, _) => {
-            "'--align' cannot be used with '--shift' or '--drift'"
-        }
-        Rule::Excludes(OptionName::Csv, _) => "'--csv' and '--json' cannot be used together",
-        Rule::Excludes(_, OptionName::Board) => "'--c' and '--board' cannot be used together",
-        Rule::Excludes(OptionName::Board, _) => "'--all' and '--board' cannot be used together",
-        Rule::Excludes(_, _) => "'--c' and '--rows' cannot be used with '--csv' or '--json'",
     }
 }
 
