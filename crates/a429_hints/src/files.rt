@@ -10,6 +10,11 @@ pub const REFUSED_OUTPUT: &str =
 /// The hint about a file in UTF-16.
 pub const UTF_16: &str = "the file is UTF-16; save it as UTF-8";
 
+/// The text with this number, counted from 1; empty if there is none.
+pub fn nth<'a>(texts: &[&'a str], number: usize) -> &'a str {
+    texts.get(number.saturating_sub(1)).copied().unwrap_or("")
+}
+
 /// Says why the file of this name cannot be read.
 pub fn tell_trouble(trouble: FileTrouble, name: &str, hint: &HintText) {
     hint.turn_to(name);

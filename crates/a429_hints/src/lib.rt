@@ -37,6 +37,7 @@ mod rows;
 mod scripts;
 mod telling;
 mod twins;
+mod whole_logs;
 mod words;
 
 pub use telling::HintLines;

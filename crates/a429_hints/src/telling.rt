@@ -4,15 +4,16 @@ use crate::checks::tell_objection;
 use crate::clocks::{tell_apart, tell_clock, tell_clocks};
 use crate::differences::tell_difference;
 use crate::faults::tell_table_fault;
-use crate::files::{REFUSED_OUTPUT, UTF_16, tell_trouble};
+use crate::files::{REFUSED_OUTPUT, UTF_16, nth, tell_trouble};
 use crate::findings::{tell_changes, tell_findings};
 use crate::hint::HintText;
 use crate::imports::{tell_millis_group, tell_notes, tell_rows, tell_short_intervals};
 use crate::keeping::{tell_kept, tell_moved, tell_plan_line};
-use crate::logs::{tell_close_words, tell_log_line, tell_passed, tell_too_long};
+use crate::logs::tell_log_line;
 use crate::mistakes::{tell_habits, tell_nearest_word};
 use crate::plans::{tell_all_unfit, tell_fewer_buses, tell_groups, tell_half_period};
 use crate::scripts::{tell_script_line, tell_words_line};
+use crate::whole_logs::{tell_close_words, tell_passed, tell_too_long};
 use crate::words::{
     tell_data_text, tell_even_word, tell_filter, tell_label_text, tell_line_byte, tell_word_text,
 };
@@ -396,9 +397,4 @@ fn log_name<'a>(asked: &Asked<'a>, number: usize) -> &'a str {
     } else {
         nth(&asked.more, number - inputs - 1)
     }
-}
-
-/// The text with this number, counted from 1; empty if there is none.
-fn nth<'a>(texts: &[&'a str], number: usize) -> &'a str {
-    texts.get(number.saturating_sub(1)).copied().unwrap_or("")
 }

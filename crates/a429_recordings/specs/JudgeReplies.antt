@@ -80,6 +80,10 @@ clock_of a = record { drift = a.drift; shift = a.shift }
 abbrev pub aligned_by : {A : Type 0} → Option Alignment → BoxFiles A → BoxFiles A
 aligned_by found i = on_clock (option_map_or clock_of found i.sent_view.clock) i
 
+-- which words of what was sent are taken then
+abbrev pub aligned_view : {A : Type 0} → Option Alignment → BoxFiles A → View
+aligned_view found i = (aligned_by found i).sent_view
+
 -- none is found if none is looked for
 abbrev pub MayBeFound : {A : Type 0} → BoxFiles A → Option Alignment → Type 0
 MayBeFound i found = i.aligned ≡ false → found ≡ None

@@ -5,7 +5,7 @@ ghost use Rattle.a429_arguments.specs.Texts.{texts_of};
 ghost use Rattle.a429_console.specs.Names.{naming_of};
 ghost use Rattle.a429_console.specs.Readings.{HasRead};
 ghost use Rattle.a429_recordings.specs.BoxLogs.{AreOrdered, IsLogsReading, IsNoting, box_word_by, restarted};
-ghost use Rattle.a429_recordings.specs.JudgeReplies.{IsBoxReading, IsJudgeAnswer, IsJudging, IsJudgingOf, IsPrinting, IsRecorded, MayBeFound, PassesNoBoxLine, PassesNoneOf, aligned_by, files_of, is_no_group, names_of, no_group_of};
+ghost use Rattle.a429_recordings.specs.JudgeReplies.{IsBoxReading, IsJudgeAnswer, IsJudging, IsJudgingOf, IsPrinting, IsRecorded, MayBeFound, PassesNoBoxLine, PassesNoneOf, aligned_by, aligned_view, files_of, is_no_group, names_of, no_group_of};
 ghost use Rattle.a429_recordings.specs.LogItems.{PassesNone};
 ghost use Rattle.a429_recordings.specs.LogViews.{view_after, view_of};
 ghost use Rattle.a429_recordings.specs.declared.judge.words.BoxLog.TheVariants.{Sent};
@@ -150,7 +150,7 @@ fn restarted(reading: Reading) -> Reading
 
 /// Which words of what was sent are taken, on the clock that is found, otherwise on that which is given.
 fn sent_view<'a>(input: &'a JudgeInput<'a>, found: Option<Alignment>) -> LogView<'a>
-    ensures { view_of result ≡ (aligned_by found (files_of input.now)).sent_view }
+    ensures { view_of result ≡ aligned_view found (files_of input.now) }
 {
     match found {
         Some(alignment) => {
@@ -174,7 +174,7 @@ fn read_sent<'a>(
     warnings: &mut Vec<Warning>,
 ) -> Result<BoxWords, Refused>
     ensures silent { PassesNone (restarted after) (files_of input.now).sent → warnings.new.items ≡ warnings.old.items }
-    ensures read { IsLogsReading (box_word_by names.now (view_after after (aligned_by found (files_of input.now)).sent_view) Sent) (restarted after)
+    ensures read { IsLogsReading (box_word_by names.now (view_after after (aligned_view found (files_of input.now))) Sent) (restarted after)
         (bytes_of input.now.sent.items) result }
     ensures ordered { IfOk result (λ read. AreOrdered read.words.items) }
 {

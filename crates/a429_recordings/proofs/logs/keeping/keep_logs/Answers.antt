@@ -34,8 +34,7 @@ loop-number-preserved g c =
       items = before_more f c.args.reading (bytes_of logs) now.next end.next text left (k.kept now.keeper) (k.kept c.keep_log.new.keeper) (rw here at now.invariant.items) kept;
       silent = λ none.
           let before = now.invariant.silent none in
-          let these : PassesNone now.next (text ∷ left) = subst (PassesNone now.next) here before.1 in
-          (
+          let these : PassesNone now.next (text ∷ left) = subst (PassesNone now.next) here before.1 in (
             c.note_passed.ensures (c.in-Ok.ensures.titles ∙ these.0) (c.in-Ok.ensures.tail ∙ these.1) ∙ before.0,
             subst (λ (r : Reading). PassesNone r left) (sym kept.0) these.2,
           );
