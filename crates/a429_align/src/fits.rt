@@ -38,8 +38,8 @@ impl Fit {
     }
 }
 
-/// By how much the times of what was sent are to be moved so that moments are the same, sorted, each with `ZERO` added. Error:
-/// an allocation failed.
+/// The shift of the times of what was sent by which the two moments of a pair are one, for each pair, sorted, with `ZERO` added.
+/// Error: an allocation failed.
 fn shifts(alloc: Global, moments: &[Moments], drift: Drift) -> Result<Vec<u64>, AllocError> {
     let mut shifts = Gathered::new(alloc);
     for pair in moments {
@@ -51,7 +51,8 @@ fn shifts(alloc: Global, moments: &[Moments], drift: Drift) -> Result<Vec<u64>, 
     Ok(shifts)
 }
 
-/// The bounds with the drift of this number, if so many moments at either bound are passed over. Error: an allocation failed.
+/// The bounds with the drift of this number, if this number of moments at either bound is passed over. Error: an allocation
+/// failed.
 pub fn fit_at(alloc: Global, pairs: &Pairs, drift: u64, skipped: usize) -> Result<Fit, AllocError> {
     let rate = drift_at(drift);
     let begins = shifts(alloc, &pairs.begins, rate)?;

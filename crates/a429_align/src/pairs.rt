@@ -7,7 +7,7 @@ use std::alloc::{AllocError, Global};
 /// What is added to the difference of two times, so that it is not below 0: more than any time.
 pub const ZERO: u64 = 1_125_899_906_842_624;
 
-/// A word is not looked at if it is there so often that there would be more pairs of it.
+/// A word is not looked at if there are more pairs of it.
 const MOST_PAIRS: usize = 64;
 
 /// A moment at which a word came in or went, and one at which it was sent first or last.

@@ -124,7 +124,7 @@ fn alignment_of(pairs: &Pairs, found: Found) -> Alignment
     }
 }
 
-/// How much later than usual a word may be sent first, or last: the longest latency, and what clocks drift apart meanwhile.
+/// How much later than usual a word may be sent first, or last: the longest latency, and what clocks drift apart.
 fn width_of(heard: &Recorded, sent: &Recorded, latency: u64) -> u64 {
     let long = heard
         .end

@@ -1,8 +1,8 @@
-//! Where words are in a recording.
+//! The spans of words in a recording.
 
 use std::alloc::{AllocError, Global};
 
-/// Where a word is in a recording: its 32 bits, and from when until when, in microseconds. A word that came in is there as
+/// A word in a recording: its 32 bits, and from when until when it is there, in microseconds. A word that came in is there as
 /// long as it is the latest of its source, a word that was sent at the time of its record.
 #[derive(Clone, Copy)]
 pub struct Span {

@@ -27,7 +27,7 @@ abbrev by_shift : Shift → ℕ → ℕ
 by_shift (shift.Later by) t = t + by
 by_shift (shift.Earlier by) t = t - by
 
--- a time without the drift of its clock, however long it is
+-- a time without the drift of its clock, of any number of bits
 abbrev by_drift : Drift → ℕ → ℕ
 by_drift (drift.Fast parts) t = t - part_of t parts
 by_drift (drift.Slow parts) t = t + part_of t parts
