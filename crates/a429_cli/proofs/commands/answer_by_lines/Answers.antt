@@ -3,7 +3,7 @@ use Rattle.std.proofs.Common.{◌∷◌, List, ℕ, inl, refl, subst, sym}
 use Rattle.std.proofs.lemmas.Result.{IfOk-weaker}
 use Rattle.a429_arguments.specs.Texts.{texts_of}
 use Rattle.a429_arguments.specs.Requests.{asked_of}
-use Rattle.a429_recordings.specs.LogItems.{logs_named, view_named}
+use Rattle.a429_recordings.specs.LogItems.{PassesNoLine, logs_named, view_named}
 use Rattle.a429_recordings.specs.LogViews.{View, whole_view}
 use Rattle.a429_recordings.specs.declared.simulate.SimulationForm.{SimulationForm}
 use Rattle.a429_recordings.specs.SimulationReplies.{IsSimulation, SimulatesSpacedWords, simulation_form}
@@ -56,18 +56,22 @@ returns-in-Lines-clause-silent g c = read_weaker c.tell_lines.ensures.told (λ f
 pub returns-in-Simulate-clause-silent : goal.returns-in-Simulate-clause-silent
 returns-in-Simulate-clause-silent g c =
     rw c.in-Simulate.is
-    (read_weaker c.simulate.ensures.silent (λ file is spaced.
+    (read_weaker c.simulate.ensures.silent (λ file is none.
     let a = c.args.asked.now in
     let names = c.simulated_logs.result in
     let logs = a.second.now ∷ texts_of a.more.items in
     let view = whole_view (asked_of a).given in
+    let by_reading : PassesNoLine file logs c.of-form.result.reading =
+    subst (λ (f : SimulationForm). PassesNoLine file logs f.reading) (sym c.of-form.ensures) none.0 in
+    let plain : PassesNoLine file (logs_named names) c.of-form.result.reading =
+    subst (λ (ls : List (List ℕ)). PassesNoLine file ls c.of-form.result.reading) (sym c.simulated_logs.ensures.logs) by_reading in
     let by_form : SimulatesSpacedWords file a.first.now logs view c.of-form.result =
-    subst (λ (f : SimulationForm). SimulatesSpacedWords file a.first.now logs view f) (sym c.of-form.ensures) spaced in
+    subst (λ (f : SimulationForm). SimulatesSpacedWords file a.first.now logs view f) (sym c.of-form.ensures) none.1 in
     let by_logs : SimulatesSpacedWords file a.first.now (logs_named names) view c.of-form.result =
     subst (λ (ls : List (List ℕ)). SimulatesSpacedWords file a.first.now ls view c.of-form.result) (sym c.simulated_logs.ensures.logs) by_form in
     let these : SimulatesSpacedWords file a.first.now (logs_named names) (view_named names) c.of-form.result =
     subst (λ (v : View). SimulatesSpacedWords file a.first.now (logs_named names) v c.of-form.result) (sym c.simulated_logs.ensures.view) by_logs in
-    is these))
+    is plain these))
 
 pub returns-in-Replay-clause-silent : goal.returns-in-Replay-clause-silent
 returns-in-Replay-clause-silent g c =
