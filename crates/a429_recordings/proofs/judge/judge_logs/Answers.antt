@@ -19,3 +19,7 @@ returns-in_err-input-clause-answer g c =
 pub returns-clause-answer : goal.returns-clause-answer
 returns-clause-answer g c =
     read_weaker c.in_ok-input.ensures (λ file are. judged_by file (names_of c.args.names) (files_of c.in_ok-input.input) c.args.form c.judge_input.result are c.judge_input.ensures.judged)
+
+pub returns-clause-silent : goal.returns-clause-silent
+returns-clause-silent g c =
+    read_weaker c.in_ok-input.ensures (λ file are none. c.judge_input.ensures.silent (none (files_of c.in_ok-input.input) are))

@@ -1,4 +1,4 @@
-use Rattle.std.proofs.Common.{◌≡◌, ◌∙◌, ap, inl, inr}
+use Rattle.std.proofs.Common.{◌≡◌, ◌∙◌, ℕ, List, Vec, Global, ap, inl, inr, subst, sym}
 use Rattle.std.specs.Prelude.{Err, Ok}
 use Rattle.std.proofs.lemmas.Result.{err_from_is_err_and}
 use Rattle.a429_console.specs.FileReadings.{IsFirstUnreadLog}
@@ -7,7 +7,7 @@ use Rattle.a429_console.specs.RefusalText.{OrMemory}
 use Rattle.a429_console.specs.declared.refusals.CommandRefusal.TheVariants as refused
 use Rattle.a429_console.proofs.ReadingParts.{read_weaker}
 use Rattle.a429_console.proofs.Refused.{failed, or_memory_weaker}
-use Rattle.a429_recordings.specs.LogItems.{IsItemFault, items_of, logs_named, view_named}
+use Rattle.a429_recordings.specs.LogItems.{IsItemFault, PassesNone, items_of, logs_named, view_named}
 use Rattle.a429_recordings.specs.Surveys.{IsNoSurvey, noted_by}
 use Rattle.a429_recordings.proofs.survey.survey_logs.Goals as goal
 
@@ -46,3 +46,21 @@ returns-clause-answer g c =
     let words = c.in_ok-survey.survey in
     let its : items_of (noted_by (view_named c.args.names)) c.args.form.reading logs ≡ Ok words = rw c.deref.ensures.value at c.in_ok-survey.ensures.survey in
     read_weaker c.in_ok-logs.ensures (λ file read. (logs, words, read, its, c.in_ok-text_of.ensures))
+
+pub returns-in_err-survey-clause-silent : goal.returns-in_err-survey-clause-silent
+returns-in_err-survey-clause-silent g c =
+    read_weaker c.in_ok-logs.ensures (λ file read none.
+    c.in_err-survey.ensures.silent
+    (subst (λ (ls : List (Vec ℕ Global)). PassesNone c.args.form.reading (bytes_of ls)) (sym c.deref.ensures.value) (none (bytes_of c.in_ok-logs.logs.items) read)))
+
+pub returns-in_err-text_of-clause-silent : goal.returns-in_err-text_of-clause-silent
+returns-in_err-text_of-clause-silent g c =
+    read_weaker c.in_ok-logs.ensures (λ file read none.
+    c.in_ok-survey.ensures.silent
+    (subst (λ (ls : List (Vec ℕ Global)). PassesNone c.args.form.reading (bytes_of ls)) (sym c.deref.ensures.value) (none (bytes_of c.in_ok-logs.logs.items) read)))
+
+pub returns-clause-silent : goal.returns-clause-silent
+returns-clause-silent g c =
+    read_weaker c.in_ok-logs.ensures (λ file read none.
+    c.in_ok-survey.ensures.silent
+    (subst (λ (ls : List (Vec ℕ Global)). PassesNone c.args.form.reading (bytes_of ls)) (sym c.deref.ensures.value) (none (bytes_of c.in_ok-logs.logs.items) read)))

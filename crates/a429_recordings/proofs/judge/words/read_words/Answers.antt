@@ -33,4 +33,4 @@ returns-in-Ok-clause-ordered c =
     let view = view_of c.args.view in
     let words = c.keep_logs.new.keeper.words.items in
     are_ordered (moved_to view c.args.reading.clock.last) words
-    (items_timed time_of view (box_word names c.args.log) c.args.reading (bytes_of c.args.texts.now) words (has_time names c.args.log) c.in-Ok.ensures.0)
+    (items_timed time_of view (box_word names c.args.log) c.args.reading (bytes_of c.args.texts.now) words (has_time names c.args.log) c.in-Ok.ensures.kept.0)

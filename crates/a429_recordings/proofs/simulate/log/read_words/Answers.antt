@@ -19,7 +19,7 @@ has_time names w v is =
 
 pub returns-in-Ok-clause-words : goal.returns-in-Ok-clause-words
 unfolding log_words
-returns-in-Ok-clause-words c = c.in-Ok.ensures.0
+returns-in-Ok-clause-words c = c.in-Ok.ensures.kept.0
 
 pub returns-in-Ok-clause-in_time : goal.returns-in-Ok-clause-in_time
 returns-in-Ok-clause-in_time c =
@@ -27,7 +27,7 @@ returns-in-Ok-clause-in_time c =
     let view = view_of c.args.view in
     let last = moved_to view c.args.reading.clock.last in
     let words = c.keep_logs.new.keeper.words.items in
-    let are = items_timed time_of view (word_for names) c.args.reading (bytes_of c.args.logs.now) words (has_time names) c.in-Ok.ensures.0 in
+    let are = items_timed time_of view (word_for names) c.args.reading (bytes_of c.args.logs.now) words (has_time names) c.in-Ok.ensures.kept.0 in
     record {
       in_order = λ i w v here next. timed_in_order time_of last words i (i + 1) w v are refl here next;
       few = λ i w here. timed_few time_of last words i w are here;
