@@ -30,7 +30,7 @@ recorded q i reading heard sent (Err e) h s bad =
 pub unprinted : (q : Proposed) (i : BoxFiles (List ℕ)) (f : JudgeForm) (clock : Option Alignment) (e : CommandRefusal) → no_group_of (naming_of q.station) i.tolerances ≡ None → is_any_wide q i.tolerances ≡ false → MayBeFound i clock
     → OrMemory (IsNoRecording q (aligned_by clock i) f.reading) e → OrMemory (IsUnjudgedOf q i f) e
 unprinted q i f clock e all narrow may bad =
-    or_memory_weaker (IsNoRecording q (aligned_by clock i) f.reading) (IsUnjudgedOf q i f) e (λ one. inr (all, inr (narrow, clock, may, one))) bad
+    or_memory_weaker (IsNoRecording q (aligned_by clock i) f.reading) (IsUnjudgedOf q i f) e (λ one. inr (all, inr (narrow, (clock, may, one)))) bad
 
 -- the bytes of the table have this plan
 pub judged_of : (q : Proposed) (i : BoxFiles (List ℕ)) (f : JudgeForm) (result : Result Judged CommandRefusal) → IsProposedBy i.table q → IsJudgingOf q i f result → IsJudging i f result

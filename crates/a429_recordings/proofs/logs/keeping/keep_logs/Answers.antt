@@ -1,4 +1,4 @@
-use Rattle.std.proofs.Common.{◌≡◌, ◌∙◌, ◌+◌, ◌∷◌, List, ℕ, ap, drop, subst, sym}
+use Rattle.std.proofs.Common.{◌≡◌, ◌∙◌, ◌+◌, ◌∷◌, ap, drop, subst, sym}
 use Rattle.a429_console.specs.Files.{bytes_of}
 use Rattle.a429_logs.specs.declared.reading.Reading.{Reading}
 use Rattle.a429_recordings.specs.LogItems.{PassesNone, reading_behind}
