@@ -381,4 +381,4 @@ module _ (e : TableRecord) (sound : IsSound e) where
   pub rows_stated_are : HasFew (read_table e) → HaveFewOutputs (read_table e) → (p : PlanTable) (lines : List CsvLine) → IsPlanOf e p → AreLines [] (csv_text_of (icd_columns ∷ map texts (icd_rows false e p))) lines → rows_stated lines ≡ Ok (read_table e)
   rows_stated_are few outputs p lines planned are =
       let read = all_read p planned in
-      stated_from lines (map texts (icd_rows false e p)) (lines_back (map texts (icd_rows false e p)) lines (heading_filled, have_texts (map texts (icd_rows false e p)) (read_table e) read) are) read
+      stated_from lines (map texts (icd_rows false e p)) (lines_back (map texts (icd_rows false e p)) lines (heading_filled, have_texts (map texts (icd_rows false e p)) (read_table e) read) are) read few outputs
