@@ -1,3 +1,4 @@
+pub mod Stretches
 pub mod Cells
 pub mod Columns
 pub mod Rows
@@ -14,7 +15,6 @@ pub mod GoingOn
 pub mod Numbers
 pub mod Following
 pub mod SamePlan
-pub mod OnBuses
 pub mod SpacedTables
 pub mod SpacedPlans
 pub mod OnePlan

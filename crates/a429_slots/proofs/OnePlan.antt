@@ -1,7 +1,7 @@
 -- Two plans of a table are the same.
 use Rattle.std.proofs.Common.{◌≡◌, ℕ, ◌/◌, ◌%◌, ◌^◌, ◌<◌, List, [], ◌∷◌, length, get_or, map, refl, sym, ap, ap₂, ◌∙◌, subst, arith}
 use Rattle.std.specs.Prelude.{None}
-use Rattle.std.specs.List.{AllZip, range_with_len}
+use Rattle.std.specs.List.{AllByRecursion, AllZip, range_with_len}
 use Rattle.std.specs.List.Sorted.{IsPermutation}
 use Rattle.std.proofs.lemmas.List.{ext_get_or, length-map}
 use Rattle.std.proofs.lemmas.Slice.Zip.{AllZip-long}
@@ -16,7 +16,7 @@ use Rattle.a429_pack.specs.Demands.{IsLayoutOrder, exponents_of, greatest}
 use Rattle.a429_pack.specs.Orders.{NamesEachOnce}
 use Rattle.a429_pack.specs.Sums.{start_of}
 use Rattle.a429_slots.specs.OnePlan.{PlansAreUnique}
-use Rattle.a429_slots.specs.Planned.{HasPeriod, IsPlannedAt, IsPlannedFor, IsServed, asked_by, asked_of, rated_outputs}
+use Rattle.a429_slots.specs.Planned.{HasPeriod, IsLayout, IsPlannedAt, IsPlannedFor, IsServed, asked_by, asked_of, rated_outputs}
 use Rattle.a429_slots.specs.Tables.{SlotTable, Placed, demands_of, groups_of, order_of, outputs_of, placed_at, share_of, unplaced}
 use Rattle.a429_slots.proofs.Columns.{map_where}
 use Rattle.a429_slots.proofs.Rows.{blank}
@@ -67,6 +67,8 @@ NameEach = (n : ℕ) (xs : List ℕ) → IsPermutation (range_with_len 0 n) xs �
 record AreFor (rate : ℕ) (sources : List SourceRow) (rows : List OutputRow) (t u : SlotTable) : Type 0 where
   pub first : IsPlannedFor rate sources rows t
   pub second : IsPlannedFor rate sources rows u
+  pub first_layout : IsLayout sources t
+  pub second_layout : IsLayout sources u
   pub one_order : OneOrder
   pub one_count : OneCount
   pub names : NameEach
@@ -83,11 +85,11 @@ module _ (rate : ℕ) (sources : List SourceRow) (rows : List OutputRow) (t u : 
   counts = (AllZip-long (IsServed rate) rows (outputs_of t) a.first.served, AllZip-long (IsServed rate) rows (outputs_of u) a.second.served)
 
   frames : t.frame ≡ u.frame
-  frames = a.first.layout.frame ∙ ap (λ (ds : List Demand). greatest (exponents_of ds)) asked_alike ∙ sym a.second.layout.frame
+  frames = a.first.frame ∙ ap (λ (ds : List Demand). greatest (exponents_of ds)) asked_alike ∙ sym a.second.frame
 
   orders : order_of t ≡ order_of u
   orders =
-      a.one_order (asked_of sources u) (order_of t) (order_of u) (subst (λ (ds : List Demand). IsLayoutOrder ds (order_of t)) asked_alike a.first.layout.order) a.second.layout.order
+      a.one_order (asked_of sources u) (order_of t) (order_of u) (subst (λ (ds : List Demand). IsLayoutOrder ds (order_of t)) asked_alike a.first_layout.order) a.second_layout.order
 
   buses : t.buses ≡ u.buses
   buses =
@@ -104,7 +106,7 @@ module _ (rate : ℕ) (sources : List SourceRow) (rows : List OutputRow) (t u : 
   names_of : NamesEachOnce (length rows) (order_of t)
   names_of =
       let many : length (asked_of sources t) ≡ length rows = length-map (outputs_of t) (asked_by sources) ∙ counts.0 in
-      subst (λ (n : ℕ). NamesEachOnce n (order_of t)) many (a.names (length (asked_of sources t)) (order_of t) a.first.layout.order.all)
+      subst (λ (n : ℕ). NamesEachOnce n (order_of t)) many (a.names (length (asked_of sources t)) (order_of t) a.first_layout.order.all)
 
   demands : demands_of t ≡ demands_of u
   demands =
@@ -116,8 +118,8 @@ module _ (rate : ℕ) (sources : List SourceRow) (rows : List OutputRow) (t u : 
   places o below =
       let (k, low, is) = names_of.place o below in
       let there : get_or (order_of u) k 0 ≡ o = ap (λ (xs : List ℕ). get_or xs k 0) (sym orders) ∙ is in
-      let f = a.first.layout.places k (omega (arith, counts.0)) in
-      let s = a.second.layout.places k (omega (arith, counts.1)) in
+      let f = a.first_layout.places k (omega (arith, counts.0)) in
+      let s = a.second_layout.places k (omega (arith, counts.1)) in
       let starts : start_of (demands_of t) k ≡ start_of (demands_of u) k = ap (λ (ds : List ℕ). start_of ds k) demands in (
         ap (λ (z : ℕ). (placed_at t z).place.bus) (sym is) ∙ f.bus ∙ ap₂ (λ x h. x / 2 ^ h) starts frames ∙ sym s.bus ∙ ap (λ (z : ℕ). (placed_at u z).place.bus) there,
         ap (λ (z : ℕ). (placed_at t z).place.offset) (sym is) ∙ f.offset ∙ ap₂ (λ x h. reversed h (x % 2 ^ h)) starts frames ∙ sym s.offset ∙ ap (λ (z : ℕ). (placed_at u z).place.offset) there,
@@ -143,17 +145,20 @@ module _ (rate : ℕ) (sources : List SourceRow) (rows : List OutputRow) (t u : 
 
 -- ---- all groups
 
-same_tables : OneOrder → OneCount → NameEach → (sources : List SourceRow) (rated : List (ℕ × List OutputRow)) (ts us : List SlotTable) → AllZip (IsPlannedAt sources) rated ts → AllZip (IsPlannedAt sources) rated us → ts ≡ us
-same_tables order count names sources [] [] [] h k = refl
-same_tables order count names sources [] [] (u ∷ us) h k = absurd k
-same_tables order count names sources [] (t ∷ ts) us h k = absurd h
-same_tables order count names sources (r ∷ rated) [] us h k = absurd h
-same_tables order count names sources (r ∷ rated) (t ∷ ts) [] h k = absurd k
-same_tables order count names sources (r ∷ rated) (t ∷ ts) (u ∷ us) h k =
-    ap₂ (λ z zs. z ∷ zs) (same_table r.0 sources r.1 t u (record { first = h.0; second = k.0; one_order = order; one_count = count; names = names })) (same_tables order count names sources rated ts us h.1 k.1)
+same_tables : OneOrder → OneCount → NameEach → (sources : List SourceRow) (rated : List (ℕ × List OutputRow)) (ts us : List SlotTable) → AllZip (IsPlannedAt sources) rated ts → AllByRecursion (IsLayout sources) ts
+    → AllZip (IsPlannedAt sources) rated us → AllByRecursion (IsLayout sources) us → ts ≡ us
+same_tables order count names sources [] [] [] h own k other = refl
+same_tables order count names sources [] [] (u ∷ us) h own k other = absurd k
+same_tables order count names sources [] (t ∷ ts) us h own k other = absurd h
+same_tables order count names sources (r ∷ rated) [] us h own k other = absurd h
+same_tables order count names sources (r ∷ rated) (t ∷ ts) [] h own k other = absurd k
+same_tables order count names sources (r ∷ rated) (t ∷ ts) (u ∷ us) h own k other =
+    ap₂ (λ z zs. z ∷ zs)
+    (same_table r.0 sources r.1 t u (record { first = h.0; second = k.0; first_layout = own.0; second_layout = other.0; one_order = order; one_count = count; names = names }))
+    (same_tables order count names sources rated ts us h.1 own.1 k.1 other.1)
 
 pub one_plan : OneOrder → OneCount → NameEach → PlansAreUnique
-one_plan order count names e p q h k = λ i. record {
-  groups = same_tables order count names e.sources (rated_outputs e) (groups_of p) (groups_of q) h.groups k.groups i;
+one_plan order count names e p q h own k other = λ i. record {
+  groups = same_tables order count names e.sources (rated_outputs e) (groups_of p) (groups_of q) h.groups own k.groups other i;
   number = (h.number ∙ sym k.number) i;
 }

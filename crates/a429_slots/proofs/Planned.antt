@@ -115,11 +115,10 @@ served n rate sources rows ds l t m =
       subst (λ (k : SendLimits). IsLeastSpacing row.min_us rate k.spacing) (sym limits) (m.least row.min_us rate),
     ))
 
-layout : (n rate : ℕ) (sources : List SourceRow) (rows : List OutputRow) (ds : List Demand) (l : Layout) (t : SlotTable) → IsMade n rate sources rows ds l t → IsLayout sources t
+pub layout : (n rate : ℕ) (sources : List SourceRow) (rows : List OutputRow) (ds : List Demand) (l : Layout) (t : SlotTable) → IsMade n rate sources rows ds l t → IsLayout sources t
 layout n rate sources rows ds l t m =
     let back : ds ≡ asked_of sources t = sym (asked_same n rate sources rows ds l t m) in
     record {
-      frame = m.table.frame ∙ m.frame ∙ ap (λ xs. greatest (map exponent_of xs)) back;
       order = subst (λ (xs : List Demand). IsLayoutOrder xs (order_of t)) back (subst (IsLayoutOrder ds) (sym m.table.order) m.order);
       places = m.table.places;
     }
@@ -133,7 +132,10 @@ fewest_for rate sources rows ds buses asked fit fewest = record { exponents = ex
 pub planned : (n rate : ℕ) (sources : List SourceRow) (rows : List OutputRow) (ds : List Demand) (l : Layout) (t : SlotTable) → IsMade n rate sources rows ds l t → IsPlannedFor rate sources rows t
 planned n rate sources rows ds l t m = record {
   served = served n rate sources rows ds l t m;
-  layout = layout n rate sources rows ds l t m;
+  frame = m.table.frame ∙ m.frame ∙ ap (λ xs. greatest (map exponent_of xs)) (sym (asked_same n rate sources rows ds l t m));
+  order = m.sound.order;
+  follow = m.sound.follow;
+  on_bus = m.sound.on_bus;
   periodic = λ o below. stands_just_at n t m.sound m.each m.apart o below;
   fewest = fewest_for rate sources rows ds (buses_of t) m.asked m.fit (subst (AreFewestBuses (exponents_of ds)) (sym m.table.buses) m.fewest);
   few_buses = m.sound.few;

@@ -3,10 +3,11 @@ use Rattle.std.proofs.Common.{◌≡◌, ℕ, zero, suc, ◌+◌, ◌-◌, ◌*�
 use Rattle.std.specs.List.{AllByRecursion, range_with_len}
 use Rattle.std.specs.List.Sorted.{IsPermutation}
 use Rattle.std.proofs.lemmas.List.{length-map, get_or-map}
-use Rattle.std.proofs.lemmas.Nat.{pow-add, pow_pos, shl-shr, div_below}
+use Rattle.std.proofs.lemmas.Nat.{pow-add, pow_pos, shl-shr, div_below, mod_below}
 use Rattle.std.proofs.Math.Nat.{one-le-mul}
 use Rattle.a429_grid.specs.Grid.{IsLeastSpacing, least_spacing}
 use Rattle.a429_grid.specs.Reversal.{reversed}
+use Rattle.a429_grid.proofs.Reversing.{reversed_back}
 use Rattle.a429_equipment.specs.Sound.{IsInterval}
 use Rattle.a429_equipment.specs.declared.rows.OutputRow.{OutputRow}
 use Rattle.a429_pack.specs.declared.demands.Demand.{Demand}
@@ -17,13 +18,14 @@ use Rattle.a429_pack.specs.Orders.{NamesEachOnce}
 use Rattle.a429_pack.specs.Schedules.{IsExactlyPeriodic}
 use Rattle.a429_pack.specs.Sums.{start_of, Holds}
 use Rattle.a429_pack.proofs.Packings.{demand_over}
-use Rattle.a429_pack.proofs.Tables.{padded-front}
+use Rattle.a429_pack.proofs.Tables.{padded-front, start_more}
 use Rattle.a429_slots.specs.declared.group_plan.GroupPlan.TheInside.{Inside}
 use Rattle.a429_slots.specs.declared.group_plan.SendLimits.{SendLimits}
 use Rattle.a429_slots.specs.Tables.{Placed, SlotTable, demands_of, placed_at, share_of, unlimited, unplaced}
-use Rattle.a429_slots.specs.Kept.{BeginsAt, HoldsCell, HoldsJustCellsOf, IsTable}
+use Rattle.a429_slots.specs.Kept.{BeginsAt, HoldsCell, HoldsJustItsCells, IsTable, begin_of, end_of, steps_from, stretches_of}
 use Rattle.a429_slots.specs.Columns.{AreColumns, placed_in, table_in}
 use Rattle.a429_slots.specs.Asked.{AreBusesOf, AreOffsetsOf, IsTableOf, limits_at}
+use Rattle.a429_slots.proofs.Stretches.{steps_are}
 use Rattle.a429_slots.proofs.Columns.{column_is, length-table, map_where, mapped_at, placed_kept}
 use Rattle.a429_slots.proofs.Rows.{blank, unasked, all_below}
 
@@ -64,9 +66,12 @@ period_back h e few =
     let digits : e + (h - e) ≡ h = omega arith in
     ap (λ z. 2 ^ h / z) (demand_over h e few) ∙ ap (λ z. z / 2 ^ (h - e)) (ap (λ z. 2 ^ z) (sym digits) ∙ pow-add 2 e (h - e)) ∙ shl-shr (2 ^ e) (h - e)
 
+quotient_back : (s d : ℕ) → s / d * d + s % d ≡ s
+quotient_back s d = omega arith
+
 -- the columns with the frame, the buses and the demands of a layout, and their table
 abbrev pub laid_in : {n : ℕ} → Layout → Inside n → Inside n
-laid_in l c = record c { frame = l.frame; buses = l.buses; sums = l.demands }
+laid_in l c = record c { frame = l.frame; buses = l.buses; sums = l.demands; filled = sum l.demands }
 
 abbrev table : {n : ℕ} → Layout → Inside n → SlotTable
 table l c = table_in (laid_in l c)
@@ -162,19 +167,50 @@ module _ (n : ℕ) (l : Layout) (rows : List OutputRow) (ds : List Demand) (c : 
       let holds : Holds l.demands (start_of l.demands k) k = (omega (arith, p.each.length), omega arith, omega (arith, share, pow_pos (l.frame - e))) in
       div_below (start_of l.demands k) (2 ^ l.frame) l.buses (pow_pos l.frame) (omega (arith, p.within (start_of l.demands k) k holds, p.laid.room))
 
-  periodic : (k : ℕ) → k < length l.inputs → HoldsJustCellsOf (table l c) k (placed_at (table l c) (get_or l.inputs k 0))
+  -- the block of the output at a place begins with the stretch, and ends with it
+  begin_at : (k : ℕ) → k < length l.inputs → begin_of (table l c) (get_or l.inputs k 0) ≡ start_of l.demands k
+  begin_at k below =
+      let s : ℕ = start_of l.demands k in
+      let x : Placed = placed_at (table l c) (get_or l.inputs k 0) in
+      ap (λ z. z * 2 ^ l.frame + reversed l.frame x.place.offset) (bus_at k below)
+      ∙ ap (λ z. s / 2 ^ l.frame * 2 ^ l.frame + reversed l.frame z) (offset_at k below)
+      ∙ ap (λ z. s / 2 ^ l.frame * 2 ^ l.frame + z) (reversed_back l.frame (s % 2 ^ l.frame) (mod_below s (2 ^ l.frame) (pow_pos l.frame)))
+      ∙ quotient_back s (2 ^ l.frame)
+
+  end_at : (k : ℕ) → k < length l.inputs → end_of (table l c) (get_or l.inputs k 0) ≡ start_of l.demands k + get_or l.demands k 0
+  end_at k below = omega (arith, begin_at k below, share_at k below)
+
+  stretches : stretches_of (table l c) ≡ l.demands
+  stretches =
+      let count : length (map (end_of (table l c)) l.inputs) ≡ length l.inputs = length-map l.inputs (end_of (table l c)) in
+      ap (λ is. steps_from 0 (map (end_of (table l c)) is)) order
+      ∙ steps_are 0 (map (end_of (table l c)) l.inputs) l.demands (count ∙ p.each.length) (λ k below.
+      let inside : k < length l.inputs = omega (arith, p.each.length) in
+      get_or-map (end_of (table l c)) l.inputs k 0 0 inside ∙ end_at k inside ∙ omega arith)
+
+  -- an output has the cells of its stretch
+  periodic : (k : ℕ) → k < length l.inputs → HoldsJustItsCells (table l c) (get_or l.inputs k 0)
   periodic k below =
       let o : ℕ = get_or l.inputs k 0 in
       let x : Placed = placed_at (table l c) o in
-      let first : ℕ = start_of l.demands k / 2 ^ l.frame in
-      let second : ℕ = reversed l.frame (start_of l.demands k % 2 ^ l.frame) in
+      let inside : k < length l.demands = omega (arith, p.each.length) in
+      let laid = p.laid.periodic k inside in
       let period : 2 ^ l.frame / get_or l.demands k 0 ≡ 2 ^ x.place.period =
       ap (λ z. 2 ^ l.frame / z) (share_at k below) ∙ period_back l.frame x.place.period (few_exponent o (known k below)) in
-      subst (λ (z : ℕ). IsExactlyPeriodic (HoldsCell (table l c) k) z x.place.offset (2 ^ x.place.period)) (sym (bus_at k below))
-      (subst (λ (z : ℕ). IsExactlyPeriodic (HoldsCell (table l c) k) first z (2 ^ x.place.period)) (sym (offset_at k below))
-      (subst (λ (z : ℕ). IsExactlyPeriodic (HoldsCell (table l c) k) first second z) period
-      (subst (λ (zs : List ℕ). IsExactlyPeriodic (λ bus slot. Holds zs (bus * 2 ^ l.frame + reversed l.frame (slot % 2 ^ l.frame)) k) first second (2 ^ l.frame / get_or l.demands k 0)) (sym demands)
-      (p.laid.periodic k (omega (arith, p.each.length))))))
+      let first : start_of l.demands k / 2 ^ l.frame ≡ x.place.bus = sym (bus_at k below) in
+      let second : reversed l.frame (start_of l.demands k % 2 ^ l.frame) ≡ x.place.offset = sym (offset_at k below) in
+      subst (λ (z : ℕ). IsExactlyPeriodic (HoldsCell (table l c) o) z x.place.offset (2 ^ x.place.period)) first
+      (subst (λ (z : ℕ). IsExactlyPeriodic (HoldsCell (table l c) o) (start_of l.demands k / 2 ^ l.frame) z (2 ^ x.place.period)) second
+      (subst (λ (z : ℕ). IsExactlyPeriodic (HoldsCell (table l c) o) (start_of l.demands k / 2 ^ l.frame) (reversed l.frame (start_of l.demands k % 2 ^ l.frame)) z) period
+      (record {
+        within = laid.within;
+        cells = λ row slot. (
+          (λ holds. (laid.cells row slot).0 (inside, omega (arith, holds.0, begin_at k below), omega (arith, holds.1, end_at k below))),
+          (λ both.
+          let held = (laid.cells row slot).1 both in
+          (omega (arith, held.1, begin_at k below), omega (arith, held.2, end_at k below))),
+        );
+      })))
 
   -- ---- the table
 
@@ -200,15 +236,21 @@ module _ (n : ℕ) (l : Layout) (rows : List OutputRow) (ds : List Demand) (c : 
     few = p.laid.few;
     order = subst (λ (m : ℕ). IsPermutation (range_with_len 0 m) (table l c).order) (sym (length-table (laid_in l c)))
         (subst (λ (is : List ℕ). IsPermutation (range_with_len 0 (length l.demands)) is) (sym order) p.laid.inputs);
-    fits = subst (λ (zs : List ℕ). sum zs ≤ l.buses * 2 ^ l.frame) (sym demands) p.laid.room;
     within = λ o below. few_exponent o (omega (arith, long));
     spaced = λ o below. spaced_at o (omega (arith, long));
     on_bus = λ o below.
         let (k, here, is) = p.each.place o (omega (arith, long, p.each.length)) in
         let inside : k < length l.inputs = omega (arith, p.each.length) in
         subst (λ (z : ℕ). (placed_at (table l c) z).place.bus < l.buses) is (omega (arith, bus_at k inside, begins_inside k inside));
-    periodic = λ k below.
-        subst (λ (is : List ℕ). HoldsJustCellsOf (table l c) k (placed_at (table l c) (get_or is k 0))) (sym order) (periodic k (omega (arith, long)));
+    periodic = λ o below.
+        let (k, here, is) = p.each.place o (omega (arith, long, p.each.length)) in
+        subst (HoldsJustItsCells (table l c)) is (periodic k (omega (arith, here, p.each.length)));
+    follow = λ k below.
+        let inside : k < length l.inputs = omega (arith, below, long) in
+        let next : k + 1 < length l.inputs = omega (arith, below, long) in
+        let more : start_of l.demands (k + 1) ≡ start_of l.demands k + get_or l.demands k 0 = start_more l.demands k (omega (arith, inside, p.each.length)) in
+        subst (λ (is : List ℕ). end_of (table l c) (get_or is k 0) ≤ begin_of (table l c) (get_or is (k + 1) 0)) (sym order)
+        (omega (arith, end_at k inside, begin_at (k + 1) next, more));
   }
 
   pub are_columns : AreColumns n (laid_in l c)
@@ -216,7 +258,8 @@ module _ (n : ℕ) (l : Layout) (rows : List OutputRow) (ds : List Demand) (c : 
     kept = λ i. record {
       frame = l.frame;
       buses = l.buses;
-      sums = demands i;
+      sums = stretches i;
+      filled = ap sum demands i;
       order = (ap (padded 0 n) order ∙ sym p.order) i;
       sources = (ap (padded 0 n) sources ∙ sym p.sources) i;
       on_bus = (ap (padded 0 n) buses ∙ sym p.bus_rest) i;

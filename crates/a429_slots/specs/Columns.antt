@@ -1,9 +1,9 @@
 -- How a `GroupPlan` keeps its table: a column for each part of an output (vocabulary of contracts).
-use Rattle.std.specs.Prelude.{◌≡◌, ℕ, get_or, length, map, slice_index, take}
+use Rattle.std.specs.Prelude.{◌≡◌, ℕ, get_or, length, map, slice_index, sum, take}
 use Rattle.std.specs.List.{range_with_len}
 use Rattle.a429_pack.specs.Kept.{padded}
 use Rattle.a429_slots.specs.declared.group_plan.GroupPlan.TheInside.{Inside}
-use Rattle.a429_slots.specs.Kept.{IsTable}
+use Rattle.a429_slots.specs.Kept.{IsTable, stretches_of}
 use Rattle.a429_slots.specs.Tables.{Placed, SlotTable, demands_of, unlimited}
 
 -- an output, as the columns have it
@@ -14,7 +14,7 @@ placed_in p o = record {
   limits = get_or p.limits o unlimited;
 }
 
--- the table that the columns have: as many places of each are in use as there are demands
+-- the table that the columns have: as many places of each are in use as there are stretches
 abbrev pub table_in : {n : ℕ} → Inside n → SlotTable
 table_in p = record {
   frame = p.frame;
@@ -28,7 +28,8 @@ abbrev pub columns_of : (n : ℕ) → SlotTable → Inside n
 columns_of n t = record {
   frame = t.frame;
   buses = t.buses;
-  sums = demands_of t;
+  sums = stretches_of t;
+  filled = sum (demands_of t);
   order = padded 0 n t.order;
   sources = padded 0 n (map (λ x. x.source) t.outputs);
   on_bus = padded 0 n (map (λ x. x.place.bus) t.outputs);

@@ -1,15 +1,15 @@
--- A table has one plan, or one fault (profile: docs/RULES.md, Plans).
+-- A table has one plan of the own layout, or one fault (profile: docs/RULES.md, Plans).
 use Rattle.std.specs.Prelude.{◌≡◌, ◌≢◌}
 use Rattle.a429_equipment.specs.TableRecord.{TableRecord}
 use Rattle.a429_slots.specs.declared.planner.PlanFault.{PlanFault}
 use Rattle.a429_slots.specs.declared.planner.PlanFault.TheVariants.{NoMemory}
 use Rattle.a429_slots.specs.Faults.{IsFaultOf}
-use Rattle.a429_slots.specs.Planned.{IsPlanOf}
+use Rattle.a429_slots.specs.Planned.{HasOwnLayout, IsPlanOf}
 use Rattle.a429_slots.specs.Tables.{PlanTable}
 
--- a table has one plan
+-- a table has one plan of the concentrator's own layout
 abbrev pub PlansAreUnique : Type 0
-PlansAreUnique = (e : TableRecord) (p q : PlanTable) → IsPlanOf e p → IsPlanOf e q → p ≡ q
+PlansAreUnique = (e : TableRecord) (p q : PlanTable) → IsPlanOf e p → HasOwnLayout e p → IsPlanOf e q → HasOwnLayout e q → p ≡ q
 
 -- and one fault, apart from `NoMemory`
 abbrev pub FaultsAreUnique : Type 0

@@ -1,6 +1,7 @@
 -- What is true of every plan, and when a station has none (profile: layout).
 use Rattle.std.specs.Prelude.{◌≡◌, ◌<◌, ◌≤◌, ◌^◌, ℕ, List, Some, length, map, take, slice_get, slice_index, option_and_then}
-use Rattle.std.specs.List.{AllZip, AllByRecursion, zip}
+use Rattle.std.specs.List.{AllZip, AllByRecursion, range_with_len, zip}
+use Rattle.std.specs.List.Sorted.{IsPermutation}
 use Rattle.std.specs.Option.{option_map_or}
 use Rattle.a429_grid.specs.Grid.{IsGridPeriod, HasNoGridPeriod, IsLeastSpacing}
 use Rattle.a429_pack.specs.declared.demands.Demand.{Demand}
@@ -11,7 +12,7 @@ use Rattle.a429_equipment.specs.TableRecord.{TableRecord}
 use Rattle.a429_equipment.specs.declared.rows.OutputRow.{OutputRow}
 use Rattle.a429_equipment.specs.declared.rows.SourceRow.{SourceRow}
 use Rattle.a429_slots.specs.Tables.{Placed, SlotTable, PlanTable, placed_at, outputs_of, order_of, demands_of, frame_of, buses_of, groups_of}
-use Rattle.a429_slots.specs.Kept.{BeginsAt, StandsJustAt}
+use Rattle.a429_slots.specs.Kept.{BeginsAt, BlocksFollow, StandsJustAt}
 
 -- 2^k is the grid period of the output's interval at this rate
 abbrev pub HasPeriod : ℕ → OutputRow → ℕ → Type 0
@@ -34,14 +35,6 @@ asked_by sources o = record {
 abbrev pub asked_of : List SourceRow → SlotTable → List Demand
 asked_of sources t = map (asked_by sources) (outputs_of t)
 
--- The layout: the frame is the greatest period, and the outputs follow one another by period, then label as a number,
--- then SDI with any before 0, then place in the table. The number of an output's places is its demand, its slots in a
--- frame. They begin at the end of those before it.
-pub record IsLayout (sources : List SourceRow) (t : SlotTable) : Type 0 where
-  pub frame : t.frame ≡ greatest (exponents_of (asked_of sources t))
-  pub order : IsLayoutOrder (asked_of sources t) (order_of t)
-  pub places : (k : ℕ) → k < length (outputs_of t) → BeginsAt t (slice_index (order_of t) k) (start_of (demands_of t) k)
-
 -- The number of buses is the fewest for these rows. Each row has a grid period at this bit rate. In some schedule of
 -- that number of buses each output recurs within its period, and in none of fewer. A schedule is of any form, and at
 -- least as long as the greatest of the periods.
@@ -50,10 +43,14 @@ pub record AreFewestBusesFor (rate : ℕ) (rows : List OutputRow) (buses : ℕ) 
   pub fit : AllZip (HasPeriod rate) rows exponents
   pub fewest : AreFewestBuses exponents buses
 
--- the outputs of a group, each as its row of the equipment table asks, in cells of its own on the fewest buses
+-- The outputs of a group, each as its row of the equipment table asks, in cells of its own on the fewest buses. The frame is the greatest
+-- period. The order is that of their blocks.
 pub record IsPlannedFor (rate : ℕ) (sources : List SourceRow) (rows : List OutputRow) (t : SlotTable) : Type 0 where
   pub served : AllZip (IsServed rate) rows (outputs_of t)
-  pub layout : IsLayout sources t
+  pub frame : t.frame ≡ greatest (exponents_of (asked_of sources t))
+  pub order : IsPermutation (range_with_len 0 (length (outputs_of t))) (order_of t)
+  pub follow : BlocksFollow t
+  pub on_bus : (o : ℕ) → o < length (outputs_of t) → (placed_at t o).place.bus < buses_of t
   pub periodic : (o : ℕ) → o < length (outputs_of t)
       → StandsJustAt t o (placed_at t o).place.bus (placed_at t o).place.offset (2 ^ (placed_at t o).place.period)
   pub fewest : AreFewestBusesFor rate rows (buses_of t)
@@ -73,6 +70,20 @@ pub record IsPlanOf (e : TableRecord) (p : PlanTable) : Type 0 where
   pub number : p.number ≡ 0
   pub count : length (groups_of p) ≡ length e.groups
   pub groups : AllZip (IsPlannedAt e.sources) (rated_outputs e) (groups_of p)
+
+-- ---- the concentrator's own layout
+
+-- The outputs follow one another by period, then label as a number, then SDI with any before 0, then place in the table. The number of an output's
+-- places is its demand, its slots in a frame. They begin at the end of those before it.
+pub record IsLayout (sources : List SourceRow) (t : SlotTable) : Type 0 where
+  pub order : IsLayoutOrder (asked_of sources t) (order_of t)
+  pub places : (k : ℕ) → k < length (outputs_of t) → BeginsAt t (slice_index (order_of t) k) (start_of (demands_of t) k)
+
+-- each group of the plan is laid out so
+abbrev pub HasOwnLayout : TableRecord → PlanTable → Type 0
+HasOwnLayout e p = AllByRecursion (IsLayout e.sources) (groups_of p)
+
+-- ---- tables
 
 -- the source of each row is one of these
 abbrev pub HaveSources : List SourceRow → List OutputRow → Type 0

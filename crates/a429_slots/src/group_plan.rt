@@ -35,6 +35,7 @@ pub struct GroupPlan<const N: usize> {
     frame: Period,
     buses: u32,
     sums: SumTable<N>,
+    filled: u32,
     order: [usize; N],
     sources: [usize; N],
     on_bus: [u32; N],
@@ -63,7 +64,7 @@ impl<const N: usize> GroupPlan<N> {
     ghost use Rattle.a429_pack.specs.Demands.{demand_at, frame_of as greatest_period, period_of};
     ghost use Rattle.std.specs.List.{AllByRecursion};
     ghost use Rattle.a429_equipment.specs.Sound.{IsInterval};
-    ghost use Rattle.a429_slots.specs.Tables.{outputs_of, order_of, demands_of, frame_of, buses_of, place_of, source_of, limits_of, cell_at, no_table};
+    ghost use Rattle.a429_slots.specs.Tables.{outputs_of, order_of, demands_of, frame_of, buses_of, place_of, placed_at, source_of, stands_in, limits_of, cell_at, no_table};
     ghost use Rattle.a429_slots.specs.Kept.{IsTable, StandsJustAt};
     ghost use Rattle.a429_slots.specs.Asked.{IsTableOf};
 
@@ -79,6 +80,7 @@ impl<const N: usize> GroupPlan<N> {
             frame: Period::of_digits(0),
             buses: 0,
             sums: SumTable::new(),
+            filled: 0,
             order: [0; N],
             sources: [0; N],
             on_bus: [0; N],
@@ -114,6 +116,7 @@ impl<const N: usize> GroupPlan<N> {
             frame: packed.frame(),
             buses: packed.buses(),
             sums: *packed.sums(),
+            filled: packed.sums().total(),
             order: order_in(packed),
             sources: sources_in(outputs),
             on_bus,
@@ -157,7 +160,7 @@ impl<const N: usize> GroupPlan<N> {
         ensures { result ≡ sum (demands_of self.now) }
     {
         let _limits = &self.limits;
-        self.sums.total()
+        self.filled
     }
 
     /// The output at place `k` of the layout, counted from 0.
@@ -174,13 +177,13 @@ impl<const N: usize> GroupPlan<N> {
     /// The output in a cell: on this bus, in this slot counted from the frame's start. Slots past the frame are those
     /// of the frames that follow. `None`: an empty cell, or a bus outside the plan. The second number is how many
     /// running sums were read to find the output. For n outputs with d binary digits it is at most d, at least d - 1 if
-    /// the cell has an output, and 0 if it has none. The call allocates no memory.
+    /// the cell has an output, and 0 on a bus outside the plan. The call allocates no memory.
     pub fn at_counted(&self, bus: u32, slot: u64) -> (Option<OutputId>, u32)
         ensures cell { result.0 ≡ cell_at self.now bus slot }
         ensures known { IfSome result.0 (λ output. output < length (outputs_of self.now)) }
         ensures probes { (digits : ℕ) → length (outputs_of self.now) < 2 ^ digits → result.1 ≤ digits }
         ensures least { IfSome result.0 (λ _. length (outputs_of self.now) < 2 ^ (result.1 + 1)) }
-        ensures outside { result.0 ≡ None → result.1 ≡ 0 }
+        ensures outside { buses_of self.now ≤ bus → result.1 ≡ 0 }
     {
         orders_name_each_once();
         stretches_are_apart();
@@ -189,9 +192,22 @@ impl<const N: usize> GroupPlan<N> {
         }
         let (found, probes) = self.sums.find_counted(place_of_cell(bus, slot, self.frame));
         match found {
-            Some(place) => (Some(OutputId::new(self.order[place])), probes),
+            Some(place) => {
+                let output = OutputId::new(self.order[place]);
+                let there = self.has_cell(output, bus, slot);
+                (there.then_some(output), probes)
+            }
             None => (None, probes),
         }
+    }
+
+    /// Whether an output has the cell on this bus, in this slot counted from the frame's start.
+    fn has_cell(&self, output: OutputId, bus: u32, slot: u64) -> bool
+        requires { output < length (outputs_of self.now) }
+        ensures { result ≡ stands_in bus slot (placed_at self.now output) }
+    {
+        let place = self.place(output);
+        place.bus == bus && slot % u64::from(place.period.slots()) == u64::from(place.offset)
     }
 
     /// The output in a cell, found in the way of `at_counted`; `None`: an empty cell, or a bus outside the plan.

@@ -12,10 +12,9 @@ ghost use Rattle.a429_slots.specs.TakenFrames.{AreTakenFrames, FramesFollowTaken
 
 use a429_pack::laws::{
     fewest_by_demand, layout_orders_are_unique, none_is_above_the_greatest, orders_name_each_once,
-    stretches_are_apart,
 };
 
-/// A table has one plan or one fault. Two plans of it are equal. Two faults of it are equal, apart from `NoMemory`. A
+/// A table has one plan of the own layout, or one fault. Two such plans of it are equal. Two faults of it are equal, apart from `NoMemory`. A
 /// table that has a plan has no other fault than `NoMemory`.
 pub fn plans_are_unique()
     ensures plan { PlansAreUnique }
@@ -106,9 +105,6 @@ pub fn planned_tables_are_spaced()
     ensures { PlannedTablesAreSpaced }
 {
     none_is_above_the_greatest();
-    fewest_by_demand();
-    orders_name_each_once();
-    stretches_are_apart();
 }
 
 /// A proposal is the opening one or one that is published. If each proposal has the plan of its own table, then the
@@ -117,7 +113,4 @@ pub fn plans_in_force_are_spaced()
     ensures { PlansInForceAreSpaced }
 {
     none_is_above_the_greatest();
-    fewest_by_demand();
-    orders_name_each_once();
-    stretches_are_apart();
 }

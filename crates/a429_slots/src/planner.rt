@@ -2,7 +2,7 @@
 ghost use Rattle.std.specs.Prelude.{◌≡◌, ◌≤◌, length, IfOk, IfErr, MatchResult};
 ghost use Rattle.std.specs.List.{AllByRecursion, AllZip};
 ghost use Rattle.a429_equipment.specs.Sound.{IsInterval};
-ghost use Rattle.a429_slots.specs.Planned.{IsPlanOf, IsPlannedFor, HaveRoom, HaveSources};
+ghost use Rattle.a429_slots.specs.Planned.{HasOwnLayout, IsLayout, IsPlanOf, IsPlannedFor, HaveRoom, HaveSources};
 ghost use Rattle.a429_slots.specs.Asked.{IsAsked};
 ghost use Rattle.a429_slots.specs.Faults.{IsFaultOf, IsGroupFault, of_group};
 
@@ -78,7 +78,8 @@ fn group_plan<const N: usize>(
     requires known { HaveSources sources.now outputs.now }
     requires intervals { AllByRecursion IsInterval outputs.now }
     requires rate { (1 ≤ rate) × (rate ≤ 100000) }
-    ensures { MatchResult result (IsPlannedFor rate sources.now outputs.now) (IsGroupFault rate outputs.now) }
+    ensures planned { MatchResult result (IsPlannedFor rate sources.now outputs.now) (IsGroupFault rate outputs.now) }
+    ensures own { IfOk result (IsLayout sources.now) }
 {
     orders_name_each_once();
     stretches_are_apart();
@@ -97,6 +98,7 @@ fn group_plan<const N: usize>(
 pub fn plan<const N: usize>(alloc: Global, equipment: &Equipment) -> Result<Plan<N>, PlanFault>
     requires { HaveRoom N equipment.now.outputs }
     ensures planned { IfOk result (λ plan. IsPlanOf equipment.now plan) }
+    ensures own { IfOk result (λ plan. HasOwnLayout equipment.now plan) }
     ensures fault { IfErr result (IsFaultOf equipment.now) }
 {
     equipment.rows_are_sound();

@@ -45,7 +45,7 @@ pub struct NoProposal {
 }
 
 impl<const N: usize> Proposal<N> {
-    ghost use Rattle.a429_slots.specs.Planned.{HaveRoom, IsPlanOf};
+    ghost use Rattle.a429_slots.specs.Planned.{HasOwnLayout, HaveRoom, IsPlanOf};
     ghost use Rattle.a429_slots.specs.Faults.{IsFaultOf};
 
     /// Plans the groups of an equipment. Error: the fault of `plan`, or an allocation failed; the equipment comes back
@@ -55,6 +55,7 @@ impl<const N: usize> Proposal<N> {
         // A plan of at most 65536 outputs fits in memory.
         requires size { N ≤ 65536 }
         ensures planned { IfOk result (λ p. (p.station ≡ equipment) × IsPlanOf equipment p.plan) }
+        ensures own { IfOk result (λ p. HasOwnLayout equipment p.plan) }
         ensures fault { IfErr result (λ none. (none.equipment ≡ equipment) × IsFaultOf equipment none.fault) }
     {
         match plan(alloc, &equipment) {

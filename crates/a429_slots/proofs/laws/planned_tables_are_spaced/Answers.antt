@@ -1,13 +1,5 @@
-use Rattle.a429_slots.proofs.OnBuses.{IsPacked}
 use Rattle.a429_slots.proofs.SpacedTables.{spaced_table}
 use Rattle.a429_slots.proofs.laws.planned_tables_are_spaced.Goals as goal
 
 pub returns : goal.returns
-returns c =
-    let law : IsPacked = record {
-      above = c.none_is_above_the_greatest.ensures;
-      count = c.fewest_by_demand.ensures.only;
-      names = c.orders_name_each_once.ensures;
-      within = c.stretches_are_apart.ensures.within;
-    } in
-    spaced_table law
+returns c = spaced_table c.none_is_above_the_greatest.ensures

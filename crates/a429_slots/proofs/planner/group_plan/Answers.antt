@@ -10,17 +10,19 @@ use Rattle.a429_pack.specs.Demanded.{AreFewestBuses}
 use Rattle.a429_slots.specs.Asked.{IsAsked}
 use Rattle.a429_slots.specs.Faults.{IsGroupFault}
 use Rattle.a429_slots.specs.Planned.{IsPlannedFor}
-use Rattle.a429_slots.specs.Tables.{demands_of, order_of}
-use Rattle.a429_slots.proofs.Planned.{IsMade, planned, group_fault}
+use Rattle.a429_slots.specs.Kept.{stretches_of}
+use Rattle.a429_slots.specs.Tables.{order_of}
+use Rattle.a429_slots.proofs.Planned.{IsMade, layout, planned, group_fault}
 use Rattle.a429_slots.proofs.planner.group_plan.Goals as goal
+use Rattle.a429_slots.proofs.planner.group_plan.Goals.{After-drop-demands-2}
 
 pub pack-requires : goal.pack-requires
 pack-requires g c =
     let long : length c.in-Ok.demands.items ≡ length c.args.outputs.now = AllZip-long (IsAsked c.args.rate c.args.sources.now) c.args.outputs.now c.in-Ok.demands.items c.in-Ok.ensures in
     (search rules, (omega (arith, long, ap length c.deref.ensures.value, c.requires.some), omega (arith, long, ap length c.deref.ensures.value, c.requires.room)))
 
-pub returns-in_err-packed : goal.returns-in_err-packed
-returns-in_err-packed g c =
+pub returns-in_err-packed-clause-planned : goal.returns-in_err-packed-clause-planned
+returns-in_err-packed-clause-planned g c =
     let asked : AllZip (IsAsked c.args.rate c.args.sources.now) c.args.outputs.now c.deref.result.now =
     subst (λ (ds : List Demand). AllZip (IsAsked c.args.rate c.args.sources.now) c.args.outputs.now ds) (sym c.deref.ensures.value) c.in-Ok.ensures in
     let (fault, is, same) = err_from_is_err_and c.from_residual.result c.from_residual.ensures.1 in
@@ -59,12 +61,11 @@ of-requires g c =
       ),
     )
 
-pub returns : goal.returns
-returns g c =
+made : (g : _) (c : After-drop-demands-2 g) → IsMade g.row.N c.args.rate c.args.sources.now c.args.outputs.now c.deref-2.result.now c.in_ok-packed.packed c.of.result
+made g c =
     let l : Layout = c.in_ok-packed.packed in
     let p = c.in_ok-packed.ensures in
     let same : c.deref.result.now ≡ c.deref-2.result.now = c.deref.ensures.value ∙ sym c.deref-2.ensures.value in
-    let made : IsMade g.row.N c.args.rate c.args.sources.now c.args.outputs.now c.deref-2.result.now l c.of.result =
     record {
       asked = subst (λ (ds : List Demand). AllZip (IsAsked c.args.rate c.args.sources.now) c.args.outputs.now ds) (sym c.deref-2.ensures.value) c.in-Ok.ensures;
       fit = subst AreFit same p.fit;
@@ -78,6 +79,11 @@ returns g c =
       sound = c.of.ensures.sound;
       inputs = c.orders_name_each_once.ensures (length c.deref-2.result.now) l.inputs (subst (λ (ds : List Demand). IsLayoutOrder ds l.inputs) same p.order).all;
       each = c.orders_name_each_once.ensures (length c.of.result.outputs) (order_of c.of.result) c.of.ensures.sound.order;
-      apart = c.stretches_are_apart.ensures.apart (demands_of c.of.result);
-    } in
-    planned g.row.N c.args.rate c.args.sources.now c.args.outputs.now c.deref-2.result.now l c.of.result made
+      apart = c.stretches_are_apart.ensures.apart (stretches_of c.of.result);
+    }
+
+pub returns-clause-planned : goal.returns-clause-planned
+returns-clause-planned g c = planned g.row.N c.args.rate c.args.sources.now c.args.outputs.now c.deref-2.result.now c.in_ok-packed.packed c.of.result (made g c)
+
+pub returns-clause-own : goal.returns-clause-own
+returns-clause-own g c = layout g.row.N c.args.rate c.args.sources.now c.args.outputs.now c.deref-2.result.now c.in_ok-packed.packed c.of.result (made g c)

@@ -5,11 +5,11 @@ use Rattle.a429_slots.specs.contracts.group_plan.GroupPlan.{the_row}
 use Rattle.a429_slots.specs.contracts.plans.Plan as plan
 use Rattle.std.proofs.Common.{ℕ, ◌+◌, ◌*◌, ◌^◌, arith, ◌<◌, ◌≤◌, ◌∙◌, List, [], length, subst, sym}
 use Rattle.std.specs.List.{AllByRecursion, AllZip}
-use Rattle.a429_word.proofs.Lists.{all_at}
+use Rattle.a429_word.proofs.Lists.{all_at, all_push}
 use Rattle.a429_equipment.specs.Sound.{IsSound, IsInterval}
 use Rattle.a429_slots.specs.Tables.{SlotTable, groups_of}
 use Rattle.a429_equipment.specs.declared.rows.GroupRow.{GroupRow}
-use Rattle.a429_slots.specs.Planned.{IsPlannedAt}
+use Rattle.a429_slots.specs.Planned.{IsLayout, IsPlannedAt}
 use Rattle.a429_equipment.specs.declared.rows.OutputRow.{OutputRow}
 use Rattle.a429_equipment.specs.declared.rows.SourceRow.{SourceRow}
 use Rattle.a429_slots.proofs.Planning.{rate_in_group, all_planned, room_for, rated_at, fault_in, planned_next, could_next}
@@ -29,6 +29,7 @@ outputs-requires g c = subst (λ (rows : List GroupRow). c.loop-group.group < le
 pub loop-group-init : goal.loop-group-init
 loop-group-init g c = record {
   planned = subst (λ (tables : List SlotTable). AllZip (IsPlannedAt c.sources-sources.result.now) [] tables) (sym c.empty-plan.ensures.none) tt;
+  own = subst (λ (tables : List SlotTable). AllByRecursion (IsLayout c.sources-sources.result.now) tables) (sym c.empty-plan.ensures.none) tt;
   could = tt;
   number = c.empty-plan.ensures.number;
 }
@@ -70,12 +71,18 @@ returns-clause-planned g c =
     all_planned c.args.equipment.now c.sources-sources.result.now c.groups-group-end.result.now c.loop-group.group c.loop-group.plan c.rows_are_sound.ensures c.sources-sources.ensures.rows c.groups-group-end.ensures.rows
     c.loop-group-test.false c.loop-group.invariant.number c.loop-group.invariant.planned
 
+pub returns-clause-own : goal.returns-clause-own
+returns-clause-own g c = subst (λ (ss : List SourceRow). AllByRecursion (IsLayout ss) (groups_of c.loop-group.plan)) c.sources-sources.ensures.rows c.loop-group.invariant.own
+
+pub returns-in-Err-clause-own : goal.returns-in-Err-clause-own
+returns-in-Err-clause-own g c = tt
+
 pub returns-in-Err-clause-fault : goal.returns-in-Err-clause-fault
 returns-in-Err-clause-fault g c =
     let e = c.args.equipment.now in
     let here = rated_at e c.loop-group.group c.group_rate-rate.result c.outputs.result.now c.group_rate-rate.ensures.rate c.outputs.ensures.rows in
     subst (IsFaultOf e) (sym c.in_group.ensures)
-    (fault_in e c.loop-group.group c.group_rate-rate.result c.outputs.result.now c.in-Err.fault here c.loop-group.invariant.could c.in-Err.ensures)
+    (fault_in e c.loop-group.group c.group_rate-rate.result c.outputs.result.now c.in-Err.fault here c.loop-group.invariant.could c.in-Err.ensures.planned)
 
 pub loop-group-preserved : goal.loop-group-preserved
 loop-group-preserved g c =
@@ -84,8 +91,9 @@ loop-group-preserved g c =
     let n = c.loop-group.group in
     let rate = c.group_rate-rate.result in
     let rows = c.outputs.result.now in record {
-      planned = planned_next e ss n rate rows (groups_of c.loop-group.plan) (groups_of c.push.new.self) c.in-Ok.table c.push.ensures.groups c.group_rate-rate.ensures.rate c.outputs.ensures.rows c.loop-group.invariant.planned c.in-Ok.ensures;
-      could = could_next e ss n rate rows c.in-Ok.table c.group_rate-rate.ensures.rate c.outputs.ensures.rows c.loop-group.invariant.could c.in-Ok.ensures;
+      planned = planned_next e ss n rate rows (groups_of c.loop-group.plan) (groups_of c.push.new.self) c.in-Ok.table c.push.ensures.groups c.group_rate-rate.ensures.rate c.outputs.ensures.rows c.loop-group.invariant.planned c.in-Ok.ensures.planned;
+      own = subst (AllByRecursion (IsLayout ss)) (sym c.push.ensures.groups) (all_push (IsLayout ss) (groups_of c.loop-group.plan) c.in-Ok.table c.loop-group.invariant.own c.in-Ok.ensures.own);
+      could = could_next e ss n rate rows c.in-Ok.table c.group_rate-rate.ensures.rate c.outputs.ensures.rows c.loop-group.invariant.could c.in-Ok.ensures.planned;
       number = c.push.ensures.number ∙ c.loop-group.invariant.number;
     }
 

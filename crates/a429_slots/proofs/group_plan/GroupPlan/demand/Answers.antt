@@ -5,6 +5,5 @@ use Rattle.a429_slots.proofs.group_plan.GroupPlan.demand.Goals as goal
 
 pub returns : goal.returns
 returns g c =
-    c.total.ensures
-    ∙ ap (λ (p : Inside g.row.N). sum p.sums) (sym c.self.invariant.kept)
+    ap (λ (p : Inside g.row.N). p.filled) (sym c.self.invariant.kept)
     ∙ ap (λ (t : SlotTable). sum (demands_of t)) c.self.view_is

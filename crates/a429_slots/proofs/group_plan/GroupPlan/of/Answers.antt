@@ -1,7 +1,7 @@
 use prog.Memory.{size}
 use denote.Param.{layout, number, param}
 use Rattle.a429_pack.specs.contracts.sums.SumTable.{the_row}
-use Rattle.std.proofs.Common.{◌≡◌, ◌∙◌, ◌*◌, ◌^◌, ◌<◌, ◌≤◌, ℕ, arith, length, map, subst, sym}
+use Rattle.std.proofs.Common.{◌≡◌, ◌∙◌, ◌*◌, ◌^◌, ◌<◌, ◌≤◌, ℕ, ap, arith, length, map, subst, sum, sym}
 use Rattle.a429_pack.specs.Demands.{exponent_of}
 use Rattle.a429_slots.specs.declared.group_plan.GroupPlan.TheInside.{Inside}
 use Rattle.a429_slots.specs.Columns.{AreColumns, table_in}
@@ -15,6 +15,7 @@ columns g c = record {
   frame = c.frame.result;
   buses = c.buses.result;
   sums = c.sums.result.now;
+  filled = c.total.result;
   order = c.order_in.result;
   sources = c.sources_in.result;
   on_bus = c.places_in-on_bus.result.0;
@@ -49,7 +50,7 @@ are_filled g c = record {
 }
 
 parts : (g : _) (c : goal.After-limits_in g) → laid_in c.args.packed.now (columns g c) ≡ columns g c
-parts g c = λ i. record (columns g c) { frame = sym c.frame.ensures.value i; buses = sym c.buses.ensures.value i; sums = sym c.sums.ensures.value i }
+parts g c = λ i. record (columns g c) { frame = sym c.frame.ensures.value i; buses = sym c.buses.ensures.value i; sums = sym c.sums.ensures.value i; filled = (ap sum (sym c.sums-2.ensures.value) ∙ sym c.total.ensures) i }
 
 pub invariant_of-result : goal.invariant_of-result
 invariant_of-result g c =
@@ -106,14 +107,14 @@ pub sums-requires : goal.sums-requires
 sums-requires g c = (assumption, sums_fit g (start g c.before.before.before))
 
 pub order_in-requires : goal.order_in-requires
-order_in-requires g c = (assumption, eight g.row.N (wide g (start g c.before.before.before.before.before)))
+order_in-requires g c = (assumption, eight g.row.N (wide g (start g c.before.before.before.before.before.before.before)))
 
 pub sources_in-requires : goal.sources_in-requires
-sources_in-requires g c = (eight g.row.N (wide g (start g c.before.before.before.before.before.before)), c.requires.room)
+sources_in-requires g c = (eight g.row.N (wide g (start g c.before.before.before.before.before.before.before.before)), c.requires.room)
 
 pub periods_in-requires : goal.periods_in-requires
 periods_in-requires g c =
-    (four g.row.N (wide g (start g c.before.before.before.before.before.before.before)), subst (λ (k : ℕ). k ≤ g.row.N) (c.requires.outputs ∙ sym c.requires.asked) c.requires.room)
+    (four g.row.N (wide g (start g c.before.before.before.before.before.before.before.before.before)), subst (λ (k : ℕ). k ≤ g.row.N) (c.requires.outputs ∙ sym c.requires.asked) c.requires.room)
 
 pub limits_in-requires : goal.limits_in-requires
-limits_in-requires g c = (wide g (start g c.before.before.before.before.before.before.before.before), (c.requires.room, (c.requires.intervals, c.requires.rate)))
+limits_in-requires g c = (wide g (start g c.before.before.before.before.before.before.before.before.before.before), (c.requires.room, (c.requires.intervals, c.requires.rate)))

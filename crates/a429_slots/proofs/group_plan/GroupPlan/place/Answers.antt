@@ -6,8 +6,8 @@ use Rattle.std.proofs.Common.{◌≡◌, ◌<◌, ◌≤◌, ◌∙◌, ◌*◌,
 use Rattle.std.specs.Prelude.{Some}
 use Rattle.std.proofs.Math.Nat.{pow-le-pow_right}
 use Rattle.a429_slots.specs.Columns.{table_in}
-use Rattle.a429_slots.specs.Tables.{Placed, SlotTable, buses_of, demands_of, frame_of, placed_at, place_of}
-use Rattle.a429_slots.specs.Kept.{StandsJustAt}
+use Rattle.a429_slots.specs.Tables.{Placed, SlotTable, buses_of, frame_of, placed_at, place_of}
+use Rattle.a429_slots.specs.Kept.{StandsJustAt, stretches_of}
 use Rattle.a429_slots.proofs.Cells.{stands_just_at}
 use Rattle.a429_slots.proofs.Columns.{count_kept, length-table, part_kept, placed_kept}
 use Rattle.a429_slots.proofs.group_plan.GroupPlan.place.Goals as goal
@@ -79,7 +79,7 @@ returns-clause-cells g c =
     (subst (λ (t : SlotTable). StandsJustAt t o (get_or p.on_bus o 0) (get_or p.offsets o 0) (2 ^ c.of_digits.result)) c.self.view_is
     (subst (λ (k : ℕ). StandsJustAt (table_in p) o (get_or p.on_bus o 0) (get_or p.offsets o 0) (2 ^ k)) (sym c.of_digits.ensures)
     (subst (λ (x : Placed). StandsJustAt (table_in p) o x.place.bus x.place.offset (2 ^ x.place.period)) (placed_kept p o (below g c))
-    (stands_just_at g.row.N (table_in p) c.self.invariant.table each (c.stretches_are_apart.ensures.apart (demands_of (table_in p))) o (within g c)))))
+    (stands_just_at g.row.N (table_in p) c.self.invariant.table each (c.stretches_are_apart.ensures.apart (stretches_of (table_in p))) o (within g c)))))
 
 pub returns-clause-bus : goal.returns-clause-bus
 returns-clause-bus g c =
