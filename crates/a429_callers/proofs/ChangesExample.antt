@@ -10,7 +10,7 @@ use Rattle.a429_equipment.specs.Sound.{HaveOwnSources}
 use Rattle.a429_equipment.specs.declared.rows.OutputRow.{OutputRow}
 use Rattle.a429_equipment.specs.SameStation.{same_station}
 use Rattle.a429_slots.specs.Tables.{Placed, cell_at, demands_of, placed_at}
-use Rattle.a429_slots.specs.Kept.{BeginsAt, StandsJustAt}
+use Rattle.a429_slots.specs.Kept.{StandsJustAt}
 use Rattle.a429_grid.specs.Reversal.{reversed}
 use Rattle.a429_pack.specs.Demanded.{AreFewestBuses}
 use Rattle.a429_pack.specs.Schedules.{RecursWithin, Schedule}
@@ -78,23 +78,21 @@ unfolding cell_at
 stands_there_two bus slot same even = rw (eq-eqb 0 bus (sym same), eq-eqb (slot % 2) 0 even) refl
 
 planned_two : IsPlannedFor 100000 (station_at 720).sources rows_two (table_of 1 old)
-unfolding reversed
 planned_two = record {
   served = ((refl, has_period_two, refl, (omega arith, λ r more. omega (arith, more))), tt);
-  layout = record {
-    frame = refl;
-    order = record { all = IsPermutation-refl (0 ∷ []); rising = λ k below. absurd (omega (arith, below)) };
-    places = places;
-  };
+  frame = refl;
+  order = IsPermutation-refl (0 ∷ []);
+  follow = λ k below. absurd (omega (arith, below));
+  on_bus = on_bus;
   periodic = periodic;
   fewest = fewest_two;
   few_buses = omega arith;
   few_slots = omega arith;
 }
   where
-    places : (k : ℕ) → k < 1 → BeginsAt (table_of 1 old) (slice_index (table_of 1 old).order k) (start_of (demands_of (table_of 1 old)) k)
-    places zero below = record { bus = refl; offset = refl }
-    places (suc k) below = absurd (omega (arith, below))
+    on_bus : (n : ℕ) → n < 1 → (placed_at (table_of 1 old) n).place.bus < buses_of (table_of 1 old)
+    on_bus zero below = omega arith
+    on_bus (suc n) below = absurd (omega (arith, below))
 
     periodic : (n : ℕ) → n < 1 → StandsJustAt (table_of 1 old) n (placed_at (table_of 1 old) n).place.bus (placed_at (table_of 1 old) n).place.offset (2 ^ (placed_at (table_of 1 old) n).place.period)
     periodic zero below = record { within = omega arith; cells = λ bus slot. (stands_only_two bus slot, λ h. stands_there_two bus slot h.0 h.1) }
@@ -151,23 +149,21 @@ unfolding cell_at
 stands_there_four bus slot same even = rw (eq-eqb 0 bus (sym same), eq-eqb (slot % 4) 0 even) refl
 
 planned_four : IsPlannedFor 100000 (station_at 1440).sources rows_four (table_of 2 new)
-unfolding reversed
 planned_four = record {
   served = ((refl, has_period_four, refl, (omega arith, λ r more. omega (arith, more))), tt);
-  layout = record {
-    frame = refl;
-    order = record { all = IsPermutation-refl (0 ∷ []); rising = λ k below. absurd (omega (arith, below)) };
-    places = places;
-  };
+  frame = refl;
+  order = IsPermutation-refl (0 ∷ []);
+  follow = λ k below. absurd (omega (arith, below));
+  on_bus = on_bus;
   periodic = periodic;
   fewest = fewest_four;
   few_buses = omega arith;
   few_slots = omega arith;
 }
   where
-    places : (k : ℕ) → k < 1 → BeginsAt (table_of 2 new) (slice_index (table_of 2 new).order k) (start_of (demands_of (table_of 2 new)) k)
-    places zero below = record { bus = refl; offset = refl }
-    places (suc k) below = absurd (omega (arith, below))
+    on_bus : (n : ℕ) → n < 1 → (placed_at (table_of 2 new) n).place.bus < buses_of (table_of 2 new)
+    on_bus zero below = omega arith
+    on_bus (suc n) below = absurd (omega (arith, below))
 
     periodic : (n : ℕ) → n < 1 → StandsJustAt (table_of 2 new) n (placed_at (table_of 2 new) n).place.bus (placed_at (table_of 2 new) n).place.offset (2 ^ (placed_at (table_of 2 new) n).place.period)
     periodic zero below = record { within = omega arith; cells = λ bus slot. (stands_only_four bus slot, λ h. stands_there_four bus slot h.0 h.1) }

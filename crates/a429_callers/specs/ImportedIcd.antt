@@ -4,7 +4,7 @@ use Rattle.std.specs.List.{AllByRecursion, AllZip}
 use Rattle.a429_equipment.specs.declared.rows.OutputRow.{OutputRow}
 use Rattle.a429_equipment.specs.declared.rows.SourceRow.{SourceRow}
 use Rattle.a429_equipment.specs.TableRecord.{TableRecord}
-use Rattle.a429_slots.specs.Planned.{IsPlanOf}
+use Rattle.a429_slots.specs.Planned.{HasOwnLayout, IsPlanOf}
 use Rattle.a429_slots.specs.Proposed.{Proposed}
 use Rattle.a429_slots.specs.Tables.{PlanTable}
 use Rattle.a429_table.specs.Reading.{reading}
@@ -22,13 +22,14 @@ use Rattle.a429_documents.specs.Losses.{IsSent}
 
 -- ---- of which tables
 
--- The station was read from these bytes, a table of version 2 without filters, and the plan is its plan. A table of version 1 is imported as
+-- The station was read from these bytes, a table of version 2 without filters, and the plan is its plan of the own layout. A table of version 1 is imported as
 -- one of version 2, so that its plan text is another, and the document has no column of filters.
 pub record IsWholeInIcd (bytes : List ℕ) (a : Proposed) : Type 0 where
   pub read : reading bytes ≡ Ok a.station
   pub version : a.station.version ≡ 2
   pub no_filters : AllByRecursion (λ receiver. receiver.filters ≡ None) a.station.receivers
   pub plan : IsPlanOf a.station a.plan
+  pub own : HasOwnLayout a.station a.plan
 
 -- ---- the same outputs
 
@@ -60,11 +61,12 @@ pub record IsSentPart (t e : TableRecord) : Type 0 where
 
 -- ---- the same plan
 
--- the table has a plan, and its text is that of the proposal's plan
+-- the table has a plan of the own layout, and its text is that of the proposal's plan
 pub record HasPlanTextOf (t : TableRecord) (a : Proposed) : Type 0 where
   pub plan : PlanTable
   pub is : IsPlanOf t plan
-  pub text : (b : PlanTable) → IsPlanOf t b → plan_text_of t b ≡ plan_text_of a.station a.plan
+  pub own : HasOwnLayout t plan
+  pub text : (b : PlanTable) → IsPlanOf t b → HasOwnLayout t b → plan_text_of t b ≡ plan_text_of a.station a.plan
 
 -- the text is read as the part of the station that is sent, which has the same plan text
 pub record IsReadAsPlanned (text : List ℕ) (a : Proposed) : Type 0 where

@@ -89,7 +89,7 @@ length-exponents : (t : SlotTable) → length (exponents_of t) ≡ length (outpu
 length-exponents t = length-map (outputs_of t) (λ p. p.place.period)
 
 pub frame_greatest : (e : TableRecord) (rate : ℕ) (rows : List OutputRow) (t : SlotTable) → IsPlannedFor rate e.sources rows t → frame_of t ≡ 2 ^ greatest (exponents_of t)
-frame_greatest e rate rows t p = ap (λ (k : ℕ). 2 ^ k) (p.layout.frame ∙ ap greatest (asked_exponents e.sources t))
+frame_greatest e rate rows t p = ap (λ (k : ℕ). 2 ^ k) (p.frame ∙ ap greatest (asked_exponents e.sources t))
 
 -- rows have one grid period each
 same_exponents : (rate : ℕ) (rows : List OutputRow) (ks : List ℕ) (os : List Placed) → AllZip (HasPeriod rate) rows ks → AllZip (IsServed rate) rows os → ks ≡ map (λ o. o.place.period) os
@@ -121,48 +121,19 @@ period_within e rate rows t p o below =
 
 -- ---- the order and the demands
 
-pub order_moved : (e : TableRecord) (rate : ℕ) (rows : List OutputRow) (t : SlotTable) → IsPlannedFor rate e.sources rows t → IsPermutation (range_with_len 0 (length (outputs_of t))) (order_of t)
-order_moved e rate rows t p =
-    let many : length (asked_of e.sources t) ≡ length (outputs_of t) = length-map (outputs_of t) (asked_by e.sources) in
-    subst (λ (n : ℕ). IsPermutation (range_with_len 0 n) (order_of t)) many p.layout.order.all
-
 length-order : (e : TableRecord) (rate : ℕ) (rows : List OutputRow) (t : SlotTable) → IsPlannedFor rate e.sources rows t → length (order_of t) ≡ length (outputs_of t)
-length-order e rate rows t p = length_permutation (range_with_len 0 (length (outputs_of t))) (order_of t) (order_moved e rate rows t p) ∙ length-range_with_len 0 (length (outputs_of t))
+length-order e rate rows t p = length_permutation (range_with_len 0 (length (outputs_of t))) (order_of t) p.order ∙ length-range_with_len 0 (length (outputs_of t))
 
 pub total_is : (e : TableRecord) (rate : ℕ) (rows : List OutputRow) (t : SlotTable) → IsPlannedFor rate e.sources rows t → sum (demands_of t) ≡ demand_of (exponents_of t)
 total_is e rate rows t p =
     let n = length (outputs_of t) in
-    let numbered : sum_by (share_of t) (order_of t) ≡ sum_by (share_of t) (range_with_len 0 n) = sum_by-IsPermutation (share_of t) (range_with_len 0 n) (order_of t) (order_moved e rate rows t p) in
+    let numbered : sum_by (share_of t) (order_of t) ≡ sum_by (share_of t) (range_with_len 0 n) = sum_by-IsPermutation (share_of t) (range_with_len 0 n) (order_of t) p.order in
     let shares : map (λ k. frame_of t / 2 ^ k) (exponents_of t) ≡ map (share_of t) (range_with_len 0 n) =
     map-map (λ k. frame_of t / 2 ^ k) (λ p. p.place.period) (outputs_of t)
     ∙ fill_by_all (share_of t) (map (λ p. frame_of t / 2 ^ p.place.period) (outputs_of t)) n 0 (length-map (outputs_of t) (λ p. frame_of t / 2 ^ p.place.period))
     (λ k below. get_or-map (λ p. frame_of t / 2 ^ p.place.period) (outputs_of t) k unplaced 0 below) in
     sum-map (share_of t) (order_of t) ∙ numbered ∙ sym (sum-map (share_of t) (range_with_len 0 n)) ∙ ap sum (sym shares)
     ∙ ap (λ (h : ℕ). sum (map (λ k. h / 2 ^ k) (exponents_of t))) (frame_greatest e rate rows t p)
-
--- ---- the buses
-
--- the output at a place of the layout begins within the demand
-begins_within : (e : TableRecord) (rate : ℕ) (rows : List OutputRow) (t : SlotTable) → IsPlannedFor rate e.sources rows t → (k : ℕ) → k < length (order_of t) → get_or (order_of t) k 0 < length (outputs_of t)
-    → start_of (demands_of t) k < sum (demands_of t)
-begins_within e rate rows t p k below known =
-    let o : ℕ = get_or (order_of t) k 0 in
-    let e' : ℕ = (placed_at t o).place.period in
-    let positive : 1 ≤ share_of t o = le-div 1 (frame_of t) (2 ^ e') (pow_pos e') (omega (arith, period_within e rate rows t p o known)) in
-    let fills : get_or (demands_of t) k 0 ≡ share_of t o = get_or-map (share_of t) (order_of t) k 0 0 below in
-    let more = sum_by_more_le (λ x. x) (demands_of t) k 0 (omega (arith, below, length-map (order_of t) (share_of t))) in
-    omega (arith, more, positive, fills)
-
-bus_within : (e : TableRecord) (rate : ℕ) (rows : List OutputRow) (t : SlotTable) → FewestCarry → IsPlannedFor rate e.sources rows t → 1 ≤ length (outputs_of t) → (k : ℕ) → k < length (order_of t) → get_or (order_of t) k 0 < length (outputs_of t)
-    → (placed_at t (get_or (order_of t) k 0)).place.bus < buses_of t
-bus_within e rate rows t law p some k below known =
-    let begins = (p.layout.places k (omega (arith, below, length-order e rate rows t p))).bus in
-    let within = begins_within e rate rows t p k below known in
-    let most : demand_of (exponents_of t) ≤ buses_of t * 2 ^ greatest (exponents_of t) = (carried e rate rows t law p some).within in
-    let framed : buses_of t * 2 ^ greatest (exponents_of t) ≡ buses_of t * frame_of t = ap (λ (h : ℕ). buses_of t * h) (sym (frame_greatest e rate rows t p)) in
-    let less : start_of (demands_of t) k < buses_of t * frame_of t = omega (arith, within, most, framed, total_is e rate rows t p) in
-    let bus = div_below (start_of (demands_of t) k) (frame_of t) (buses_of t) (pow_pos t.frame) less in
-    omega (arith, bus, begins)
 
 -- ---- the listings
 
@@ -175,14 +146,14 @@ apart_cells version t i j sources at-i at-j other bus slot fills-i fills-j =
 
 own_apart : (e : TableRecord) (row : GroupRow) (rows : List OutputRow) (t : SlotTable) (g : DueGroup) → IsOwnGroup e row rows t g → EachPair CellsAreApart (stated_of e.version e.sources row t).outputs
 own_apart e row rows t g o =
-    let moved = order_moved e row.rate rows t o.planned in
+    let moved = o.planned.order in
     each_pair CellsAreApart (listing_of e.version e.sources t) (length (outputs_of t)) (order_of t) (order_below (length (outputs_of t)) (order_of t) moved) (order_once (length (outputs_of t)) (order_of t) moved)
     (λ i j low-i low-j other.
     apart_cells e.version t i j e.sources (o.planned.periodic i low-i) (o.planned.periodic j low-j) other)
 
 own_once : (e : TableRecord) (row : GroupRow) (rows : List OutputRow) (t : SlotTable) (g : DueGroup) → IsOwnGroup e row rows t g → EachPair (λ k l. k.source ≢ l.source) (stated_of e.version e.sources row t).outputs
 own_once e row rows t g o =
-    let moved = order_moved e row.rate rows t o.planned in
+    let moved = o.planned.order in
     let s = same_outputs e row rows t g o in
     let many = (counts e row.rate rows t g s).0 in
     each_pair (λ k l. k.source ≢ l.source) (listing_of e.version e.sources t) (length (outputs_of t)) (order_of t) (order_below (length (outputs_of t)) (order_of t) moved) (order_once (length (outputs_of t)) (order_of t) moved)
@@ -191,13 +162,13 @@ own_once e row rows t g o =
 -- the number at a place of the layout is that of an output
 ordered_below : (e : TableRecord) (rate : ℕ) (rows : List OutputRow) (t : SlotTable) → IsPlannedFor rate e.sources rows t → (k : ℕ) → k < length (order_of t) → get_or (order_of t) k 0 < length (outputs_of t)
 ordered_below e rate rows t p k below =
-    All-from_recursion (λ o. o < length (outputs_of t)) (order_of t) (order_below (length (outputs_of t)) (order_of t) (order_moved e rate rows t p)) k 0 below
+    All-from_recursion (λ o. o < length (outputs_of t)) (order_of t) (order_below (length (outputs_of t)) (order_of t) p.order) k 0 below
 
 own_bus : (e : TableRecord) (row : GroupRow) (rows : List OutputRow) (t : SlotTable) (g : DueGroup) → FewestCarry → IsOwnGroup e row rows t g
     → (k : ℕ) → k < length (order_of t) → (listing_of e.version e.sources t (get_or (order_of t) k 0)).bus < buses_of t
 own_bus e row rows t g law o k below =
     let many = (counts e row.rate rows t g (same_outputs e row rows t g o)).0 in
-    bus_within e row.rate rows t law o.planned (omega (arith, many, o.some)) k below (ordered_below e row.rate rows t o.planned k below)
+    o.planned.on_bus (get_or (order_of t) k 0) (ordered_below e row.rate rows t o.planned k below)
 
 own_placed : (e : TableRecord) (row : GroupRow) (rows : List OutputRow) (t : SlotTable) (g : DueGroup) → FewestCarry → IsOwnGroup e row rows t g → AllByRecursion (IsPlacedAsDue e.version g (buses_of t)) (stated_of e.version e.sources row t).outputs
 own_placed e row rows t g law o =

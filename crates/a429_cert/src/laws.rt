@@ -3,7 +3,7 @@ ghost use Rattle.std.specs.Prelude.{◌≡◌, ℕ};
 ghost use Rattle.a429_cert.specs.Judged.{CheckedPlansAreFewest, FewestIsShown, OwnTextsAreFewest};
 ghost use Rattle.a429_equipment.specs.TableRecord.{TableRecord};
 ghost use Rattle.a429_slots.specs.Tables.{PlanTable};
-ghost use Rattle.a429_slots.specs.Planned.{IsPlanOf};
+ghost use Rattle.a429_slots.specs.Planned.{HasOwnLayout, IsPlanOf};
 ghost use Rattle.a429_cert.specs.Spelling.{version_text, rate_text, group_text, output_text, bound_text, IsShort, FitsHeading, FitsListing, FitsBounding};
 ghost use Rattle.a429_cert.specs.Reading.{IsReadAs, IsReadOnlyAs, plan_line, rate_line, group_line, output_line, bound_line};
 ghost use Rattle.a429_cert.specs.PlanText.{plan_text_of};
@@ -41,9 +41,10 @@ pub fn bound_lines()
     ensures only { IsReadAs bound_line bound_text FitsBounding }
 {}
 
-/// A table has one plan text: that of any plan of it.
+/// A table has one plan text of the own layout: that of any plan of it that is laid out so.
 pub fn plan_texts_are_unique()
-    ensures { (e : TableRecord) (p q : PlanTable) → IsPlanOf e p → IsPlanOf e q → plan_text_of e p ≡ plan_text_of e q }
+    ensures { (e : TableRecord) (p q : PlanTable) → IsPlanOf e p → HasOwnLayout e p → IsPlanOf e q → HasOwnLayout e q
+        → plan_text_of e p ≡ plan_text_of e q }
 {
     plans_are_unique();
 }

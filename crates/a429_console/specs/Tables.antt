@@ -4,7 +4,7 @@ use Rattle.std.specs.List.{AllByRecursion}
 use Rattle.a429_equipment.specs.TableRecord.{TableRecord}
 use Rattle.a429_equipment.specs.SameStation.{same_station}
 use Rattle.a429_table.specs.Reading.{reading}
-use Rattle.a429_slots.specs.Planned.{IsPlanOf}
+use Rattle.a429_slots.specs.Planned.{HasOwnLayout, IsPlanOf}
 use Rattle.a429_slots.specs.Proposed.{Proposed}
 use Rattle.a429_slots.specs.Faults.{IsFaultOf}
 use Rattle.a429_slots.specs.declared.planner.PlanFault.TheVariants as plan
@@ -14,9 +14,9 @@ use Rattle.a429_console.specs.RefusalText.{OrMemory}
 use Rattle.a429_console.specs.declared.refusals.CommandRefusal.{CommandRefusal}
 use Rattle.a429_console.specs.declared.refusals.CommandRefusal.TheVariants as refused
 
--- a station that the table's bytes state, with a plan of it
+-- a station that the table's bytes state, with its plan of the own layout
 abbrev pub IsProposedBy : List ℕ → Proposed → Type 0
-IsProposedBy table q = (reading table ≡ Ok q.station) × IsPlanOf q.station q.plan
+IsProposedBy table q = (reading table ≡ Ok q.station) × IsPlanOf q.station q.plan × HasOwnLayout q.station q.plan
 
 -- a table whose plan a station takes: it has a plan, and is of that station
 abbrev pub IsTakenBy : TableRecord → List ℕ → Type 0

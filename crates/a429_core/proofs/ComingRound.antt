@@ -22,7 +22,7 @@ period_fits rate sources rows t n x P h =
     let more : length (map exponent_of asked) ≡ length asked = length-map asked exponent_of in
     let here : get_or asked n unasked ≡ asked_by sources x = get_or-map (asked_by sources) (outputs_of t) n x unasked inside ∙ ap (asked_by sources) (get_or_from_slice_get (outputs_of t) n x x h) in
     let is : get_or (map exponent_of asked) n 0 ≡ x.place.period = get_or-map exponent_of asked n unasked 0 (omega (arith, inside, long)) ∙ ap exponent_of here in
-    omega (arith, is, up_to_greatest (map exponent_of asked) n (omega (arith, inside, long, more)), P.layout.frame)
+    omega (arith, is, up_to_greatest (map exponent_of asked) n (omega (arith, inside, long, more)), P.frame)
 
 -- whole frames later an output has the same cells
 pub comes_round : (rate : ℕ) (sources : List SourceRow) (rows : List OutputRow) (t : SlotTable) (times bus on : ℕ) (x : Placed) → IsPlannedFor rate sources rows t → output_in t bus on ≡ Some x

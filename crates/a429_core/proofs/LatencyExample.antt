@@ -75,23 +75,21 @@ unfolding cell_at
 stands_there bus slot same even = rw (eq-eqb 0 bus (sym same), eq-eqb (slot % 2) 0 even) refl
 
 planned : IsPlannedFor 100000 station.sources rows table
-unfolding reversed
 planned = record {
   served = ((refl, has_period, refl, (omega arith, λ r more. omega (arith, more))), tt);
-  layout = record {
-    frame = refl;
-    order = record { all = IsPermutation-refl (0 ∷ []); rising = λ k below. absurd (omega (arith, below)) };
-    places = places;
-  };
+  frame = refl;
+  order = IsPermutation-refl (0 ∷ []);
+  follow = λ k below. absurd (omega (arith, below));
+  on_bus = on_bus;
   periodic = periodic;
   fewest = fewest;
   few_buses = omega arith;
   few_slots = omega arith;
 }
   where
-    places : (k : ℕ) → k < 1 → BeginsAt table (slice_index table.order k) (start_of (demands_of table) k)
-    places zero below = record { bus = refl; offset = refl }
-    places (suc k) below = absurd (omega (arith, below))
+    on_bus : (n : ℕ) → n < 1 → (placed_at table n).place.bus < buses_of table
+    on_bus zero below = omega arith
+    on_bus (suc n) below = absurd (omega (arith, below))
 
     periodic : (n : ℕ) → n < 1 → StandsJustAt table n (placed_at table n).place.bus (placed_at table n).place.offset (2 ^ (placed_at table n).place.period)
     periodic zero below = record { within = omega arith; cells = λ bus slot. (stands_only bus slot, λ h. stands_there bus slot h.0 h.1) }

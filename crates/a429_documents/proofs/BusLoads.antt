@@ -1,5 +1,5 @@
 -- What the rows of `load` are made of.
-use Rattle.std.proofs.Common.{◌≡◌, ℕ, zero, suc, ◌+◌, ◌<◌, ◌≤◌, Bool, true, false, cond, List, [], ◌∷◌, ◌++◌, length, map, get_or, take, drop, set, sum, refl, inl, inr, sym, ap, arith, ◌∙◌, append_assoc, append-nil}
+use Rattle.std.proofs.Common.{◌≡◌, ℕ, zero, suc, ◌+◌, ◌<◌, ◌≤◌, Bool, true, false, cond, List, [], ◌∷◌, ◌++◌, length, map, get_or, take, drop, set, sum, refl, inl, inr, sym, ap, ap₂, arith, ◌∙◌, append_assoc, append-nil}
 use Rattle.std.specs.Prelude.{◌&&◌, ◌||◌, Option, Some, slice_get, is_some, max, count_by}
 use Rattle.std.specs.List.{flat_map, list_all, list_any, range_with_len, sum_by}
 use Rattle.std.specs.Cmp.{nat_cmp_is}
@@ -13,13 +13,13 @@ use Rattle.std.proofs.lemmas.List.FromFn.{map-range_with_len_more}
 use Rattle.std.proofs.lemmas.List.Sums.{sum_by-append}
 use Rattle.std.proofs.lemmas.Option.{same_Some}
 use Rattle.a429_word.proofs.Lists.{drop_at, range_next, take_next}
-use Rattle.a429_text.specs.Fields.{Field, Number, Absent}
+use Rattle.a429_text.specs.Fields.{Field}
 use Rattle.a429_equipment.specs.declared.rows.GroupRow.{GroupRow}
 use Rattle.a429_pack.specs.Demands.{greatest}
 use Rattle.a429_slots.specs.Tables.{SlotTable, buses_of, cell_at, frame_of}
 use Rattle.a429_documents.specs.Limits.{demand_from, if_from}
 use Rattle.a429_documents.proofs.Changes.{rows_more}
-use Rattle.a429_documents.specs.Load.{bus_rows, bus_rows_of, cells_on, group_rows, groups_rows, loads_of, needed_field, total_rows}
+use Rattle.a429_documents.specs.Load.{bus_rows, group_rows, groups_rows, total_rows}
 
 -- ---- one more of a list
 
@@ -42,13 +42,16 @@ pub byte : (b : Bool) → bool_byte b ≡ cond b 1 0
 byte true = refl
 byte false = refl
 
+-- one more answer to a test
+pub test_more : (p : ℕ → Bool) (n room one : ℕ) (passed : Bool) → passed ≡ p n → one ≡ bool_byte passed → room ≡ count_by p (range_with_len 0 n) → room + one ≡ count_by p (range_with_len 0 (n + 1))
+test_more p n room one passed is counted so =
+    ap₂ (λ x y. x + y) so (counted ∙ byte passed ∙ ap (λ b. cond b 1 0) is) ∙ sym (count_more p n)
+
 -- one more cell, if it has an output
 pub cell_more : (t : SlotTable) (bus slot at cells one : ℕ) (found : Option ℕ) → found ≡ cell_at t bus at → at ≡ slot → one ≡ bool_byte (is_some found)
     → cells ≡ count_by (λ slot. is_some (cell_at t bus slot)) (range_with_len 0 slot) → cells + one ≡ count_by (λ slot. is_some (cell_at t bus slot)) (range_with_len 0 (slot + 1))
 cell_more t bus slot at cells one found is same counted so =
-    let p : ℕ → Bool = λ slot. is_some (cell_at t bus slot) in
-    let last : one ≡ cond (p slot) 1 0 = counted ∙ byte (is_some found) ∙ ap (λ (o : Option ℕ). cond (is_some o) 1 0) is ∙ ap (λ (s : ℕ). cond (p s) 1 0) same in
-    ap (λ (z : ℕ). z + one) so ∙ ap (λ (z : ℕ). count_by p (range_with_len 0 slot) + z) last ∙ sym (count_more p slot)
+    test_more (λ slot. is_some (cell_at t bus slot)) slot cells one (is_some found) (ap (λ (o : Option ℕ). is_some o) is ∙ ap (λ (s : ℕ). is_some (cell_at t bus s)) same) counted so
 
 pub byte_small : (b : Bool) → bool_byte b ≤ 1
 byte_small true = omega arith
@@ -110,6 +113,25 @@ not_all p [] i x there is = absurd (cc)
 not_all p (y ∷ ys) zero x there is = rw (same_Some _ _ there, is) refl
 not_all p (y ∷ ys) (suc i) x there is = elim (p y) as (λ b. (b && list_all p ys) ≡ false) [ true ↦ not_all p ys i x there is | false ↦ refl ]
 
+-- one more number of a range
+pub range_all_more : (p : ℕ → Bool) (n : ℕ) → list_all p (range_with_len 0 n) ≡ true → p n ≡ true → list_all p (range_with_len 0 (n + 1)) ≡ true
+range_all_more p n all is = ap (list_all p) (range_more n) ∙ all_push p (range_with_len 0 n) n all is
+
+range_at : (s n i : ℕ) → i < n → slice_get (range_with_len s n) i ≡ Some (s + i)
+range_at s zero i below = absurd (omega arith)
+range_at s (suc n) zero below = let same : s ≡ s + 0 = omega arith in ap (λ x. Some x) same
+range_at s (suc n) (suc i) below = let same : s + 1 + i ≡ s + suc i = omega arith in range_at (s + 1) n i (omega arith) ∙ ap (λ x. Some x) same
+
+pub range_not_all : (p : ℕ → Bool) (n i : ℕ) → i < n → p i ≡ false → list_all p (range_with_len 0 n) ≡ false
+range_not_all p n i below is = let same : 0 + i ≡ i = omega arith in not_all p (range_with_len 0 n) i i (range_at 0 n i below ∙ ap (λ x. Some x) same) is
+
+-- one more of a sum over a range
+pub range_sum_more : (f : ℕ → ℕ) (n : ℕ) → sum (map f (range_with_len 0 (n + 1))) ≡ sum (map f (range_with_len 0 n)) + f n
+range_sum_more f n =
+    let more : sum (map f (range_with_len 0 n) ++ f n ∷ []) ≡ sum (map f (range_with_len 0 n)) + sum (f n ∷ []) = sum_by-append (λ z. z) (map f (range_with_len 0 n)) (f n ∷ []) in
+    let one : sum (f n ∷ []) ≡ f n = omega arith in
+    ap sum (map-range_with_len_more f 0 n n (omega arith)) ∙ more ∙ ap (λ (z : ℕ). sum (map f (range_with_len 0 n)) + z) one
+
 or_false : (a b : Bool) → (a || (b || false)) ≡ (a || b)
 or_false a true = refl
 or_false a false = refl
@@ -140,27 +162,11 @@ bus_load f n i xs is below = let same : 0 + i ≡ i = omega arith in ap (λ (l :
 -- ---- the rows of a group
 
 -- the rows of one more bus
-pub bus_more : (g : GroupRow) (t : SlotTable) (frame : ℕ) (field : Field) (load bus : ℕ) (old rows new : List (List Field)) → frame ≡ frame_of t → field ≡ Number bus → load ≡ cells_on t bus
-    → rows ≡ old ++ flat_map (bus_rows g t) (range_with_len 0 bus) → new ≡ rows ++ bus_rows_of g frame field (load ∷ []) Absent
+pub bus_more : (g : GroupRow) (t : SlotTable) (bus : ℕ) (old rows new : List (List Field)) → rows ≡ old ++ flat_map (bus_rows g t) (range_with_len 0 bus) → new ≡ rows ++ bus_rows g t bus
     → new ≡ old ++ flat_map (bus_rows g t) (range_with_len 0 (bus + 1))
-bus_more g t frame field load bus old rows new framed named loaded so now =
-    let same : bus_rows_of g frame field (load ∷ []) Absent ≡ bus_rows g t bus =
-    ap (λ (f : ℕ). bus_rows_of g f field (load ∷ []) Absent) framed
-    ∙ ap (λ (f : Field). bus_rows_of g (frame_of t) f (load ∷ []) Absent) named
-    ∙ ap (λ (l : ℕ). bus_rows_of g (frame_of t) (Number bus) (l ∷ []) Absent) loaded in
-    rows_more (bus_rows g t) rows new old bus so (now ∙ ap (λ (l : List (List Field)). rows ++ l) same)
+bus_more g t bus old rows new so now = rows_more (bus_rows g t) rows new old bus so now
 
--- those of all of them
-pub total_is : (limit : Option ℕ) (g : GroupRow) (t : SlotTable) (frame : ℕ) (loads : List ℕ) (needed : Field) (old new : List (List Field)) → frame ≡ frame_of t → loads ≡ loads_of t → needed ≡ needed_field limit t
-    → new ≡ old ++ bus_rows_of g frame Absent loads needed → new ≡ old ++ total_rows limit g t
-total_is limit g t frame loads needed old new framed loaded within now =
-    let same : bus_rows_of g frame Absent loads needed ≡ total_rows limit g t =
-    ap (λ (f : ℕ). bus_rows_of g f Absent loads needed) framed
-    ∙ ap (λ (l : List ℕ). bus_rows_of g (frame_of t) Absent l needed) loaded
-    ∙ ap (λ (f : Field). bus_rows_of g (frame_of t) Absent (loads_of t) f) within in
-    now ∙ ap (λ (l : List (List Field)). old ++ l) same
-
--- and both
+-- those of each bus, and those of all of them
 pub group_is : (limit : Option ℕ) (g : GroupRow) (t : SlotTable) (old rows new : List (List Field))
     → rows ≡ old ++ flat_map (bus_rows g t) (range_with_len 0 (buses_of t)) → new ≡ rows ++ total_rows limit g t
     → new ≡ old ++ group_rows limit g t

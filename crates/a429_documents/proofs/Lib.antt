@@ -21,9 +21,6 @@ pub mod SlotCells
 pub mod Loads
 pub mod Spreading
 pub mod BusLoads
-pub mod Rooms
-pub mod FilledCells
-pub mod RoomsOfPlans
 pub mod SharesOfPlans
 pub mod BoardWords
 pub mod NamesApart

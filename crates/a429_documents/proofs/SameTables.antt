@@ -24,13 +24,11 @@ use Rattle.a429_pack.specs.declared.demands.Demand.{Demand}
 use Rattle.a429_pack.proofs.Entries.{below_frame}
 use Rattle.a429_pack.proofs.Orders.{names_each_once}
 use Rattle.a429_slots.specs.declared.group_plan.SlotPlace.{SlotPlace}
-use Rattle.a429_slots.specs.Kept.{BeginsAt}
 use Rattle.a429_slots.specs.Planned.{HaveSources, IsPlannedFor, IsServed, asked_by, asked_of}
 use Rattle.a429_slots.specs.Tables.{Placed, SlotTable, buses_of, demands_of, frame_of, order_of, outputs_of, placed_at, share_of, unplaced}
 use Rattle.a429_slots.proofs.Cells.{output_is}
 use Rattle.a429_cert.specs.PlanText.{listing_of, placed_listing, source_name, stated_of}
 use Rattle.a429_cert.specs.Spelling.{Listing}
-use Rattle.a429_cert.proofs.OwnGroups.{order_moved}
 use Rattle.a429_documents.specs.declared.diff.sides.Compared.{Compared}
 use Rattle.a429_documents.specs.Diff.{Both, Sent, both_rows, change_row, change_rows, compared_at, compared_change, each_of, only_rows, has_moved, is_moved, kept_rows, kept_subject, moved_in, name_at, no_gap, number_named, of_group, of_output, other_of, output_named, outputs_rows, size_change, size_rows, with_number}
 use Rattle.a429_documents.proofs.DocumentRows.{served_length}
@@ -132,14 +130,14 @@ module _ (e : TableRecord) (rate : ℕ) (rows : List OutputRow) (t : SlotTable) 
       P.own p q a.0 b.0 a.1 b.1 (P.sound.own_names a.0.source b.0.source s.0 u.0 s.1 u.1 names)
 
   pub each_once : NamesEachOnce (length (outputs_of t)) (order_of t)
-  each_once = names_each_once (length (outputs_of t)) (order_of t) (order_moved e rate rows t P.planned)
+  each_once = names_each_once (length (outputs_of t)) (order_of t) P.planned.order
 
   pub period_fits : (o : ℕ) → o < length (outputs_of t) → 2 ^ (placed_at t o).place.period ≤ 2 ^ t.frame
   period_fits o below =
       let ds : List Demand = asked_of e.sources t in
       let asked : slice_get ds o ≡ Some (asked_by e.sources (placed_at t o)) = slice_get-map (asked_by e.sources) (outputs_of t) o ∙ ap (option_map (asked_by e.sources)) (output_is t o below) in
       let same : demand_at ds o ≡ asked_by e.sources (placed_at t o) = get_or_from_slice_get ds o (asked_by e.sources (placed_at t o)) _ asked in
-      let most : (placed_at t o).place.period ≤ t.frame = omega (arith, below_frame ds o, ap exponent_of same, P.planned.layout.frame) in
+      let most : (placed_at t o).place.period ≤ t.frame = omega (arith, below_frame ds o, ap exponent_of same, P.planned.frame) in
       let two : 0 < 2 = omega arith in
       pow-le-pow_right {n = 2} two {i = (placed_at t o).place.period} {j = t.frame} most
 
@@ -150,13 +148,11 @@ module _ (e : TableRecord) (rate : ℕ) (rows : List OutputRow) (t : SlotTable) 
 
   pub laid : Laid t.frame 0 (map (placed_at t) (order_of t))
   laid =
-      laid_from t 0 (order_of t)
-      (λ k below.
-      let start : start_of (demands_of t) k ≡ 0 + sum (take k (map (share_of t) (order_of t))) = omega arith in
-      subst (BeginsAt t (slice_index (order_of t) k)) start (P.planned.layout.places k (omega (arith, below, each_once.length))))
+      laid_from t 0 (order_of t) (λ none. omega arith)
+      (λ k below. P.planned.follow k (omega (arith, below, each_once.length)))
       (λ k below. some_share (slice_index (order_of t) k) (each_once.below k (omega (arith, below, each_once.length))))
 
--- ---- the outputs in layout order
+-- ---- the outputs in the order of their blocks
 
 placed_in : (t : SlotTable) (n : ℕ) → NamesEachOnce n (order_of t) → (o : ℕ) → o < n → (k : ℕ) × (slice_get (map (placed_at t) (order_of t)) k ≡ Some (placed_at t o))
 placed_in t n once o below =
@@ -292,7 +288,7 @@ module _ (a b : TableRecord) (rate : ℕ) (rows others : List OutputRow) (t u : 
 
   pairs : AllZip (Same a.sources b.sources) (map (placed_at t) (order_of t)) (map (placed_at u) (order_of u))
   pairs =
-      same_order a.sources b.sources t.frame 0 (map (placed_at t) (order_of t)) (map (placed_at u) (order_of u)) (laid a rate rows t U.first)
+      same_order a.sources b.sources t.frame 0 0 (map (placed_at t) (order_of t)) (map (placed_at u) (order_of u)) (laid a rate rows t U.first)
       (subst (λ (h : ℕ). Laid h 0 (map (placed_at u) (order_of u))) (sym frames) (laid b rate others u U.second)) finds found
 
   pub stated_is : (version : ℕ) (row : GroupRow) → stated_of version a.sources row t ≡ stated_of version b.sources row u

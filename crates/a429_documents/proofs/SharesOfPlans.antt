@@ -1,9 +1,10 @@
 -- The cells that the outputs of a planned group fill.
-use Rattle.std.proofs.Common.{◌≡◌, ℕ, zero, suc, ◌-◌, ◌*◌, ◌/◌, ◌^◌, ◌<◌, ◌≤◌, List, [], ◌∷◌, length, map, refl, inl, inr, ap, subst, arith, ◌∙◌}
+use Rattle.std.proofs.Common.{◌≡◌, ℕ, zero, suc, ◌+◌, ◌-◌, ◌*◌, ◌/◌, ◌^◌, ◌<◌, ◌≤◌, List, [], ◌∷◌, length, map, refl, inl, inr, sym, ap, subst, arith, ◌∙◌}
 use Rattle.std.specs.Prelude.{Some, nat_le, slice_get}
 use Rattle.std.specs.List.{AllByRecursion, AllZip, list_all, zip}
 use Rattle.std.proofs.lemmas.Bool.{cases_lt}
 use Rattle.std.proofs.lemmas.Option.{same_Some}
+use Rattle.std.proofs.lemmas.Nat.{pow-add, shl-shr}
 use Rattle.std.proofs.lemmas.Simd.{map-map}
 use Rattle.std.proofs.Math.Pow.{pow-lt}
 use Rattle.a429_equipment.specs.declared.rows.GroupRow.{GroupRow}
@@ -17,9 +18,13 @@ use Rattle.a429_cert.proofs.OwnGroups.{FewestCarry}
 use Rattle.a429_documents.specs.Limits.{AreShares}
 use Rattle.a429_documents.specs.Load.{NeededBusesAreFewest, shares_of}
 use Rattle.a429_documents.specs.Margins.{periods_of}
-use Rattle.a429_documents.proofs.FilledCells.{share_is}
 use Rattle.a429_documents.proofs.MarginGroups.{buses_count}
 use Rattle.a429_documents.proofs.Spreading.{answered}
+
+share_is : (f p : ℕ) → p ≤ f → 2 ^ f / 2 ^ p ≡ 2 ^ (f - p)
+share_is f p few =
+    let digits : (f - p) + p ≡ f = omega arith in
+    ap (λ z. z / 2 ^ p) (ap (λ z. 2 ^ z) (sym digits) ∙ pow-add 2 (f - p) p) ∙ shl-shr (2 ^ (f - p)) p
 
 shares_below : (h : ℕ) (placed : List Placed) → h ≤ 13 → greatest (map (λ (o : Placed). o.place.period) placed) ≤ h → AreShares (map (λ (o : Placed). 2 ^ h / 2 ^ o.place.period) placed)
 shares_below h [] few most = tt
@@ -31,7 +36,7 @@ shares_below h (o ∷ placed) few most =
 pub are_shares : (rate : ℕ) (sources : List SourceRow) (rows : List OutputRow) (t : SlotTable) → IsPlannedFor rate sources rows t → AreShares (shares_of t)
 are_shares rate sources rows t p =
     let same : map exponent_of (asked_of sources t) ≡ map (λ (o : Placed). o.place.period) (outputs_of t) = map-map exponent_of (asked_by sources) (outputs_of t) in
-    let framed : t.frame ≡ greatest (map (λ (o : Placed). o.place.period) (outputs_of t)) = p.layout.frame ∙ ap greatest same in
+    let framed : t.frame ≡ greatest (map (λ (o : Placed). o.place.period) (outputs_of t)) = p.frame ∙ ap greatest same in
     let few : t.frame ≤ 13 = elim (cases_lt 13 t.frame) [
       | inl long ↦ let above : 2 ^ 13 < 2 ^ t.frame = pow-lt {i = 13} {j = t.frame} long in absurd (omega (arith, p.few_slots))
       | inr short ↦ short

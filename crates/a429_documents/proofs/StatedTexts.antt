@@ -13,7 +13,6 @@ use Rattle.a429_equipment.specs.TableRecord.{TableRecord}
 use Rattle.a429_equipment.specs.declared.rows.GroupRow.{GroupRow}
 use Rattle.a429_equipment.specs.declared.rows.OutputRow.{OutputRow}
 use Rattle.a429_pack.specs.Sums.{start_of}
-use Rattle.a429_slots.specs.Kept.{BeginsAt}
 use Rattle.a429_slots.specs.Tables.{SlotTable, buses_of, demands_of, frame_of, order_of, outputs_of, placed_at}
 use Rattle.a429_cert.specs.Checked.{Stated, stated_text}
 use Rattle.a429_cert.specs.Lines.{lines_of}
@@ -60,14 +59,6 @@ module _ (e : TableRecord) (row : GroupRow) (rows : List OutputRow) (t : SlotTab
       let cells : buses_of t * frame_of t ≤ 16 * 8192 = mul-le-mul {n₁ = buses_of t} {m₁ = frame_of t} {n₂ = 16} {m₂ = 8192} S.table.planned.few_buses S.table.planned.few_slots in
       omega (arith, room, cells)
 
-  bus_few : (o : ℕ) → o < length (outputs_of t) → (placed_at t o).place.bus ≤ 16 * 8192
-  bus_few o below =
-      let once = each_once e row.rate rows t S.table in
-      let place = once.place o below in
-      let begins : BeginsAt t o (start_of (demands_of t) place.0) = subst (λ (k : ℕ). BeginsAt t k (start_of (demands_of t) place.0)) place.2 (S.table.planned.layout.places place.0 place.1) in
-      let part : sum (take place.0 (demands_of t)) ≤ sum (demands_of t) = sum_by-take-le (λ x. x) (demands_of t) place.0 in
-      omega (arith, begins.bus, div-le_self (start_of (demands_of t) place.0) (frame_of t), part, few_cells)
-
   listing_fits : (version o : ℕ) → o < length (outputs_of t) → FitsListing version (listing_of version e.sources t o)
   listing_fits version o below =
       let from = row_of e row.rate rows t S.table o below in
@@ -78,7 +69,7 @@ module _ (e : TableRecord) (row : GroupRow) (rows : List OutputRow) (t : SlotTab
       record {
         source = subst IsWord (sym named) word;
         period = omega (arith, period_fits e row.rate rows t S.table o below, S.table.planned.few_slots);
-        bus = omega (arith, bus_few o below);
+        bus = omega (arith, S.table.planned.on_bus o below, S.table.planned.few_buses);
         offset = omega (arith, (S.table.planned.periodic o below).within, period_fits e row.rate rows t S.table o below, S.table.planned.few_slots);
         hold = part_of version IsShortLimit (placed_at t o).limits.hold limit;
       }

@@ -10,6 +10,8 @@ use Rattle.a429_equipment.specs.declared.rows.SourceRow.{SourceRow}
 use Rattle.a429_slots.specs.Planned.{IsPlannedFor}
 use Rattle.a429_slots.specs.Tables.{SlotTable, PlanTable, cell_at, frame_of, buses_of, groups_of, outputs_of}
 use Rattle.a429_documents.specs.Limits.{AreNeeded, needed_buses}
+use Rattle.a429_documents.specs.declared.load.row.Buses.{Buses}
+use Rattle.a429_documents.specs.declared.load.row.Buses.TheVariants.{One, All}
 
 -- ---- the cells of a bus
 
@@ -64,14 +66,23 @@ percent_field frame loads = Tenths (div_ceil (1000 * sum loads) (length loads * 
 abbrev pub words_field : ℕ → ℕ → List ℕ → Field
 words_field rate frame loads = Number (div_ceil (sum loads * rate) (36 * frame))
 
--- How many more outputs of a period the buses take: each has a whole number of cells of one bus.
-abbrev pub room_within : ℕ → List ℕ → ℕ → ℕ
-room_within frame loads period = sum (map (λ load. (frame - load) / (frame / period)) loads)
+-- the buses of a row: one, or all of the group
+abbrev pub listed_buses : SlotTable → Buses → List ℕ
+listed_buses t (One bus) = bus ∷ []
+listed_buses t All = range_with_len 0 (buses_of t)
+
+abbrev pub bus_field : Buses → Field
+bus_field (One bus) = Number bus
+bus_field All = Absent
+
+-- how many more outputs of a period these buses take
+abbrev pub room_within : SlotTable → Buses → ℕ → ℕ
+room_within t buses period = sum (map (λ bus. room_on t bus period) (listed_buses t buses))
 
 -- the row of that room; a period above the frame has none
-abbrev pub room_rows : GroupRow → ℕ → Field → List ℕ → ℕ → List (List Field)
-room_rows g frame bus loads period =
-    if nat_le period frame then (Text g.name ∷ Absent ∷ bus ∷ replicate 6 Absent ++ (Number period ∷ Number (room_within frame loads period) ∷ [])) ∷ [] else []
+abbrev pub room_rows : GroupRow → SlotTable → Buses → ℕ → List (List Field)
+room_rows g t buses period =
+    if nat_le period (frame_of t) then (Text g.name ∷ Absent ∷ bus_field buses ∷ replicate 6 Absent ++ (Number period ∷ Number (room_within t buses period) ∷ [])) ∷ [] else []
 
 -- the row of some buses of a group with a frame of this number of slots, by the cells of each that have an output
 abbrev pub load_row : GroupRow → ℕ → Field → List ℕ → Field → List Field
@@ -80,8 +91,9 @@ load_row g frame bus loads needed =
     ∷ percent_field frame loads ∷ words_field g.rate frame loads ∷ needed ∷ Absent ∷ Absent ∷ []
 
 -- that row, and the room for each period
-abbrev pub bus_rows_of : GroupRow → ℕ → Field → List ℕ → Field → List (List Field)
-bus_rows_of g frame bus loads needed = load_row g frame bus loads needed ∷ flat_map (room_rows g frame bus loads) room_periods
+abbrev pub bus_rows_of : GroupRow → SlotTable → Buses → Field → List (List Field)
+bus_rows_of g t buses needed =
+    load_row g (frame_of t) (bus_field buses) (map (cells_on t) (listed_buses t buses)) needed ∷ flat_map (room_rows g t buses) room_periods
 
 -- ---- the limit
 
@@ -113,11 +125,11 @@ needed_field (Some limit) t =
 
 -- the rows of a bus
 abbrev pub bus_rows : GroupRow → SlotTable → ℕ → List (List Field)
-bus_rows g t bus = bus_rows_of g (frame_of t) (Number bus) (cells_on t bus ∷ []) Absent
+bus_rows g t bus = bus_rows_of g t (One bus) Absent
 
 -- the rows of all buses of a group together
 abbrev pub total_rows : Option ℕ → GroupRow → SlotTable → List (List Field)
-total_rows limit g t = bus_rows_of g (frame_of t) Absent (loads_of t) (needed_field limit t)
+total_rows limit g t = bus_rows_of g t All (needed_field limit t)
 
 -- the rows of each bus of a group, and then those of all its buses
 abbrev pub group_rows : Option ℕ → GroupRow → SlotTable → List (List Field)
@@ -138,12 +150,6 @@ abbrev pub any_above : Option ℕ → PlanTable → Bool
 any_above limit p = list_any (has_above limit) (groups_of p)
 
 -- ---- laws
-
--- The number of more outputs in the column `room` is exact. The cells of an output are those of one offset, and the layout leaves whole offsets empty.
-abbrev pub RoomsAreExact : Type 0
-RoomsAreExact =
-    (rate : ℕ) (sources : List SourceRow) (rows : List OutputRow) (t : SlotTable) → IsPlannedFor rate sources rows t
-    → (bus k : ℕ) → k ≤ t.frame → room_on t bus (2 ^ k) ≡ (frame_of t - cells_on t bus) / (frame_of t / 2 ^ k)
 
 -- The number of buses in the column `needed` is the fewest.
 abbrev pub NeededBusesAreFewest : Type 0

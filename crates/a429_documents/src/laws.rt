@@ -1,6 +1,6 @@
 //! What is true of the definitions that the contracts cite.
 ghost use Rattle.a429_documents.specs.Drawing.{MarksAreCells};
-ghost use Rattle.a429_documents.specs.Load.{NeededBusesAreFewest, RoomsAreExact};
+ghost use Rattle.a429_documents.specs.Load.{NeededBusesAreFewest};
 ghost use Rattle.a429_documents.specs.Losses.{BusCountsAreFewest, NoLossIsAllServed};
 ghost use Rattle.a429_documents.specs.Margins.{WiderIntervalsAreNext};
 ghost use Rattle.a429_documents.specs.SlotBoard.{BoardWordsHaveNoData};
@@ -8,8 +8,7 @@ ghost use Rattle.a429_documents.specs.SlotNames.{SlotNamesDiffer};
 ghost use Rattle.a429_documents.specs.SlotRows.{SlotRowsAreCells};
 ghost use Rattle.a429_documents.specs.Unchanged.{NoRowIsOnePlan, NoStationRowIsOneStation};
 
-use a429_grid::laws::blocks_are_periodic;
-use a429_pack::laws::{fewest_by_demand, orders_name_each_once, stretches_are_apart};
+use a429_pack::laws::fewest_by_demand;
 
 /// If an output's maximum interval becomes the duration of twice its grid period, rounded up to a whole microsecond, twice
 /// the period is its new grid period. This needs a grid period of that length.
@@ -54,17 +53,6 @@ pub fn no_row_is_one_plan()
     ensures { NoRowIsOnePlan }
 {
     fewest_by_demand();
-}
-
-/// The number of more outputs of a period that `load` computes from the free cells of a bus is exact. It is how many
-/// offsets below the period have only empty cells: each output takes all cells of one offset. No more fit, since each has
-/// the same number of cells. As many fit: the layout fills a bus from its first place on, and leaves whole offsets empty.
-pub fn rooms_are_exact()
-    ensures { RoomsAreExact }
-{
-    blocks_are_periodic();
-    orders_name_each_once();
-    stretches_are_apart();
 }
 
 /// The number of buses that `load` computes within a limit is the fewest over which the outputs of a group can be spread.

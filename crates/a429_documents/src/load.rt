@@ -10,7 +10,7 @@ mod row;
 
 use crate::load::cells::loads;
 use crate::load::limit::{has_above, needed_cell};
-use crate::load::row::{add_buses, add_rows};
+use crate::load::row::{Buses, add_buses, add_rows};
 use a429_equipment::GroupRow;
 use a429_pack::laws::fewest_by_demand;
 use a429_slots::{GroupPlan, OUTPUTS, Proposal};
@@ -49,7 +49,7 @@ fn add_total(
     ensures { rows.new ≡ rows.old ++ total_rows limit group.now table.now }
 {
     let needed = needed_cell(limit, table, loads);
-    add_rows(rows, group, table.frame(), Cell::Absent, loads, needed);
+    add_rows(rows, group, table, Buses::All, loads, needed);
 }
 
 /// Adds the rows of a group: those of each bus, and then those of all its buses together.

@@ -33,7 +33,7 @@ use Rattle.a429_callers.proofs.Icd.Texts.{heading_is_first, quotes_are_right}
 use Rattle.a429_callers.proofs.Icd.Rows.{read_table, rows_stated_are}
 use Rattle.a429_import.proofs.ImportRanges.{same_ok}
 use Rattle.a429_callers.proofs.Icd.OwnWords.{IsReadTable, read_table_is}
-use Rattle.a429_callers.proofs.Icd.RenumberedPlans.{IsRenumbered, is_plan, renumbered_plan, one_text}
+use Rattle.a429_callers.proofs.Icd.RenumberedPlans.{IsRenumbered, has_layout, is_plan, renumbered_plan, one_text}
 
 -- ---- a heading without texts HEADING=COLUMN
 
@@ -82,7 +82,8 @@ module _ (bytes : List ℕ) (a : Proposed) (A : IsWholeInIcd bytes a) (one_plan 
       record {
         plan = plan;
         is = is_plan t a.station f R a.plan A.plan;
-        text = λ b planned. ap (plan_text_of t) (one_plan t b plan planned (is_plan t a.station f R a.plan A.plan)) ∙ one_text t a.station f R a.plan A.plan;
+        own = has_layout t a.station f R a.plan A.plan A.own;
+        text = λ b planned own. ap (plan_text_of t) (one_plan t b plan planned own (is_plan t a.station f R a.plan A.plan) (has_layout t a.station f R a.plan A.plan A.own)) ∙ one_text t a.station f R a.plan A.plan;
       }
 
   no_fault : faults (table (root_members rows)) ≡ []

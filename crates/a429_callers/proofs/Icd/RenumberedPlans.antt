@@ -1,7 +1,9 @@
 -- The plan of a table whose sources have other numbers.
-use Rattle.std.proofs.Common.{◌≡◌, ◌∙◌, ℕ, zero, suc, ◌+◌, ◌-◌, ◌/◌, ◌^◌, ◌<◌, cond, List, [], ◌∷◌, ◌++◌, length, get_or, map, Option, None, Some, ap, ap₂, sym, subst, refl, arith}
+use Rattle.std.proofs.Common.{◌≡◌, ◌∙◌, ℕ, zero, suc, ◌+◌, ◌-◌, ◌*◌, ◌/◌, ◌^◌, ◌<◌, ◌≤◌, cond, List, [], ◌∷◌, ◌++◌, length, get_or, map, Option, None, Some, ap, ap₂, sym, subst, refl, arith}
 use Rattle.std.specs.Prelude.{nat_lt, not, option_and_then, slice_get, sum}
-use Rattle.std.specs.List.{AllByRecursion, AllZip, flat_map, position_or_len, zip}
+use Rattle.std.specs.List.{AllByRecursion, AllZip, flat_map, position_or_len, range_with_len, zip}
+use Rattle.std.specs.List.Sorted.{IsPermutation}
+use Rattle.a429_grid.specs.Reversal.{reversed}
 use Rattle.std.specs.Option.{option_map_or}
 use Rattle.std.proofs.lemmas.List.{length-map}
 use Rattle.std.proofs.lemmas.Option.{get_or_from_slice_get, slice_get_within}
@@ -15,13 +17,12 @@ use Rattle.a429_pack.specs.Orders.{NamesEachOnce}
 use Rattle.a429_pack.specs.Sums.{start_of}
 use Rattle.a429_pack.proofs.Orders.{names_each_once}
 use Rattle.a429_slots.specs.declared.group_plan.SlotPlace.{SlotPlace}
-use Rattle.a429_slots.specs.Kept.{BeginsAt, StandsJustAt}
-use Rattle.a429_slots.specs.Planned.{HasPeriod, IsPlanOf, IsPlannedAt, IsPlannedFor, IsServed, asked_by, asked_of}
+use Rattle.a429_slots.specs.Kept.{BeginsAt, StandsJustAt, begin_of, end_of}
+use Rattle.a429_slots.specs.Planned.{HasOwnLayout, HasPeriod, IsLayout, IsPlanOf, IsPlannedAt, IsPlannedFor, IsServed, asked_by, asked_of}
 use Rattle.a429_slots.specs.Tables.{Placed, PlanTable, SlotTable, buses_of, cell_at, demands_of, frame_of, groups_of, order_of, outputs_of, placed_at, share_of, stands_in, unplaced}
 use Rattle.a429_cert.specs.Checked.{Stated, stated_text}
 use Rattle.a429_cert.specs.PlanText.{head_text, heading_of, listing_of, placed_listing, plan_text_of, source_name, stated_groups, stated_of}
 use Rattle.a429_cert.specs.Spelling.{rate_text, version_text}
-use Rattle.a429_cert.proofs.OwnGroups.{order_moved}
 use Rattle.a429_table.proofs.Absence.{all_from}
 
 -- ---- other numbers
@@ -69,6 +70,12 @@ module _ (f : ℕ → ℕ) where
 
   share_same : (t : SlotTable) (o : ℕ) → share_of (renumbered_table f t) o ≡ share_of t o
   share_same t o = ap (λ (p : SlotPlace). 2 ^ t.frame / 2 ^ p.period) (place_same t o)
+
+  begin_same : (t : SlotTable) (o : ℕ) → begin_of (renumbered_table f t) o ≡ begin_of t o
+  begin_same t o = ap (λ (p : SlotPlace). p.bus * frame_of t + reversed t.frame p.offset) (place_same t o)
+
+  end_same : (t : SlotTable) (o : ℕ) → end_of (renumbered_table f t) o ≡ end_of t o
+  end_same t o = ap₂ (λ (x y : ℕ). x + y) (begin_same t o) (share_same t o)
 
   demands_same : (t : SlotTable) → demands_of (renumbered_table f t) ≡ demands_of t
   demands_same t = map_each (share_of (renumbered_table f t)) (share_of t) (share_same t) t.order
@@ -129,15 +136,6 @@ module _ (own others : List SourceRow) (f : ℕ → ℕ) where
     asks : asked_of others (renumbered_table f t) ≡ asked_of own t
     asks = asked_same (outputs_of t) all_kept
 
-    -- the outputs in the layout
-    begins : (k : ℕ) → k < length (map (renumbered_output f) t.outputs) → BeginsAt (renumbered_table f t) (get_or t.order k 0) (start_of (demands_of (renumbered_table f t)) k)
-    begins k below =
-        let o : ℕ = get_or t.order k 0 in
-        let at = P.layout.places k (omega (arith, below, length-map t.outputs (renumbered_output f))) in
-        let place = place_same f t o in
-        let start : start_of (demands_of t) k ≡ start_of (demands_of (renumbered_table f t)) k = ap (λ (ds : List ℕ). start_of ds k) (sym (demands_same f t)) in
-        subst (BeginsAt (renumbered_table f t) o) start (record { bus = ap (λ (p : SlotPlace). p.bus) place ∙ at.bus; offset = ap (λ (p : SlotPlace). p.offset) place ∙ at.offset })
-
     stands : (o : ℕ) → o < length (map (renumbered_output f) t.outputs)
         → StandsJustAt (renumbered_table f t) o (placed_at (renumbered_table f t) o).place.bus (placed_at (renumbered_table f t) o).place.offset (2 ^ (placed_at (renumbered_table f t) o).place.period)
     stands o below =
@@ -145,19 +143,33 @@ module _ (own others : List SourceRow) (f : ℕ → ℕ) where
         subst (λ (p : SlotPlace). StandsJustAt (renumbered_table f t) o p.bus p.offset (2 ^ p.period)) (sym (place_same f t o))
         (stands_same f t o (placed_at t o).place.bus (placed_at t o).place.offset (2 ^ (placed_at t o).place.period) at)
 
+    count : length (outputs_of (renumbered_table f t)) ≡ length (outputs_of t)
+    count = length-map t.outputs (renumbered_output f)
+
     planned_again : IsPlannedFor rate others (map (renumbered_row f) rows) (renumbered_table f t)
     planned_again = record {
       served = served_same f rate rows (outputs_of t) P.served;
-      layout = record {
-        frame = P.layout.frame ∙ ap (λ (ds : List Demand). greatest (exponents_of ds)) (sym asks);
-        order = subst (λ (ds : List Demand). IsLayoutOrder ds (order_of t)) (sym asks) P.layout.order;
-        places = begins;
-      };
+      frame = P.frame ∙ ap (λ (ds : List Demand). greatest (exponents_of ds)) (sym asks);
+      order = subst (λ (n : ℕ). IsPermutation (range_with_len 0 n) (order_of t)) (sym count) P.order;
+      follow = λ k below. omega (arith, end_same f t (get_or t.order k 0), begin_same f t (get_or t.order (k + 1) 0), P.follow k (omega (arith, below, count)));
+      on_bus = λ o below. subst (λ (p : SlotPlace). p.bus < buses_of t) (sym (place_same f t o)) (P.on_bus o (omega (arith, below, count)));
       periodic = stands;
       fewest = record { exponents = P.fewest.exponents; fit = fit_same f rate rows P.fewest.exponents P.fewest.fit; fewest = P.fewest.fewest };
       few_buses = P.few_buses;
       few_slots = P.few_slots;
     }
+
+    -- in the same layout
+    begins : IsLayout own t → (k : ℕ) → k < length (map (renumbered_output f) t.outputs) → BeginsAt (renumbered_table f t) (get_or t.order k 0) (start_of (demands_of (renumbered_table f t)) k)
+    begins L k below =
+        let o : ℕ = get_or t.order k 0 in
+        let at = L.places k (omega (arith, below, length-map t.outputs (renumbered_output f))) in
+        let place = place_same f t o in
+        let start : start_of (demands_of t) k ≡ start_of (demands_of (renumbered_table f t)) k = ap (λ (ds : List ℕ). start_of ds k) (sym (demands_same f t)) in
+        subst (BeginsAt (renumbered_table f t) o) start (record { bus = ap (λ (p : SlotPlace). p.bus) place ∙ at.bus; offset = ap (λ (p : SlotPlace). p.offset) place ∙ at.offset })
+
+    layout_again : IsLayout own t → IsLayout others (renumbered_table f t)
+    layout_again L = record { order = subst (λ (ds : List Demand). IsLayoutOrder ds (order_of t)) (sym asks) L.order; places = begins L }
 
   plans_again : (rates : List ℕ) (rowss : List (List OutputRow)) (ts : List SlotTable) → AllZip (IsPlannedAt own) (zip rates rowss) ts → AllByRecursion AreKept rowss
       → AllZip (IsPlannedAt others) (zip rates (map (map (renumbered_row f)) rowss)) (map (renumbered_table f) ts)
@@ -167,6 +179,14 @@ module _ (own others : List SourceRow) (f : ℕ → ℕ) where
   plans_again (rate ∷ rates) [] (t ∷ ts) planned alike = absurd planned
   plans_again (rate ∷ rates) (rows ∷ rowss) [] planned alike = absurd planned
   plans_again (rate ∷ rates) (rows ∷ rowss) (t ∷ ts) planned alike = (planned_again rate rows t planned.0 alike.0, plans_again rates rowss ts planned.1 alike.1)
+
+  layouts_again : (rates : List ℕ) (rowss : List (List OutputRow)) (ts : List SlotTable) → AllZip (IsPlannedAt own) (zip rates rowss) ts → AllByRecursion AreKept rowss
+      → AllByRecursion (IsLayout own) ts → AllByRecursion (IsLayout others) (map (renumbered_table f) ts)
+  layouts_again rates rowss [] planned alike layouts = tt
+  layouts_again [] rowss (t ∷ ts) planned alike layouts = absurd planned
+  layouts_again (rate ∷ rates) [] (t ∷ ts) planned alike layouts = absurd planned
+  layouts_again (rate ∷ rates) (rows ∷ rowss) (t ∷ ts) planned alike layouts =
+      (layout_again rate rows t planned.0 alike.0 layouts.0, layouts_again rates rowss ts planned.1 alike.1 layouts.1)
 
   -- ---- what the text states
 
@@ -193,7 +213,7 @@ module _ (own others : List SourceRow) (f : ℕ → ℕ) where
     order_known : AllByRecursion (λ o. o < length (outputs_of t)) (order_of t)
     order_known =
         let n : ℕ = length (outputs_of t) in
-        let once : NamesEachOnce n (order_of t) = names_each_once n (order_of t) (order_moved (of_sources own) rate rows t P) in
+        let once : NamesEachOnce n (order_of t) = names_each_once n (order_of t) P.order in
         all_from (λ o. o < n) (order_of t)
         (λ i o there. subst (λ (k : ℕ). k < n) (get_or_from_slice_get (order_of t) i o 0 there) (once.below i (omega (arith, slice_get_within (order_of t) i o there, once.length))))
 
@@ -238,6 +258,9 @@ module _ (t e : TableRecord) (f : ℕ → ℕ) (R : IsRenumbered t e f) (p : Pla
         (subst (λ (os : List (List OutputRow)). AllZip (IsPlannedAt t.sources) (zip (map (λ (g : GroupRow). g.rate) e.groups) os) (map (renumbered_table f) (groups_of p))) (sym R.outputs)
         (plans_again e.sources t.sources f (map (λ (g : GroupRow). g.rate) e.groups) e.outputs (groups_of p) P.groups R.alike));
   }
+
+  pub has_layout : HasOwnLayout e p → HasOwnLayout t renumbered_plan
+  has_layout own = layouts_again e.sources t.sources f (map (λ (g : GroupRow). g.rate) e.groups) e.outputs (groups_of p) P.groups R.alike own
 
   -- and has the same text
   pub one_text : plan_text_of t renumbered_plan ≡ plan_text_of e p

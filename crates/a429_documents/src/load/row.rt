@@ -1,20 +1,50 @@
 //! The rows of some buses of a group.
-ghost use Rattle.std.specs.Prelude.{◌≡◌, ◌≤◌, ◌*◌, ◌^◌, ◌++◌, ◌∷◌, [], length};
+ghost use Rattle.std.specs.Prelude.{◌≡◌, ◌≤◌, ◌*◌, ◌^◌, ◌++◌, ◌∷◌, [], length, map};
 ghost use Rattle.std.specs.Int.{div_ceil};
 ghost use Rattle.std.specs.List.{AllByRecursion, flat_map, range_with_len};
 ghost use Rattle.a429_text.specs.Fields.{Number, Tenths};
 ghost use Rattle.a429_text.specs.Sheets.{field_of};
 ghost use Rattle.a429_slots.specs.Tables.{buses_of};
-ghost use Rattle.a429_documents.specs.Load.{bus_rows, bus_rows_of, load_row, loads_of, room_rows};
+ghost use Rattle.a429_documents.specs.Load.{bus_field, bus_rows, bus_rows_of, cells_on, listed_buses, load_row, loads_of, room_rows, room_within};
 
 use crate::document::number;
-use crate::load::cells::{all_cells, all_room};
+use crate::load::cells::{all_cells, all_room, room_on};
 use a429_equipment::GroupRow;
 use a429_slots::{GroupPlan, OUTPUTS};
 use a429_text::{Cell, Rows};
 
 /// The periods from 2 on, in slots.
 const PERIODS: [u32; 13] = [2, 4, 8, 16, 32, 64, 128, 256, 512, 1024, 2048, 4096, 8192];
+
+/// The buses of a row.
+#[derive(Clone, Copy)]
+pub enum Buses {
+    /// The bus of this number.
+    One(u32),
+    /// All buses of the group.
+    All,
+}
+
+/// The number of the bus; absent for all buses of the group.
+fn bus_cell(buses: Buses) -> Cell<'static>
+    ensures { field_of result ≡ bus_field buses }
+{
+    match buses {
+        Buses::One(bus) => number(bus),
+        Buses::All => Cell::Absent,
+    }
+}
+
+/// How many more outputs of this period, in slots, these buses take.
+fn room(table: &GroupPlan<OUTPUTS>, buses: Buses, period: u32) -> u64
+    requires some { 1 ≤ period }
+    ensures { result ≡ room_within table.now buses period }
+{
+    match buses {
+        Buses::One(bus) => u64::from(room_on(table, bus, period)),
+        Buses::All => all_room(table, period),
+    }
+}
 
 /// The cells with an output in per cent of all these cells, rounded up to one decimal.
 fn percent(cells: u64, all: u64) -> Cell<'static>
@@ -36,25 +66,23 @@ fn words(cells: u64, rate: u32, frame: u32) -> Cell<'static>
 }
 
 /// Adds the row of how many more outputs of a period some buses take, if the period is within the frame.
-fn add_room<'a>(
+fn add_room(
     rows: &mut Rows,
-    group: &'a GroupRow,
-    frame: u32,
-    bus: Cell<'a>,
-    loads: &[u32],
+    group: &GroupRow,
+    table: &GroupPlan<OUTPUTS>,
+    buses: Buses,
     period: u32,
 )
     requires some { 1 ≤ period }
-    requires few { length loads.now ≤ 16 }
-    ensures { rows.new ≡ rows.old ++ room_rows group.now frame (field_of bus.entry) loads.now period }
+    ensures { rows.new ≡ rows.old ++ room_rows group.now table.now buses period }
 {
-    if period > frame {
+    if period > table.frame() {
         return;
     }
     rows.add(&[
         Cell::Text(group.name.as_str()),
         Cell::Absent,
-        bus,
+        bus_cell(buses),
         Cell::Absent,
         Cell::Absent,
         Cell::Absent,
@@ -62,25 +90,23 @@ fn add_room<'a>(
         Cell::Absent,
         Cell::Absent,
         number(period),
-        Cell::Number(all_room(frame, loads, frame / period)),
+        Cell::Number(room(table, buses, period)),
     ]);
 }
 
 /// Adds the rows of these powers of two as periods.
-fn add_rooms<'a>(
+fn add_rooms(
     rows: &mut Rows,
-    group: &'a GroupRow,
-    frame: u32,
-    bus: Cell<'a>,
-    loads: &[u32],
+    group: &GroupRow,
+    table: &GroupPlan<OUTPUTS>,
+    buses: Buses,
     periods: &[u32],
 )
     requires some { AllByRecursion (λ period. 1 ≤ period) periods.now }
-    requires few { length loads.now ≤ 16 }
-    ensures { rows.new ≡ rows.old ++ flat_map (room_rows group.now frame (field_of bus.entry) loads.now) periods.now }
+    ensures { rows.new ≡ rows.old ++ flat_map (room_rows group.now table.now buses) periods.now }
 {
     for number in 0..periods.len() {
-        add_room(rows, group, frame, bus, loads, periods[number]);
+        add_room(rows, group, table, buses, periods[number]);
     }
 }
 
@@ -116,23 +142,23 @@ fn add_load<'a>(
     ]);
 }
 
-/// Adds the rows of some buses.
-pub fn add_rows<'a>(
+/// Adds the rows of some buses, which have these loads.
+pub fn add_rows(
     rows: &mut Rows,
-    group: &'a GroupRow,
-    frame: u32,
-    bus: Cell<'a>,
+    group: &GroupRow,
+    table: &GroupPlan<OUTPUTS>,
+    buses: Buses,
     loads: &[u32],
-    needed: Cell<'a>,
+    needed: Cell<'_>,
 )
     requires rate { group.now.rate ≤ 100000 }
-    requires frame { 1 ≤ frame }
+    requires loads { loads.now ≡ map (cells_on table.now) (listed_buses table.now buses) }
     requires some { 1 ≤ length loads.now }
     requires few { length loads.now ≤ 16 }
-    ensures { rows.new ≡ rows.old ++ bus_rows_of group.now frame (field_of bus.entry) loads.now (field_of needed.entry) }
+    ensures { rows.new ≡ rows.old ++ bus_rows_of group.now table.now buses (field_of needed.entry) }
 {
-    add_load(rows, group, frame, bus, loads, needed);
-    add_rooms(rows, group, frame, bus, loads, &PERIODS);
+    add_load(rows, group, table.frame(), bus_cell(buses), loads, needed);
+    add_rooms(rows, group, table, buses, &PERIODS);
 }
 
 /// Adds the rows of each bus of a group, from 0.
@@ -143,6 +169,6 @@ pub fn add_buses(rows: &mut Rows, group: &GroupRow, table: &GroupPlan<OUTPUTS>, 
 {
     for bus in 0..table.buses() {
         let load = [loads[bus as usize]];
-        add_rows(rows, group, table.frame(), number(bus), &load, Cell::Absent);
+        add_rows(rows, group, table, Buses::One(bus), &load, Cell::Absent);
     }
 }

@@ -2,7 +2,7 @@ use Rattle.std.proofs.Common.{◌∙◌, ap, subst, sym}
 use Rattle.std.specs.Prelude.{Err, Ok}
 use Rattle.std.proofs.lemmas.Result.{err_from_is_err_and}
 use Rattle.a429_slots.specs.Faults.{IsFaultOf}
-use Rattle.a429_slots.specs.Planned.{IsPlanOf}
+use Rattle.a429_slots.specs.Planned.{HasOwnLayout, IsPlanOf}
 use Rattle.a429_console.specs.RefusalText.{OrMemory}
 use Rattle.a429_console.specs.Tables.{IsPlanRefusal, IsTableFault, IsTableRefusal}
 use Rattle.a429_console.proofs.Refused.{failed, or_memory_weaker, plan_refuses, table_fault_refuses}
@@ -19,7 +19,11 @@ returns-in_err-equipment c =
 pub returns-in-Ok : goal.returns-in-Ok
 returns-in-Ok c =
     let planned = c.in-Ok.ensures.planned in
-    (c.in_ok-equipment.ensures ∙ ap Ok (sym planned.0), subst (λ t. IsPlanOf t c.in-Ok.proposal.plan) (sym planned.0) planned.1)
+    (
+      c.in_ok-equipment.ensures ∙ ap Ok (sym planned.0),
+      subst (λ t. IsPlanOf t c.in-Ok.proposal.plan) (sym planned.0) planned.1,
+      subst (λ t. HasOwnLayout t c.in-Ok.proposal.plan) (sym planned.0) c.in-Ok.ensures.own,
+    )
 
 pub returns-in-Err : goal.returns-in-Err
 returns-in-Err c =

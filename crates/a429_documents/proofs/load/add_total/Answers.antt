@@ -1,7 +1,7 @@
 use Rattle.std.proofs.Common.{arith}
 use Rattle.a429_slots.specs.Tables.{buses_of}
 use Rattle.a429_documents.specs.Load.{cells_on}
-use Rattle.a429_documents.proofs.BusLoads.{bus_count, total_is}
+use Rattle.a429_documents.proofs.BusLoads.{bus_count}
 use Rattle.a429_documents.proofs.load.add_total.Goals as goal
 
 pub add_rows-requires-clause-some : goal.add_rows-requires-clause-some
@@ -9,7 +9,3 @@ add_rows-requires-clause-some c = omega (arith, bus_count (cells_on c.args.table
 
 pub add_rows-requires-clause-few : goal.add_rows-requires-clause-few
 add_rows-requires-clause-few c = omega (arith, bus_count (cells_on c.args.table.now) (buses_of c.args.table.now) c.args.loads.now c.requires.loads, c.requires.few)
-
-pub returns : goal.returns
-returns c =
-    total_is c.args.limit c.args.group.now c.args.table.now c.frame.result c.args.loads.now _ c.args.rows.now c.add_rows.new.rows c.frame.ensures.value c.requires.loads c.needed_cell-needed.ensures c.add_rows.ensures
