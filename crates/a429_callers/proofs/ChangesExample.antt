@@ -9,7 +9,7 @@ use Rattle.a429_equipment.specs.Arrivals.{SourcesAreApart}
 use Rattle.a429_equipment.specs.Sound.{HaveOwnSources}
 use Rattle.a429_equipment.specs.declared.rows.OutputRow.{OutputRow}
 use Rattle.a429_equipment.specs.SameStation.{same_station}
-use Rattle.a429_slots.specs.Tables.{Placed, cell_at, demands_of, placed_at}
+use Rattle.a429_slots.specs.Tables.{Placed, buses_of, cell_at, demands_of, placed_at}
 use Rattle.a429_slots.specs.Kept.{StandsJustAt}
 use Rattle.a429_grid.specs.Reversal.{reversed}
 use Rattle.a429_pack.specs.Demanded.{AreFewestBuses}
