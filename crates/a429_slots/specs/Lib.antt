@@ -6,6 +6,7 @@ pub mod Planned
 pub mod OnePlan
 pub mod Changes
 pub mod Asked
+pub mod Moves
 pub mod Faults
 pub mod Proposed
 pub mod Events

@@ -1,14 +1,16 @@
 //! The slot table of one group of outputs.
-ghost use Rattle.std.specs.Prelude.{◌≡◌, ℕ, ◌+◌, ◌<◌, ◌≤◌, ◌/◌, ◌^◌, [], length, map, option_map, slice_get, sum, true, Some, IfSome};
+ghost use Rattle.std.specs.Prelude.{◌≡◌, ℕ, ◌+◌, ◌<◌, ◌≤◌, ◌/◌, ◌^◌, [], length, map, option_map, slice_get, sum, true, None, Err, Some, IfOk, IfSome};
 
 use crate::layout::{order_in, periods_in, place_of_cell, places_in, sources_in};
 use crate::limits::limits_in;
+use crate::moves::{MoveFault, buses_in, offsets_in, order_of_blocks, sorted_blocks, stretches_of};
 use crate::outputs::OutputId;
 use a429_equipment::OutputRow;
 use a429_grid::Period;
-use a429_grid::laws::spacings_are_least;
+use a429_grid::laws::{blocks_are_periodic, spacings_are_least};
 use a429_pack::laws::{none_is_above_the_greatest, orders_name_each_once, stretches_are_apart};
 use a429_pack::{Demand, Packed, SumTable};
+use std::alloc::Global;
 use std::marker::Model;
 
 /// The place of an output: on one bus of its group, in the slots that leave this offset when they are divided by the
@@ -67,6 +69,8 @@ impl<const N: usize> GroupPlan<N> {
     ghost use Rattle.a429_slots.specs.Tables.{outputs_of, order_of, demands_of, frame_of, buses_of, place_of, placed_at, source_of, stands_in, limits_of, cell_at, no_table};
     ghost use Rattle.a429_slots.specs.Kept.{IsTable, StandsJustAt};
     ghost use Rattle.a429_slots.specs.Asked.{IsTableOf};
+    ghost use Rattle.a429_slots.specs.Moves.{AreInside, HaveCommonCell, IsMoved};
+    ghost use Rattle.a429_slots.specs.declared.moves.MoveFault.TheVariants as MoveFault;
 
     /// The table of a group without outputs: no bus, and a frame of one slot.
     pub(crate) fn empty() -> GroupPlan<N>
@@ -124,6 +128,41 @@ impl<const N: usize> GroupPlan<N> {
             periods: periods_in(demands),
             limits: limits_in(rate, outputs),
         }
+    }
+
+    /// The table with the same outputs at other places, by their numbers. Errors: `Shared`, two outputs would have a cell
+    /// in common; `NoMemory`, an allocation failed.
+    pub(crate) fn moved(
+        &self,
+        alloc: Global,
+        places: &[SlotPlace],
+    ) -> Result<GroupPlan<N>, MoveFault>
+        requires periods { map (λ p. p.period) places.now ≡ map (λ o. o.place.period) (outputs_of self.now) }
+        requires inside { AreInside self.now places.now }
+        ensures moved { IfOk result (λ table. IsMoved self.now table places.now) }
+        ensures sound { IfOk result (IsTable N) }
+        ensures shared { result ≡ Err MoveFault.Shared → HaveCommonCell places.now }
+    {
+        orders_name_each_once();
+        blocks_are_periodic();
+        let Ok(blocks) = sorted_blocks(alloc, self.frame, places) else {
+            return Err(MoveFault::NoMemory);
+        };
+        let Some(sums) = stretches_of(&blocks) else {
+            return Err(MoveFault::Shared);
+        };
+        Ok(GroupPlan {
+            frame: self.frame,
+            buses: self.buses,
+            sums,
+            filled: self.filled,
+            order: order_of_blocks(&blocks),
+            sources: self.sources,
+            on_bus: buses_in(places),
+            offsets: offsets_in(places),
+            periods: self.periods,
+            limits: self.limits,
+        })
     }
 
     /// How many buses the group has, at most 16.
