@@ -197,7 +197,7 @@ sound_by bytes t is = by_root (root_of (document bytes)) is
     by_root (Ok root) is = by_faults root (faults root) refl is
 
 pub words_within : PlansInForceAreSpaced → OpeningWordsGoOutInTime → WordsAreWithinBounds
-words_within force out table q words last M (read, planned) timeline =
-    let sound = sound_by table q.station read in
+words_within force out table q words last M proposed timeline =
+    let sound = sound_by table q.station proposed.0 in
     all_ranges IsWithinBound (group_rows q (happenings_of q (steps_of q M))) 0 (length (groups_of q.plan)) (λ g below. all_range IsWithinBound (summary_row q (happenings_of q (steps_of q M)) g) 0 (length (outputs_of (table_of q g)))
-    (λ n within. row_within q sound planned force out words last M timeline g (omega (arith, below)) n (omega (arith, within))))
+    (λ n within. row_within q sound proposed.1 force out words last M timeline g (omega (arith, below)) n (omega (arith, within))))

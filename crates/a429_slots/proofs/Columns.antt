@@ -6,7 +6,7 @@ use Rattle.std.proofs.Math.ListN.{set}
 use Rattle.std.proofs.lemmas.Bool.{cases_eq, cases_lt}
 use Rattle.std.proofs.lemmas.List.{ext_get_or, get_or-append_right, get_or-map, get_or-replicate, get_or-take, get_or_past, get_or-set_same, get_or-set_other, length-map, length-replicate, length-take-le, map_more, take_more}
 use Rattle.std.proofs.lemmas.List.FromFn.{fill_by_all, get_or-map-range_with_len, length-map-range_with_len}
-use Rattle.std.proofs.lemmas.Option.{slice_get-get_or}
+use Rattle.std.proofs.lemmas.Option.{same_Some, slice_get-get_or}
 use Rattle.std.proofs.lemmas.Simd.{map-map}
 use Rattle.a429_pack.specs.Kept.{padded}
 use Rattle.a429_pack.specs.Orders.{NamesEachOnce}
@@ -24,6 +24,10 @@ map_where f g (x ∷ xs) same = ap (λ z. z ∷ map f xs) (same 0 (omega arith))
 pub mapped_at : {A B C : Type 0} (f : A → C) (g : B → C) (xs : List A) (ys : List B) (i : ℕ) (d : A) (e : B) → map f xs ≡ map g ys → i < length xs → i < length ys
     → f (get_or xs i d) ≡ g (get_or ys i e)
 mapped_at f g xs ys i d e same here there = sym (get_or-map f xs i d (f d) here) ∙ ap (λ zs. get_or zs i (f d)) same ∙ get_or-map g ys i e (f d) there
+
+-- a value that is there is the same under any default
+pub one_value : {A : Type 0} (xs : List A) (i : ℕ) (d e : A) → i < length xs → get_or xs i d ≡ get_or xs i e
+one_value xs i d e below = same_Some (get_or xs i d) (get_or xs i e) (sym (slice_get-get_or xs i d below) ∙ slice_get-get_or xs i e below)
 
 -- ---- arrays that are filled from the front
 

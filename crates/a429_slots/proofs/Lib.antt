@@ -1,4 +1,6 @@
 pub mod Stretches
+pub mod Moving
+pub mod Moved
 pub mod Cells
 pub mod Columns
 pub mod Rows
@@ -22,3 +24,4 @@ pub mod OneFault
 pub mod NextCells
 pub mod Known
 pub mod CachedCells
+pub mod Replaced

@@ -37,7 +37,7 @@ same_exponents rate (row ∷ rows) [] js h k = absurd h
 same_exponents rate (row ∷ rows) (i ∷ is) [] h k = absurd k
 same_exponents rate (row ∷ rows) (i ∷ is) (j ∷ js) h k = ap₂ (λ x xs. x ∷ xs) (one_period rate row i j h.0 k.0) (same_exponents rate rows is js h.1 k.1)
 
-same_asked : (rate : ℕ) (sources : List SourceRow) (rows : List OutputRow) (xs ys : List Placed) → AllZip (IsServed rate) rows xs → AllZip (IsServed rate) rows ys
+pub same_asked : (rate : ℕ) (sources : List SourceRow) (rows : List OutputRow) (xs ys : List Placed) → AllZip (IsServed rate) rows xs → AllZip (IsServed rate) rows ys
     → map (asked_by sources) xs ≡ map (asked_by sources) ys
 same_asked rate sources [] [] [] h k = refl
 same_asked rate sources [] [] (y ∷ ys) h k = absurd k

@@ -30,7 +30,7 @@ use Rattle.a429_slots.proofs.Cells.{HasEach, AreApart, stands_just_at}
 use Rattle.a429_slots.proofs.Columns.{mapped_at}
 use Rattle.a429_slots.proofs.Rows.{blank, unasked, period_from, first_unfit, have_periods}
 
-zip_by : {A B : Type 0} (R : A → B → Type 0) (xs : List A) (ys : List B) (d : A) (e : B) → length ys ≡ length xs → ((i : ℕ) → i < length xs → R (get_or xs i d) (get_or ys i e)) → AllZip R xs ys
+pub zip_by : {A B : Type 0} (R : A → B → Type 0) (xs : List A) (ys : List B) (d : A) (e : B) → length ys ≡ length xs → ((i : ℕ) → i < length xs → R (get_or xs i d) (get_or ys i e)) → AllZip R xs ys
 zip_by R [] [] d e same all = tt
 zip_by R [] (y ∷ ys) d e same all = absurd (omega arith)
 zip_by R (x ∷ xs) [] d e same all = absurd (omega arith)

@@ -207,8 +207,8 @@ module _ (n : ℕ) (l : Layout) (rows : List OutputRow) (ds : List Demand) (c : 
         cells = λ row slot. (
           (λ holds. (laid.cells row slot).0 (inside, omega (arith, holds.0, begin_at k below), omega (arith, holds.1, end_at k below))),
           (λ both.
-          let held = (laid.cells row slot).1 both in
-          (omega (arith, held.1, begin_at k below), omega (arith, held.2, end_at k below))),
+              let held = (laid.cells row slot).1 both in
+              (omega (arith, held.1, begin_at k below), omega (arith, held.2, end_at k below))),
         );
       })))
 

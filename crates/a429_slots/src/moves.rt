@@ -1,10 +1,9 @@
 //! The outputs of a slot table at other places.
-ghost use Rattle.std.specs.Prelude.{◌≡◌, ◌<◌, ◌≤◌, ◌^◌, None, IfOk, IfSome, length, map};
-ghost use Rattle.std.specs.List.{AllByRecursion};
+ghost use Rattle.std.specs.Prelude.{◌≡◌, ◌<◌, ◌≤◌, ◌^◌, None, All, IfOk, IfSome, length, map};
 ghost use Rattle.std.specs.List.Sorted.{IsNonDecreasingBy, IsPermutation};
 ghost use Rattle.a429_pack.specs.Kept.{padded};
 ghost use Rattle.a429_slots.specs.Kept.{steps_from};
-ghost use Rattle.a429_slots.specs.Moves.{AreApart, HasOverlap, IsInside, block_of, blocks_from};
+ghost use Rattle.a429_slots.specs.Moves.{AreApart, HasOverlap, IsInside, block_of, blocks_of};
 
 use crate::group_plan::SlotPlace;
 use crate::layout::place_of_cell;
@@ -45,8 +44,8 @@ fn block_of(frame: Period, output: usize, place: SlotPlace) -> Block
 
 /// The blocks of outputs, by their numbers. Error: an allocation failed.
 fn blocks_of(alloc: Global, frame: Period, places: &[SlotPlace]) -> Result<Vec<Block>, AllocError>
-    requires { AllByRecursion (IsInside frame 16) places.now }
-    ensures { IfOk result (λ blocks. blocks.items ≡ blocks_from frame 0 places.now) }
+    requires { All (IsInside frame 16) places.now }
+    ensures { IfOk result (λ blocks. blocks.items ≡ blocks_of frame places.now) }
 {
     let mut blocks = Vec::new(alloc);
     for (output, place) in places.iter().enumerate() {
@@ -61,8 +60,8 @@ pub fn sorted_blocks(
     frame: Period,
     places: &[SlotPlace],
 ) -> Result<Vec<Block>, AllocError>
-    requires { AllByRecursion (IsInside frame 16) places.now }
-    ensures all { IfOk result (λ blocks. IsPermutation (blocks_from frame 0 places.now) blocks.items) }
+    requires { All (IsInside frame 16) places.now }
+    ensures all { IfOk result (λ blocks. IsPermutation (blocks_of frame places.now) blocks.items) }
     ensures rising { IfOk result (λ blocks. IsNonDecreasingBy (λ b. b.begin) blocks.items) }
 {
     let mut blocks = blocks_of(alloc, frame, places)?;
@@ -73,8 +72,8 @@ pub fn sorted_blocks(
 /// The stretches of blocks, each from the end of the one before it to its own. `None`: one begins before that end.
 pub fn stretches_of<const N: usize>(blocks: &[Block]) -> Option<SumTable<N>>
     requires room { length blocks.now ≤ N }
-    requires some { AllByRecursion (λ b. b.begin < b.end) blocks.now }
-    requires few { AllByRecursion (λ b. b.end < 2 ^ 32) blocks.now }
+    requires some { All (λ b. b.begin < b.end) blocks.now }
+    requires few { All (λ b. b.end < 2 ^ 32) blocks.now }
     ensures apart { IfSome result (λ _. AreApart blocks.now) }
     ensures stretches { IfSome result (λ sums. sums ≡ steps_from 0 (map (λ b. b.end) blocks.now)) }
     ensures overlap { result ≡ None → HasOverlap blocks.now }

@@ -66,6 +66,15 @@ impl<const N: usize> Plan<N> {
         self.count += 1;
     }
 
+    /// Gives a group another slot table.
+    pub(crate) fn replace(&mut self, group: usize, table: GroupPlan<N>)
+        requires { group < length (groups_of self.old) }
+        ensures groups { groups_of self.new ≡ slice_set (groups_of self.old) group table.entry }
+        ensures number { self.new.number ≡ self.old.number }
+    {
+        put(&mut self.groups, group, table);
+    }
+
     /// How many groups the station has, at most 8.
     pub fn groups(&self) -> usize
         ensures value { result ≡ length (groups_of self.now) }

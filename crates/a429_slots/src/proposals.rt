@@ -1,11 +1,14 @@
 //! A station's equipment with its own plan.
-ghost use Rattle.std.specs.Prelude.{◌≡◌, ◌≤◌, IfOk, IfErr};
+ghost use Rattle.std.specs.Prelude.{◌≡◌, ◌≤◌, Err, IfOk, IfErr, OnErr, OnOk};
 
 mod copies;
 
+use crate::group_plan::SlotPlace;
+use crate::moves::MoveFault;
 use crate::planner::{PlanFault, plan};
 use crate::plans::Plan;
 use a429_equipment::Equipment;
+use a429_pack::laws::{orders_name_each_once, stretches_are_apart};
 use std::alloc::Global;
 use std::marker::Model;
 
@@ -47,6 +50,8 @@ pub struct NoProposal {
 impl<const N: usize> Proposal<N> {
     ghost use Rattle.a429_slots.specs.Planned.{HasOwnLayout, HaveRoom, IsPlanOf};
     ghost use Rattle.a429_slots.specs.Faults.{IsFaultOf};
+    ghost use Rattle.a429_slots.specs.Moves.{AreFor, HaveCommonCell, IsReplaced};
+    ghost use Rattle.a429_slots.specs.declared.moves.MoveFault.TheVariants as MoveFault;
 
     /// Plans the groups of an equipment. Error: the fault of `plan`, or an allocation failed; the equipment comes back
     /// with it.
@@ -67,6 +72,33 @@ impl<const N: usize> Proposal<N> {
                 }),
             },
             Err(fault) => Err(NoProposal { equipment, fault }),
+        }
+    }
+
+    /// Gives the outputs of a group these places, by their numbers. Errors: `Shared`, two of them have a cell in common;
+    /// `NoMemory`, an allocation failed. Then nothing is changed.
+    pub fn place(
+        &mut self,
+        alloc: Global,
+        group: usize,
+        places: &[SlotPlace],
+    ) -> Result<(), MoveFault>
+        requires places { AreFor self.old.plan group places.now }
+        // A plan of at most 65536 outputs fits in memory.
+        requires size { N ≤ 65536 }
+        ensures station { self.new.station ≡ self.old.station }
+        ensures placed { OnOk result (IsReplaced self.old.plan self.new.plan group places.now) }
+        ensures kept { OnErr result (self.new ≡ self.old) }
+        ensures shared { result ≡ Err MoveFault.Shared → HaveCommonCell places.now }
+    {
+        orders_name_each_once();
+        stretches_are_apart();
+        match self.plan.group(group).moved(alloc, places) {
+            Ok(table) => {
+                self.plan.replace(group, table);
+                Ok(())
+            }
+            Err(fault) => Err(fault),
         }
     }
 

@@ -1,5 +1,5 @@
 use borrow.Author.Rules.{scaled_Fits}
-use Rattle.std.proofs.Common.{◌≡◌, ◌+◌, ◌*◌, ◌%◌, ◌^◌, ◌<◌, ◌≤◌, ◌∙◌, ℕ, List, None, Some, Bool, true, false, ap, arith, get_or, length, refl, sym, subst, zero-le}
+use Rattle.std.proofs.Common.{◌≡◌, ◌+◌, ◌*◌, ◌%◌, ◌^◌, ◌<◌, ◌≤◌, ◌∙◌, ℕ, List, None, Some, Bool, true, false, ap, arith, get_or, length, sym, subst, zero-le}
 use Rattle.std.specs.Prelude.{Option, IfSome}
 use Rattle.std.proofs.lemmas.List.{get_or-take}
 use Rattle.std.proofs.lemmas.Option.{none-some, same_Some}
@@ -65,10 +65,13 @@ only : {n : ℕ} (p : Inside n) (w : AreColumns n p) → HasEach (table_in p) �
     → (k : ℕ) × (get_or (table_in p).order k 0 ≡ o) × (r ≡ Some k)
 only {n} p w each r x bus slot place found o below there =
     let t : SlotTable = table_in p in
-    let (k, is, held) = held_by n t w.table each o bus slot below there in
-    (k, is, found k
-    (subst (λ (y : ℕ). Holds p.sums y k) (sym place)
-    (subst (λ (ds : List ℕ). Holds ds (bus * frame_of t + reversed t.frame (slot % frame_of t)) k) (sym (stretches p w)) held)))
+    let (k, is, held) = held_by n t w.table each o bus slot below there in (
+      k,
+      is,
+      found k
+          (subst (λ (y : ℕ). Holds p.sums y k) (sym place)
+          (subst (λ (ds : List ℕ). Holds ds (bus * frame_of t + reversed t.frame (slot % frame_of t)) k) (sym (stretches p w)) held)),
+    )
 
 pub returns-in-None-clause-cell : goal.returns-in-None-clause-cell
 returns-in-None-clause-cell g c =
