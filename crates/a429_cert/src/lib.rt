@@ -50,5 +50,5 @@ pub use line::{
 pub use lines::Lines;
 pub use output_lines::shares;
 pub use stops::Refusal;
-pub use text::{plan_text, write_bound, write_head, write_heading, write_place};
+pub use text::plan_text;
 pub use verdicts::{No, Reason, Verdict};

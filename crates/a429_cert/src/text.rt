@@ -14,7 +14,7 @@ use std::fmt::Write;
 
 /// Appends a group's first line to a text: in version 1 its name, its frame in slots and its buses, in version 2 also
 /// its bit rate in bit/s (profile: plan text). Error: an allocation failed.
-pub fn write_heading(
+fn write_heading(
     text: &mut String,
     version: u32,
     group: &GroupRow,
@@ -47,7 +47,7 @@ fn write_hold(text: &mut String, version: u32, hold: Option<u32>) -> Result<(), 
 }
 
 /// Appends the line of an output at a place (profile: plan text). Error: an allocation failed.
-pub fn write_place(
+fn write_place(
     text: &mut String,
     version: u32,
     source: &str,
@@ -89,7 +89,7 @@ fn write_output(
 }
 
 /// Appends a group's last line (profile: plan text). Error: an allocation failed.
-pub fn write_bound(text: &mut String, table: &GroupPlan<OUTPUTS>) -> Result<(), AllocError>
+fn write_bound(text: &mut String, table: &GroupPlan<OUTPUTS>) -> Result<(), AllocError>
     ensures { Writes result text.old text.new (bound_text (bound_of table.now)) }
 {
     let demand = table.demand();
@@ -153,7 +153,7 @@ fn write_groups(text: &mut String, proposal: &Proposal<OUTPUTS>) -> Result<(), A
 
 /// Appends the lines before the groups: the version, and the bit rate in bit/s if all groups have one (profile: plan
 /// text). Error: an allocation failed.
-pub fn write_head(text: &mut String, equipment: &Equipment) -> Result<(), AllocError>
+fn write_head(text: &mut String, equipment: &Equipment) -> Result<(), AllocError>
     ensures { Writes result text.old text.new (head_text equipment.now) }
 {
     let version = equipment.version();

@@ -11,7 +11,13 @@ use Rattle.a429_console.specs.declared.refusals.CommandRefusal.{CommandRefusal}
 use Rattle.a429_console.specs.declared.refusals.CommandRefusal.TheVariants as refused
 use Rattle.a429_console.specs.declared.refusals.PlanKind.{PlanKind}
 use Rattle.a429_console.specs.declared.refusals.PlanKind.TheVariants as kinds
-use Rattle.a429_keep.specs.KeptPlans.{IsAccepted, IsKept}
+use Rattle.a429_cert.specs.Due.{IsDue}
+use Rattle.a429_cert.specs.PlanText.{plan_text_of}
+use Rattle.a429_cert.specs.Verdicts.{verdict}
+use Rattle.a429_cert.specs.declared.due.DueTable.{DueTable}
+use Rattle.a429_cert.specs.declared.verdicts.Verdict.TheVariants.{Fewest}
+use Rattle.a429_equipment.specs.TableRecord.{TableRecord}
+use Rattle.a429_keep.specs.KeptPlans.{IsKept}
 use Rattle.a429_keep.specs.Readings.{reading}
 use Rattle.a429_keep.specs.declared.fault.KeepFault.{KeepFault}
 use Rattle.a429_keep.specs.declared.fault.KeepFault.TheVariants as faults
@@ -29,10 +35,17 @@ abbrev pub keep_refusal : KeepFault → CommandRefusal
 keep_refusal (faults.Line line reason) = refused.PlanLine line (plan_kind reason)
 keep_refusal faults.NoMemory = refused.Memory
 
--- the text of a plan of the table, in which the outputs of the earlier text stay, and which the check accepts; the status is 0
+-- each check of the text answers `fewest`
+abbrev pub IsAccepted : TableRecord → List ℕ → Type 0
+IsAccepted e text = (t : DueTable) → IsDue e t → verdict t text ≡ Fewest
+
+-- the text of a plan, which the check accepts; the status is 0
+abbrev pub IsTextOf : Proposed → ℕ → List ℕ → Type 0
+IsTextOf q status text = (text ≡ plan_text_of q.station q.plan) × IsAccepted q.station text × (status ≡ 0)
+
+-- that of a plan of the table, in which the outputs of the earlier text stay
 abbrev pub IsKeptPlan : List ℕ → List ℕ → ℕ → List ℕ → Type 0
-IsKeptPlan table earlier status text =
-    (q : Proposed) × IsProposedBy table q × IsKept q.station q.plan earlier text × IsAccepted q.station text × (status ≡ 0)
+IsKeptPlan table earlier status text = (q : Proposed) × (kept : Proposed) × IsProposedBy table q × IsKept earlier q kept × IsTextOf kept status text
 
 -- why there is none: the table or its plan, otherwise a line of the earlier text
 abbrev pub IsNoKeptPlan : List ℕ → List ℕ → CommandRefusal → Type 0

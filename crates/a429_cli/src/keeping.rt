@@ -1,11 +1,13 @@
 //! The command `plan` with `--keep`: a plan whose outputs keep the places of an earlier plan text.
-ghost use Rattle.std.specs.Prelude.{◌≡◌};
+ghost use Rattle.std.specs.Prelude.{◌≡◌, ⊥};
 ghost use Rattle.a429_arguments.specs.Requests.{asked_of};
 ghost use Rattle.a429_console.specs.Readings.{HasRead};
-ghost use Rattle.a429_cli.specs.Keeping.{IsKeptOf, IsKeptPlan, IsNoKept, IsNoKeptPlan, keep_refusal, plan_kind};
+ghost use Rattle.a429_cli.specs.Keeping.{IsKeptOf, IsKeptPlan, IsNoKept, IsNoKeptPlan, IsTextOf, keep_refusal, plan_kind};
 ghost use Rattle.a429_cli.specs.WholeReplies.{Replies};
 
 use crate::replies::reply::Reply;
+use a429_cert::laws::own_text_is_fewest;
+use a429_cert::plan_text;
 use a429_console::files::FileReader;
 use a429_console::files::reading::read_file;
 use a429_console::hints::warnings::{KeptCounts, MovedOutput, StatedPlace, Warning};
@@ -13,6 +15,7 @@ use a429_console::planning::propose;
 use a429_console::refusals::{CommandRefusal, PlanKind, Refused};
 use a429_equipment::Equipment;
 use a429_keep::{Changes, KeepFault, KeepReason, Move, Row, changes_between, keep, read_rows};
+use a429_slots::{OUTPUTS, Proposal};
 use std::alloc::Global;
 
 /// How a reason is named in refusals.
@@ -96,6 +99,25 @@ fn note_kept(
     }
 }
 
+/// The text of a plan whose outputs keep the places of an earlier text, with status 0. What moved is noted.
+fn kept_text(
+    alloc: Global,
+    proposal: &Proposal<OUTPUTS>,
+    earlier: &[u8],
+    warnings: &mut Vec<Warning>,
+) -> Result<Reply, Refused>
+    ensures { Replies (IsTextOf proposal.now) (λ _. ⊥) result }
+{
+    own_text_is_fewest();
+    let equipment = proposal.equipment();
+    equipment.rows_are_sound();
+    let Ok(text) = plan_text(alloc, proposal) else {
+        return Err(Refused::plain(CommandRefusal::Memory));
+    };
+    note_kept(alloc, equipment, earlier, &text, warnings);
+    Ok(Reply::done(text))
+}
+
 /// The plan of a table whose outputs keep the places of an earlier text, and its status. What moved is noted. The table is
 /// refused first, then its plan, then the earlier text.
 fn kept_plan(
@@ -106,12 +128,9 @@ fn kept_plan(
 ) -> Result<Reply, Refused>
     ensures { Replies (IsKeptPlan table.now earlier.now) (IsNoKeptPlan table.now earlier.now) result }
 {
-    let proposal = propose(alloc, table)?;
-    match keep(alloc, &proposal, earlier) {
-        Ok(text) => {
-            note_kept(alloc, proposal.equipment(), earlier, &text, warnings);
-            Ok(Reply::done(text))
-        }
+    let mut proposal = propose(alloc, table)?;
+    match keep(alloc, &mut proposal, earlier) {
+        Ok(()) => kept_text(alloc, &proposal, earlier, warnings),
         Err(fault) => Err(Refused::plain(keep_refusal(fault))),
     }
 }

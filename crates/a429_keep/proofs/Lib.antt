@@ -1,9 +1,6 @@
 pub mod Clearing
 pub mod Halves
-pub mod Groups
-pub mod Planned
 pub mod TextLines
-pub mod Kept
-pub mod Lined
 pub mod Viewed
 pub mod Staying
+pub mod KeptGroups

@@ -1,20 +1,15 @@
 -- A plan whose outputs stay, as far as they can (profile: docs/RULES.md, Plans that stay).
-use Rattle.std.specs.Prelude.{◌≡◌, ℕ, List, [], ◌∷◌, ◌++◌, Bool, true, false, Ok, Err, if◌then◌else◌, length, map, ⊤}
-use Rattle.std.specs.List.{flat_map}
+use Rattle.std.specs.Prelude.{◌≡◌, ◌⊎◌, ◌<◌, ◌^◌, ◌&&◌, ℕ, List, Bool, true, false, Some, Ok, Err, length, map, nat_le, nat_lt, slice_get, ⊤}
+use Rattle.std.specs.List.{list_all, range_with_len}
 use Rattle.a429_equipment.specs.TableRecord.{TableRecord}
 use Rattle.a429_equipment.specs.declared.rows.GroupRow.{GroupRow}
 use Rattle.a429_equipment.specs.declared.rows.SourceRow.{SourceRow}
-use Rattle.a429_slots.specs.Tables.{PlanTable, SlotTable, buses_of, groups_of, outputs_of}
-use Rattle.a429_cert.specs.Checked.{Stated, stated_text}
-use Rattle.a429_cert.specs.Due.{IsDue}
-use Rattle.a429_cert.specs.PlanText.{bound_of, head_text, heading_of, plan_text_of}
-use Rattle.a429_cert.specs.Verdicts.{verdict}
-use Rattle.a429_cert.specs.declared.due.DueTable.{DueTable}
-use Rattle.a429_cert.specs.declared.verdicts.Verdict.{Verdict}
-use Rattle.a429_cert.specs.declared.verdicts.Verdict.TheVariants as verdicts
+use Rattle.a429_slots.specs.declared.group_plan.SlotPlace.{SlotPlace}
+use Rattle.a429_slots.specs.Moves.{HaveCommonCell, IsMoved}
+use Rattle.a429_slots.specs.Proposed.{Proposed}
+use Rattle.a429_slots.specs.Tables.{SlotTable, buses_of, frame_of, groups_of, outputs_of, placed_at}
 use Rattle.a429_keep.specs.declared.blocks.Stand.{Stand}
-use Rattle.a429_keep.specs.KeptLines.{lines_before, listing_of}
-use Rattle.a429_keep.specs.Places.{frame_period, stands_of}
+use Rattle.a429_keep.specs.Places.{frame_period, place_at, stands_of, start_at}
 use Rattle.a429_keep.specs.Placing.{place_all}
 use Rattle.a429_keep.specs.Readings.{reading}
 use Rattle.a429_keep.specs.Rows.{Listed}
@@ -25,44 +20,46 @@ use Rattle.a429_keep.specs.declared.fault.KeepFault.TheVariants as faults
 abbrev pub kept_stands : List SourceRow → List Listed → GroupRow → SlotTable → List Stand
 kept_stands sources rows g t = place_all (buses_of t) (frame_period t) (stands_of rows g.name sources t)
 
--- what the text states for a group: the buses and the bound are those of its own plan
-abbrev pub kept_stated : ℕ → List SourceRow → List Listed → GroupRow → SlotTable → Stated
-kept_stated version sources rows g t = record {
-  heading = heading_of version g t;
-  outputs = map (listing_of version) (lines_before sources t (frame_period t) (kept_stands sources rows g t) (length (outputs_of t)));
-  bound = bound_of t;
-}
+-- the places of outputs with these blocks, by their numbers
+abbrev pub places_of : SlotTable → ℕ → List Stand → List SlotPlace
+places_of t frame stands = map (λ o. place_at frame (placed_at t o).place.period (start_at stands o)) (range_with_len 0 (length (outputs_of t)))
 
--- each group, in table order
-abbrev pub kept_groups : ℕ → List SourceRow → List Listed → List GroupRow → List SlotTable → List Stated
-kept_groups version sources rows [] ts = []
-kept_groups version sources rows (g ∷ gs) [] = []
-kept_groups version sources rows (g ∷ gs) (t ∷ ts) = kept_stated version sources rows g t ∷ kept_groups version sources rows gs ts
+-- the places that the outputs of a group keep, by the rows of an earlier text
+abbrev pub kept_places : List SourceRow → List Listed → GroupRow → SlotTable → List SlotPlace
+kept_places sources rows g t = places_of t (frame_period t) (kept_stands sources rows g t)
 
-abbrev pub kept_groups_text : TableRecord → List Listed → PlanTable → List ℕ
-kept_groups_text e rows p = flat_map stated_text (kept_groups e.version e.sources rows e.groups (groups_of p))
+-- the place is on a bus of the group, at an offset below its period, which is not above the frame
+abbrev pub is_inside : ℕ → ℕ → SlotPlace → Bool
+is_inside buses slots p = nat_lt p.bus buses && (nat_lt p.offset (2 ^ p.period) && nat_le (2 ^ p.period) slots)
 
--- the text, by the rows of an earlier one
-abbrev pub kept_text : TableRecord → List Listed → PlanTable → List ℕ
-kept_text e rows p = head_text e ++ kept_groups_text e rows p
+abbrev pub are_inside : SlotTable → List SlotPlace → Bool
+are_inside t places = list_all (is_inside (buses_of t) (frame_of t)) places
 
-abbrev pub is_fewest : Verdict → Bool
-is_fewest verdicts.Fewest = true
-is_fewest (verdicts.No found) = false
+-- the outputs of a group cannot have these places
+abbrev pub CannotHave : SlotTable → List SlotPlace → Type 0
+CannotHave t places = (are_inside t places ≡ false) ⊎ HaveCommonCell places
 
--- whether the check of the text answers `fewest`
-abbrev pub IsVerdictOn : TableRecord → List ℕ → Bool → Type 0
-IsVerdictOn e text accepted = (t : DueTable) × IsDue e t × (accepted ≡ is_fewest (verdict t text))
+-- the outputs have these places; if they cannot, those of the own plan
+abbrev pub KeepsTable : List SlotPlace → SlotTable → SlotTable → Type 0
+KeepsTable places t u = IsMoved t u places ⊎ ((u ≡ t) × CannotHave t places)
 
--- the check of the text answers `fewest`
-abbrev pub IsAccepted : TableRecord → List ℕ → Type 0
-IsAccepted e text = IsVerdictOn e text true
+-- the outputs of group k have the places that they keep
+pub record KeepsGroup (rows : List Listed) (p q : Proposed) (k : ℕ) : Type 0 where
+  pub group : GroupRow
+  pub own : SlotTable
+  pub kept : SlotTable
+  pub row : slice_get p.station.groups k ≡ Some group
+  pub before : slice_get (groups_of p.plan) k ≡ Some own
+  pub after : slice_get (groups_of q.plan) k ≡ Some kept
+  pub keeps : KeepsTable (kept_places p.station.sources rows group own) own kept
 
--- the text in which the outputs of the earlier one stay, if the check accepts it, otherwise that of the own plan
-abbrev pub IsKept : TableRecord → PlanTable → List ℕ → List ℕ → Type 0
-IsKept e p earlier text =
-    (rows : List Listed) × (accepted : Bool) × (reading e earlier ≡ Ok rows) × IsVerdictOn e (kept_text e rows p) accepted
-    × (text ≡ if accepted then kept_text e rows p else plan_text_of e p)
+-- in the second plan, of the same table, the outputs of the earlier text stay
+pub record IsKept (earlier : List ℕ) (p q : Proposed) : Type 0 where
+  pub rows : List Listed
+  pub read : reading p.station earlier ≡ Ok rows
+  pub station : q.station ≡ p.station
+  pub count : length (groups_of q.plan) ≡ length (groups_of p.plan)
+  pub groups : (k : ℕ) → k < length (groups_of p.plan) → KeepsGroup rows p q k
 
 -- the earlier text is refused at this line, or an allocation failed
 abbrev pub IsKeepFault : TableRecord → List ℕ → KeepFault → Type 0

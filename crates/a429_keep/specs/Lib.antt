@@ -1,8 +1,8 @@
 pub mod Blocks
 pub mod Changes
 pub mod KeepExamples
-pub mod KeptLines
 pub mod KeptPlans
+pub mod Keeping
 pub mod Laws
 pub mod Places
 pub mod Placing

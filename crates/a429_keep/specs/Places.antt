@@ -1,5 +1,5 @@
 -- Places of outputs as blocks of cells (profile: layout; docs/RULES.md, Plans that stay).
-use Rattle.std.specs.Prelude.{ℕ, ◌+◌, ◌-◌, ◌*◌, ◌/◌, ◌%◌, ◌^◌, List, Option, Some, None, find, fold, if◌then◌else◌, map, max, nat_lt, option_and_then}
+use Rattle.std.specs.Prelude.{ℕ, ◌+◌, ◌-◌, ◌*◌, ◌/◌, ◌%◌, ◌^◌, List, Option, Some, None, find, fold, if◌then◌else◌, map, max, nat_lt, option_and_then, slice_get, unwrap_or}
 use Rattle.a429_equipment.specs.declared.rows.SourceRow.{SourceRow}
 use Rattle.a429_grid.specs.Reversal.{reversed}
 use Rattle.a429_slots.specs.declared.group_plan.SlotPlace.{SlotPlace}
@@ -36,3 +36,7 @@ stand_of rows group sources frame buses o = record {
 -- those that stay, in table order
 abbrev pub stands_of : List Listed → List ℕ → List SourceRow → SlotTable → List Stand
 stands_of rows group sources t = map (stand_of rows group sources (frame_period t) (buses_of t)) (outputs_of t)
+
+-- the start of the block of an output; 0 if it has none
+abbrev pub start_at : List Stand → ℕ → ℕ
+start_at stands o = unwrap_or (option_and_then (λ s. s.start) (slice_get stands o)) 0

@@ -1,63 +1,107 @@
 //! A plan whose outputs stay, as far as they can.
-ghost use Rattle.std.specs.Prelude.{◌≡◌, IfErr, IfOk};
-ghost use Rattle.a429_cert.specs.Judged.{IsNoVerdict};
-ghost use Rattle.a429_keep.specs.KeptPlans.{IsAccepted, IsKeepFault, IsKept, IsVerdictOn, is_fewest};
+ghost use Rattle.std.specs.Prelude.{◌≡◌, ◌<◌, IfErr, IfOk, OnOk, length, map};
+ghost use Rattle.std.specs.List.{AllByRecursion, list_all};
+ghost use Rattle.a429_slots.specs.Tables.{groups_of, outputs_of};
+ghost use Rattle.a429_keep.specs.Keeping.{ArePlaces, IsGroupKept};
+ghost use Rattle.a429_keep.specs.KeptPlans.{IsKeepFault, IsKept, is_inside, kept_places};
+ghost use Rattle.a429_keep.specs.Rows.{row_view};
 
 use crate::fault::KeepFault;
+use crate::places::{frame_period, places_of, stands_of};
+use crate::placing::place_all;
 use crate::reading::read_rows;
-use crate::text::kept_text;
-use a429_cert::laws::own_text_is_fewest;
-use a429_cert::{NoVerdict, Verdict, judge, plan_text};
-use a429_equipment::Equipment;
-use a429_slots::{OUTPUTS, Proposal};
-use std::alloc::Global;
+use crate::rows::Row;
+use a429_equipment::{GroupRow, SourceRow};
+use a429_slots::{GroupPlan, MoveFault, OUTPUTS, Proposal, SlotPlace};
+use std::alloc::{AllocError, Global};
 
-/// Whether a verdict accepts its text.
-fn is_fewest(verdict: Verdict) -> bool
-    ensures { result ≡ is_fewest verdict }
+/// The places that the outputs of a group keep, by their numbers. Error: an allocation failed.
+fn places_in(
+    alloc: Global,
+    rows: &[Row<'_>],
+    group: &GroupRow,
+    sources: &[SourceRow],
+    table: &GroupPlan<OUTPUTS>,
+) -> Result<Vec<SlotPlace>, AllocError>
+    requires { AllByRecursion (λ o. o.source < length sources.now) (outputs_of table.now) }
+    ensures { IfOk result (λ places. places.items ≡ kept_places sources.now (map row_view rows.now) group.now table.now) }
 {
-    match verdict {
-        Verdict::Fewest => true,
-        Verdict::No(_) => false,
-    }
+    let frame = frame_period(table);
+    let mut stands = stands_of(alloc, rows, group, sources, table)?;
+    place_all(table.buses(), frame, &mut stands);
+    places_of(alloc, frame, table, &stands)
 }
 
-/// Whether the check accepts a text. Error: there is no verdict.
-fn is_accepted(alloc: Global, equipment: &Equipment, text: &[u8]) -> Result<bool, NoVerdict>
-    ensures accepted { IfOk result (IsVerdictOn equipment.now text.now) }
-    ensures fault { IfErr result (IsNoVerdict equipment.now) }
-{
-    match judge(alloc, equipment, text) {
-        Ok(verdict) => Ok(is_fewest(verdict)),
-        Err(none) => Err(none),
-    }
-}
-
-/// The text of a plan of an equipment on the fewest buses, whose outputs stay at the places of an earlier plan text
-/// (profile: plan text, in the version of the equipment table). An output stays if it was listed with the same group,
-/// source and period, and its bus is still there. The others are placed, those with the most cells first: each in the
-/// smallest free block that has room for it; if there is none, in the block of its size from which the fewest outputs
-/// move. If the check does not accept that text, the text is that of the own plan. Errors: `Line`, the first line of the
-/// earlier text that is refused; `NoMemory`, an allocation failed.
-pub fn keep(
+/// The places that the outputs of this group of a proposal keep. Error: an allocation failed.
+fn kept_places(
     alloc: Global,
     proposal: &Proposal<OUTPUTS>,
-    earlier: &[u8],
-) -> Result<Vec<u8>, KeepFault>
-    ensures kept { IfOk result (λ text. IsKept proposal.now.station proposal.now.plan earlier.now text.items) }
-    // The check of the text answers `fewest`.
-    ensures accepted { IfOk result (λ text. IsAccepted proposal.now.station text.items) }
-    ensures fault { IfErr result (IsKeepFault proposal.now.station earlier.now) }
+    group: usize,
+    rows: &[Row<'_>],
+) -> Result<Vec<SlotPlace>, AllocError>
+    requires { group < length (groups_of proposal.now.plan) }
+    ensures { IfOk result (λ places. ArePlaces (map row_view rows.now) proposal.now group places.items) }
 {
-    own_text_is_fewest();
     let equipment = proposal.equipment();
     equipment.rows_are_sound();
-    let rows = read_rows(alloc, equipment, earlier)?;
-    let kept = kept_text(alloc, proposal, &rows)?;
-    match is_accepted(alloc, equipment, &kept) {
-        Ok(true) => Ok(kept),
-        Ok(false) => Ok(plan_text(alloc, proposal)?),
-        Err(NoVerdict::NoMemory) => Err(KeepFault::NoMemory),
-        Err(NoVerdict::Unfit { .. }) => unreachable!(),
+    let row = &equipment.groups()[group];
+    let table = proposal.plan().group(group);
+    places_in(alloc, rows, row, equipment.sources(), table)
+}
+
+/// Whether a place is on one of these buses, at an offset below its period, which is at most a frame of these slots.
+fn is_inside(buses: u32, slots: u32, place: &SlotPlace) -> bool
+    ensures { result ≡ is_inside buses slots place.now }
+{
+    let period = place.period.slots();
+    place.bus < buses && place.offset < period && period <= slots
+}
+
+/// Whether each place is so.
+fn are_inside(buses: u32, slots: u32, places: &[SlotPlace]) -> bool
+    ensures { result ≡ list_all (is_inside buses slots) places.now }
+{
+    places.iter().all(|place| is_inside(buses, slots, place))
+}
+
+/// Gives the outputs of a group the places that they keep, unless they cannot have them. Error: an allocation failed.
+fn keep_group(
+    alloc: Global,
+    proposal: &mut Proposal<OUTPUTS>,
+    group: usize,
+    rows: &[Row<'_>],
+) -> Result<(), AllocError>
+    requires { group < length (groups_of proposal.old.plan) }
+    ensures { OnOk result (IsGroupKept (map row_view rows.now) proposal.old proposal.new group) }
+{
+    let places = kept_places(alloc, proposal, group, rows)?;
+    let table = proposal.plan().group(group);
+    if !are_inside(table.buses(), table.frame(), &places) {
+        return Ok(());
     }
+    match proposal.place(alloc, group, &places) {
+        Ok(()) => Ok(()),
+        Err(MoveFault::Shared) => Ok(()),
+        Err(MoveFault::NoMemory) => Err(AllocError),
+    }
+}
+
+/// Gives the outputs of a proposal's plan the places of an earlier plan text (profile: plan text, in the version of the
+/// equipment table). An output stays if it was listed with the same group, source and period, and its bus is still there.
+/// The others are placed, those with the most cells first: each in the smallest free block that has room for it; if there
+/// is none, in the block of its size from which the fewest outputs move. Errors: `Line`, the first line of the earlier text
+/// that is refused; `NoMemory`, an allocation failed.
+pub fn keep(
+    alloc: Global,
+    proposal: &mut Proposal<OUTPUTS>,
+    earlier: &[u8],
+) -> Result<(), KeepFault>
+    ensures kept { OnOk result (IsKept earlier.now proposal.old proposal.new) }
+    ensures fault { IfErr result (IsKeepFault proposal.old.station earlier.now) }
+{
+    let rows = read_rows(alloc, proposal.equipment(), earlier)?;
+    for group in 0..proposal.plan().groups() {
+        keep_group(alloc, proposal, group, &rows)?;
+    }
+    Ok(())
 }

@@ -1,16 +1,18 @@
 //! Places of outputs as blocks of cells, and back.
-ghost use Rattle.std.specs.Prelude.{◌≡◌, ◌<◌, ◌≤◌, ◌-◌, ◌^◌, ℕ, length, map};
+ghost use Rattle.std.specs.Prelude.{◌≡◌, ◌<◌, ◌≤◌, ◌-◌, ◌^◌, ℕ, IfOk, length, map};
 ghost use Rattle.std.specs.List.{AllByRecursion};
 ghost use Rattle.a429_slots.specs.Tables.{buses_of, outputs_of, placed_at};
-ghost use Rattle.a429_keep.specs.Places.{block_start, frame_period, place_at, stand_of, start_in};
+ghost use Rattle.a429_keep.specs.Places.{block_start, frame_period, place_at, stand_of, stands_of, start_at, start_in};
+ghost use Rattle.a429_keep.specs.KeptPlans.{places_of};
 ghost use Rattle.a429_cert.specs.PlanText.{source_name};
 ghost use Rattle.a429_keep.specs.Rows.{row_view};
 
 use crate::blocks::Stand;
 use crate::rows::{Row, row_of};
-use a429_equipment::{Name, SourceRow};
+use a429_equipment::{GroupRow, Name, SourceRow};
 use a429_grid::{Period, reverse};
 use a429_slots::{GroupPlan, OUTPUTS, OutputId, SlotPlace};
+use std::alloc::{AllocError, Global};
 
 /// How many cells of a frame an output of this period has.
 fn cells_of(frame: Period, period: Period) -> u32
@@ -127,4 +129,50 @@ pub fn stand_of(
         cells: cells_of(frame, output.period),
         start,
     }
+}
+
+/// The outputs that stay, in table order. Error: an allocation failed.
+pub fn stands_of(
+    alloc: Global,
+    rows: &[Row<'_>],
+    group: &GroupRow,
+    sources: &[SourceRow],
+    table: &GroupPlan<OUTPUTS>,
+) -> Result<Vec<Stand>, AllocError>
+    requires { AllByRecursion (λ o. o.source < length sources.now) (outputs_of table.now) }
+    ensures { IfOk result (λ stands. stands.items ≡ stands_of (map row_view rows.now) group.now.name sources.now table.now) }
+{
+    let frame = frame_period(table);
+    let mut stands = Vec::new(alloc);
+    for number in 0..table.outputs() {
+        stands.push(stand_of(rows, group.name.as_str(), sources, table, frame, number))?;
+    }
+    Ok(stands)
+}
+
+/// The start of the block of an output; 0 if it has none.
+fn start_at(stands: &[Stand], output: usize) -> u32
+    ensures { result ≡ start_at stands.now output }
+{
+    match stands.get(output) {
+        Some(stand) => stand.start.unwrap_or(0),
+        None => 0,
+    }
+}
+
+/// The places of outputs with these blocks, by their numbers. Error: an allocation failed.
+pub fn places_of(
+    alloc: Global,
+    frame: Period,
+    table: &GroupPlan<OUTPUTS>,
+    stands: &[Stand],
+) -> Result<Vec<SlotPlace>, AllocError>
+    ensures { IfOk result (λ places. places.items ≡ places_of table.now frame stands.now) }
+{
+    let mut places = Vec::new(alloc);
+    for number in 0..table.outputs() {
+        let period = planned(table, number).period;
+        places.push(place_at(frame, period, start_at(stands, number)))?;
+    }
+    Ok(places)
 }

@@ -1,13 +1,11 @@
-use Rattle.std.proofs.Common.{◌≡◌, ◌∙◌, ℕ, ap, inl, inr, subst, sym}
-use Rattle.std.specs.Prelude.{Err}
-use Rattle.std.specs.declared.vec.Vec.{Vec}
-use Rattle.std.specs.declared.alloc.Global.{Global}
+use Rattle.std.proofs.Common.{◌∙◌, ap, inl, inr}
+use Rattle.std.specs.Prelude.{Err, ⊥}
 use Rattle.std.proofs.lemmas.Result.{err_from_is_err_and}
-use Rattle.a429_keep.specs.KeptPlans.{IsAccepted, IsKept}
+use Rattle.a429_slots.specs.Proposed.{Proposed}
 use Rattle.a429_console.specs.RefusalText.{OrMemory}
 use Rattle.a429_console.specs.Tables.{IsTableRefusal}
-use Rattle.a429_console.proofs.Refused.{failed, or_memory_weaker}
-use Rattle.a429_cli.specs.Keeping.{IsNoKeptPlan}
+use Rattle.a429_console.proofs.Refused.{failed, matched_both, or_memory_weaker}
+use Rattle.a429_cli.specs.Keeping.{IsKeptPlan, IsNoKeptPlan, IsTextOf}
 use Rattle.a429_cli.proofs.keeping.kept_plan.Goals as goal
 
 pub returns-in_err-proposal : goal.returns-in_err-proposal
@@ -20,11 +18,12 @@ returns-in_err-proposal c =
 
 pub returns-in-Ok : goal.returns-in-Ok
 returns-in-Ok c =
+    let table = c.args.table.now in
+    let earlier = c.args.earlier.now in
     let q = c.in_ok-proposal.proposal in
-    let same : c.done.result.bytes.items ≡ c.in-Ok.text.items = ap (λ (t : Vec ℕ Global). t.items) c.done.ensures.bytes in (
-      q,
-      c.in_ok-proposal.ensures,
-      subst (IsKept q.station q.plan c.args.earlier.now) (sym same) c.in-Ok.ensures.kept,
-      subst (IsAccepted q.station) (sym same) c.in-Ok.ensures.accepted,
-      c.done.ensures.status,
-    )
+    let kept : Proposed = c.keep.new.proposal in
+    matched_both c.kept_text.result (λ reply. IsTextOf kept reply.status reply.bytes.items) (λ reply. IsKeptPlan table earlier reply.status reply.bytes.items)
+    (OrMemory (λ refusal. ⊥)) (OrMemory (IsNoKeptPlan table earlier))
+    (λ reply is. (q, kept, c.in_ok-proposal.ensures, c.in-Ok.ensures.kept, is))
+    (λ e bad. or_memory_weaker (λ refusal. ⊥) (IsNoKeptPlan table earlier) e (λ none. absurd none) bad)
+    c.kept_text.ensures

@@ -2,7 +2,7 @@ use Rattle.std.proofs.Common.{◌≡◌, map, take}
 use Rattle.a429_slots.specs.Tables.{buses_of, outputs_of}
 use Rattle.a429_keep.specs.Places.{frame_period, stand_of}
 use Rattle.a429_keep.specs.Rows.{row_view}
-use Rattle.a429_keep.proofs.text.stands_of.Given as goal
+use Rattle.a429_keep.proofs.places.stands_of.Given as goal
 
 abbrev pub invariant-loop-number : goal.invariant-loop-number
 invariant-loop-number l =
