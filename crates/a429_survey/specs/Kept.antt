@@ -1,5 +1,5 @@
 -- What a survey keeps of the words that were noted (vocabulary of contracts).
-use Rattle.std.specs.Prelude.{◌≡◌, ℕ, suc, ◌+◌, ◌-◌, ◌*◌, ◌/◌, ◌^◌, ◌==◌, List, [], ◌∷◌, ◌++◌, Bool, true, false, bytes_eq, count_by, filter, flat_map, fold, if◌then◌else◌, length, map, max, min, nat_lt, set, slice_index_or}
+use Rattle.std.specs.Prelude.{◌≡◌, ◌&&◌, ◌||◌, ℕ, suc, ◌+◌, ◌-◌, ◌*◌, ◌/◌, ◌^◌, ◌==◌, List, [], ◌∷◌, ◌++◌, Bool, None, Option, Some, true, false, bytes_eq, codes, count_by, filter, flat_map, fold, if◌then◌else◌, length, map, max, min, nat_lt, not, set, slice_index_or}
 use Rattle.std.specs.Int.{div_ceil}
 use Rattle.std.specs.List.{list_any, range_with_len}
 use Rattle.std.specs.Ordering.{is_eq, is_lt, nat_cmp}
@@ -13,6 +13,7 @@ use Rattle.a429_word.specs.Hexadecimal.{hex}
 use Rattle.a429_survey.specs.declared.figures.Figures.{Figures}
 use Rattle.a429_survey.specs.Figures.{Noted, first_of, intervals, is_even, last_of, tenths_field, times_of}
 use Rattle.a429_survey.specs.Starts.{interval_field, source_name}
+use Rattle.a429_survey.specs.Expected.{Expectation, expectation_for, is_on, missing_if, takes_sdi}
 use Rattle.a429_survey.specs.Survey.{names_of, sdi_text, words_of}
 use Rattle.a429_survey.specs.declared.rows.RowKind.{RowKind}
 use Rattle.a429_survey.specs.declared.rows.RowKind.TheVariants as kind
@@ -180,14 +181,33 @@ unfoldable pub start_in : ℕ → ℕ → List ℕ → ℕ → ℕ → Figures �
 start_in slack rate name label sdi f =
     Absent ∷ Number rate ∷ Text (source_name name label sdi) ∷ Text name ∷ Text (octal label) ∷ Number sdi ∷ shorter_in slack f ∷ longer_in slack f ∷ []
 
+-- what a table says of some words, by their figures
+abbrev pub is_above : ℕ → Option ℕ → Bool
+is_above interval None = false
+is_above interval (Some greatest) = nat_lt greatest interval
+
+abbrev pub verdict_in : Option Expectation → Figures → List ℕ
+verdict_in None f = codes "unexpected"
+verdict_in (Some e) f =
+    if nat_lt 1 f.words
+    then (if nat_lt f.least e.least then codes "fast" else (if is_above f.greatest e.greatest then codes "slow" else codes "expected"))
+    else codes "expected"
+
+-- a row with one more cell
+abbrev pub wider_row : List Field → Field → List Field
+wider_row row field = row ++ field ∷ []
+
 -- the row of a label and an SDI of a name, and what follows the rows of a name, by what is asked for
 abbrev pub pair_by : RowKind → ℕ → List ℕ → ℕ → ℕ → Figures → List Field
 pair_by kind.Figures rate name label sdi f = row_in name (Text (octal label)) (Text (sdi_text sdi)) Absent f
 pair_by (kind.Starts slack) rate name label sdi f = start_in slack rate name label sdi f
+pair_by (kind.Compared expected) rate name label sdi f =
+    wider_row (row_in name (Text (octal label)) (Text (sdi_text sdi)) Absent f) (Text (verdict_in (expectation_for expected.now name label sdi) f))
 
 abbrev pub end_by : RowKind → ℕ → LineKept → List (List Field)
 end_by kind.Figures rate l = row_in l.name Absent Absent (load_in rate l.all) l.all ∷ []
 end_by (kind.Starts slack) rate l = []
+end_by (kind.Compared expected) rate l = wider_row (row_in l.name Absent Absent (load_in rate l.all) l.all) Absent ∷ []
 
 -- the row of a label and an SDI, if there are such words
 abbrev pub rows_by : RowKind → ℕ → List ℕ → ℕ → ℕ → Figures → List (List Field)
@@ -202,3 +222,24 @@ label_in kind rate l label = flat_map (pair_in kind rate l label) (range_with_le
 -- the rows of a line
 abbrev pub rows_in : RowKind → ℕ → LineKept → List (List Field)
 rows_in kind rate l = flat_map (label_in kind rate l) (range_with_len 0 256) ++ end_by kind rate l
+
+-- ---- what is missing
+
+-- words of an expectation's label came on a line, with an SDI
+abbrev pub has_at : Expectation → LineKept → ℕ → Bool
+has_at e l sdi = takes_sdi e sdi && nat_lt 0 (slice_index_or l.each (4 * e.label + sdi) no_figures).words
+
+abbrev pub has_in : Expectation → LineKept → Bool
+has_in e l = has_at e l 0 || (has_at e l 1 || (has_at e l 2 || has_at e l 3))
+
+-- and the line has a name for it
+abbrev pub is_seen_in : Expectation → LineKept → Bool
+is_seen_in e l = is_on e l.name && has_in e l
+
+-- its line is among these, and none of its words came
+abbrev pub is_missing_in : List LineKept → Expectation → Bool
+is_missing_in lines e = list_any (λ l. is_on e l.name) lines && not (list_any (is_seen_in e) lines)
+
+-- its row, if it is missing
+abbrev pub missing_in : List LineKept → Expectation → List (List Field)
+missing_in lines e = missing_if e (is_missing_in lines e)
