@@ -17,8 +17,8 @@ unfoldable pub lines_left : LogReader → List (ℕ × List ℕ)
 lines_left r = if r.is_done then [] else enumerate_from (r.line + 1) (parts_left r.lines)
 
 -- a line that was taken, and those after it, are a tail
-abbrev pub is_tail_after : LogReader → ℕ → List ℕ → Bool
-is_tail_after r n line = is_tail r.reading ((n, line) ∷ lines_left r)
+abbrev pub is_tail_of : LogReader → ℕ → List ℕ → Bool
+is_tail_of r n line = is_tail r.reading ((n, line) ∷ lines_left r)
 
 abbrev pub entries_left : LogReader → List (Result WordAt LogFault)
 entries_left r = entries_from r.reading (lines_left r)

@@ -14,7 +14,7 @@ use Rattle.a429_survey.specs.declared.figures.Figures.{Figures}
 use Rattle.a429_survey.proofs.FiguresMore.{place_small}
 use Rattle.a429_survey.proofs.SheetRows.{words_same}
 
--- no word is at a place that is not among the 1024
+-- no word is at a place from 1024 on
 none_at : (place : ℕ) (ws : List Noted) → 1024 ≤ place → words_at place ws ≡ []
 none_at place [] far = refl
 none_at place (w ∷ ws) far =

@@ -19,6 +19,14 @@ pub record Expectation : Type 0 where
   pub least : ℕ
   pub greatest : Option ℕ
 
+-- words that come in at a receiver of this name, at any interval
+abbrev pub heard_at : List ℕ → ℕ → Option ℕ → Expectation
+heard_at line label sdi = record { line = line; is_group = false; label = label; sdi = sdi; least = 0; greatest = None }
+
+-- words that a group of this name sends
+abbrev pub sent_by : List ℕ → ℕ → Option ℕ → ℕ → ℕ → Expectation
+sent_by line label sdi least greatest = record { line = line; is_group = true; label = label; sdi = sdi; least = least; greatest = Some greatest }
+
 -- ---- the words that are expected
 
 -- a name up to its first full stop, which is here

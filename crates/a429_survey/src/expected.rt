@@ -52,11 +52,11 @@ fn group_in(name: &[u8]) -> &[u8]
 }
 
 impl<'a> Expected<'a> {
-    ghost use Rattle.a429_survey.specs.Expected.{is_on, takes, takes_sdi};
+    ghost use Rattle.a429_survey.specs.Expected.{heard_at, is_on, sent_by, takes, takes_sdi};
 
     /// Words that come in at a receiver of this name.
     pub fn heard(line: &'a str, label: Label, sdi: Option<Sdi>) -> Expected<'a>
-        ensures { result ≡ record { line = line.entry.now; is_group = false; label = label; sdi = sdi; least = 0; greatest = None } }
+        ensures { result ≡ heard_at line.entry.now label sdi }
     {
         Expected {
             line,
@@ -77,7 +77,7 @@ impl<'a> Expected<'a> {
         least: u64,
         greatest: u64,
     ) -> Expected<'a>
-        ensures { result ≡ record { line = line.entry.now; is_group = true; label = label; sdi = sdi; least = least; greatest = Some greatest } }
+        ensures { result ≡ sent_by line.entry.now label sdi least greatest }
     {
         Expected {
             line,
