@@ -13,7 +13,7 @@ use Rattle.a429_word.specs.Hexadecimal.{hex}
 use Rattle.a429_survey.specs.Figures.{Noted, first_of, greatest_field, intervals, intervals_after, is_even, last_of, least_field, load_field, mean_field, times_of}
 use Rattle.a429_survey.specs.Survey.{label_rows, name_rows, names_of, pair_row, pair_rows, rows_if_any, sdi_text, survey_row, survey_rows, words_of, words_with}
 use Rattle.a429_survey.specs.Starts.{interval_field, longer_field, shorter_field, source_name, start_row, start_rows}
-use Rattle.a429_survey.specs.Expected.{Expectation, comes_faster, comes_slower, compared_name, compared_row, expectation_for, pace_of, verdict_of}
+use Rattle.a429_survey.specs.Expected.{Expectation, comes_faster, comes_slower, compared_name, compared_row, expectation_for, pace_of, ssm_fields, verdict_of}
 use Rattle.a429_survey.specs.Kept.{LineKept, figures_of, is_above, label_in, least_of, line_of, lines_of, load_in, longer_in, no_figures, pair_by, pair_in, place_of, row_in, rows_by, rows_in, shorter_in, start_in, verdict_in, words_at}
 use Rattle.a429_survey.specs.declared.rows.RowKind.{RowKind}
 use Rattle.a429_survey.specs.declared.rows.RowKind.TheVariants as kind
@@ -100,10 +100,11 @@ pair_of (kind.Starts slack) rate name = start_row slack rate name
 pair_of (kind.Compared expected) rate name = compared_row expected.now name
 
 pair_by_is : (k : RowKind) (rate : ℕ) (name : List ℕ) (label sdi : ℕ) (ws : List Noted) → pair_by k rate name label sdi (figures_of ws) ≡ pair_of k rate name label sdi ws
+unfolding figures_of
 pair_by_is kind.Figures rate name label sdi ws = row_is name (Text (octal label)) (Text (sdi_text sdi)) Absent ws
 pair_by_is (kind.Starts slack) rate name label sdi ws = start_is slack rate name label sdi ws
 pair_by_is (kind.Compared expected) rate name label sdi ws =
-    ap₂ (λ (row : List Field) (text : List ℕ). row ++ Text text ∷ []) (row_is name (Text (octal label)) (Text (sdi_text sdi)) Absent ws)
+    ap₂ (λ (row : List Field) (text : List ℕ). row ++ (ssm_fields ws ++ Text text ∷ [])) (row_is name (Text (octal label)) (Text (sdi_text sdi)) Absent ws)
     (verdict_is (expectation_for expected.now name label sdi) ws)
 
 rows_by_is : (k : RowKind) (rate : ℕ) (name : List ℕ) (label sdi : ℕ) (ws : List Noted) → rows_by k rate name label sdi (figures_of ws) ≡ rows_if_any (pair_of k rate name label sdi) ws
@@ -167,13 +168,13 @@ asked_rows (kind.Starts slack) rate name ws = pair_rows (start_row slack rate na
 asked_rows (kind.Compared expected) rate name ws = compared_name expected.now rate name ws
 
 line_is : (k : RowKind) (rate : ℕ) (name : List ℕ) (ws : List Noted) → rows_in k rate (line_of name ws) ≡ asked_rows k rate name ws
-unfolding line_of
+unfolding line_of figures_of
 line_is kind.Figures rate name ws =
     ap₂ (λ (rs : List (List Field)) (r : List Field). rs ++ r ∷ []) (labels_are kind.Figures rate name ws) (last_row rate name ws)
 line_is (kind.Starts slack) rate name ws =
     append-nil (flat_map (label_in (kind.Starts slack) rate (line_of name ws)) (range_with_len 0 256)) ∙ labels_are (kind.Starts slack) rate name ws
 line_is (kind.Compared expected) rate name ws =
-    ap₂ (λ (rs : List (List Field)) (r : List Field). rs ++ (r ++ Absent ∷ []) ∷ []) (labels_are (kind.Compared expected) rate name ws) (last_row rate name ws)
+    ap₂ (λ (rs : List (List Field)) (r : List Field). rs ++ (r ++ (ssm_fields ws ++ Absent ∷ [])) ∷ []) (labels_are (kind.Compared expected) rate name ws) (last_row rate name ws)
 
 flat_mapped : (k : RowKind) (rate : ℕ) (ws : List Noted) (names : List (List ℕ)) → flat_map (rows_in k rate) (lines_of names ws) ≡ flat_map (λ name. asked_rows k rate name (words_of name ws)) names
 flat_mapped k rate ws [] = refl

@@ -1,12 +1,12 @@
 -- What a table says of the words of a recording (profile: docs/FORMATS.md, Output of `survey`, `--table`).
-use Rattle.std.specs.Prelude.{ℕ, ◌==◌, ◌&&◌, ◌∷◌, ◌++◌, [], Bool, false, List, None, Option, Some, codes, find, flat_map, fold, if◌then◌else◌, length, max, min, nat_lt, not, position, take, true}
+use Rattle.std.specs.Prelude.{ℕ, ◌==◌, ◌&&◌, ◌∷◌, ◌++◌, [], Bool, false, List, None, Option, Some, codes, count_by, find, flat_map, fold, if◌then◌else◌, length, map, max, min, nat_lt, not, position, take, true}
 use Rattle.std.specs.List.{list_any, range_with_len}
 use Rattle.std.specs.Option.{option_map_or}
 use Rattle.std.specs.Str.{bytes_eq}
 use Rattle.a429_text.specs.Fields.{Absent, Field, Number, Text}
 use Rattle.a429_text.specs.Sheets.{text_in}
 use Rattle.a429_text.specs.Texts.{octal}
-use Rattle.a429_survey.specs.Figures.{Noted, intervals, load_field, times_of}
+use Rattle.a429_survey.specs.Figures.{Noted, has_ssm, intervals, load_field, times_of}
 use Rattle.a429_survey.specs.Survey.{names_of, pair_row, pair_rows, sdi_text, survey_columns, survey_row, words_of, words_with}
 
 -- Words that a table expects on a line: of this label, and of this SDI or of any. The line is a receiver, or the buses of a
@@ -95,17 +95,21 @@ is_missing words e = list_any (is_on e) (names_of words) && not (list_any (is_se
 -- ---- the rows
 
 abbrev pub compared_columns : List (List ℕ)
-compared_columns = survey_columns ++ codes "table" ∷ []
+compared_columns = survey_columns ++ codes "ssm_0" ∷ codes "ssm_1" ∷ codes "ssm_2" ∷ codes "ssm_3" ∷ codes "table" ∷ []
+
+-- how many of some words have each SSM
+abbrev pub ssm_fields : List Noted → List Field
+ssm_fields words = map (λ ssm. Number (count_by (has_ssm ssm) words)) (range_with_len 0 4)
 
 -- the row of a label and an SDI of a name
 abbrev pub compared_row : List Expectation → List ℕ → ℕ → ℕ → List Noted → List Field
 compared_row expected name label sdi words =
-    pair_row name label sdi words ++ Text (verdict_of (expectation_for expected name label sdi) words) ∷ []
+    pair_row name label sdi words ++ (ssm_fields words ++ Text (verdict_of (expectation_for expected name label sdi) words) ∷ [])
 
 -- the rows of the words of a name, and then that of all these words, of which nothing is said
 abbrev pub compared_name : List Expectation → ℕ → List ℕ → List Noted → List (List Field)
 compared_name expected rate name words =
-    pair_rows (compared_row expected name) words ++ (survey_row name Absent Absent (load_field rate words) words ++ Absent ∷ []) ∷ []
+    pair_rows (compared_row expected name) words ++ (survey_row name Absent Absent (load_field rate words) words ++ (ssm_fields words ++ Absent ∷ [])) ∷ []
 
 -- the SDI that is expected
 abbrev pub expected_sdi : Option ℕ → List ℕ
@@ -116,7 +120,7 @@ expected_sdi (Some sdi) = sdi_text sdi
 abbrev pub missing_row : Expectation → List Field
 missing_row e =
     Text e.line ∷ Text (octal e.label) ∷ Text (expected_sdi e.sdi) ∷ Number 0 ∷ Absent ∷ Absent ∷ Absent ∷ Absent ∷ Absent ∷ Absent ∷ Absent ∷ Absent
-    ∷ Text (codes "missing") ∷ []
+    ∷ Absent ∷ Absent ∷ Absent ∷ Absent ∷ Text (codes "missing") ∷ []
 
 -- the row, if they are missing
 abbrev pub missing_if : Expectation → Bool → List (List Field)
@@ -138,7 +142,7 @@ is_finding_text None = false
 is_finding_text (Some text) = not (bytes_eq text (codes "expected"))
 
 abbrev pub is_finding : List Field → Bool
-is_finding row = is_finding_text (text_in 12 row)
+is_finding row = is_finding_text (text_in 16 row)
 
 -- a row has a finding
 abbrev pub has_finding : List (List Field) → Bool

@@ -125,7 +125,8 @@ pub fn add_row(
     rows.add(&cells(name, label, sdi, load, figures));
 }
 
-/// Adds the row of some words, with one more cell at its end. Error: an allocation failed.
+/// Adds the row of some words, with how many of them have each SSM and with what a table says at its end. Error: an allocation
+/// failed.
 pub fn add_wider(
     rows: &mut Rows,
     alloc: Global,
@@ -134,11 +135,19 @@ pub fn add_wider(
     sdi: Cell<'_>,
     load: Cell<'_>,
     figures: &Figures,
-    more: Cell<'_>,
+    says: Cell<'_>,
 ) -> Result<(), AllocError>
     ensures { OnOk result (rows.new
-        ≡ rows.old ++ wider_row (row_with name.now label.entry sdi.entry load.entry figures.now) (field_of more.entry) ∷ []) }
+        ≡ rows.old ++ wider_row (row_with name.now label.entry sdi.entry load.entry figures.now) figures.now (field_of says.entry) ∷ []) }
 {
     let row = Row::of(alloc, &cells(name, label, sdi, load, figures));
-    rows.add_wider(&row, &[more])
+    let ssm = &figures.ssm;
+    let more = [
+        Cell::Number(ssm.zero),
+        Cell::Number(ssm.one),
+        Cell::Number(ssm.two),
+        Cell::Number(ssm.three),
+        says,
+    ];
+    rows.add_wider(&row, &more)
 }

@@ -59,7 +59,7 @@ fn is_missing(expected: &Expected<'_>, lines: &[Line]) -> bool
 }
 
 /// The cells of the row of words that are missing.
-fn missing_cells<'a>(expected: &'a Expected<'a>) -> [Cell<'a>; 13]
+fn missing_cells<'a>(expected: &'a Expected<'a>) -> [Cell<'a>; 17]
     ensures { map field_of result ≡ missing_row expected.now }
 {
     [
@@ -67,6 +67,10 @@ fn missing_cells<'a>(expected: &'a Expected<'a>) -> [Cell<'a>; 13]
         Cell::Octal(expected.label()),
         expected.sdi_cell(),
         Cell::Number(0),
+        Cell::Absent,
+        Cell::Absent,
+        Cell::Absent,
+        Cell::Absent,
         Cell::Absent,
         Cell::Absent,
         Cell::Absent,
@@ -101,7 +105,7 @@ pub fn add_missing(rows: &mut Rows, expected: &[Expected<'_>], lines: &[Line])
 fn is_finding(row: &Row) -> Result<bool, AllocError>
     ensures { IfOk result (λ found. found ≡ is_finding row.now) }
 {
-    match row.text(12)? {
+    match row.text(16)? {
         Some(text) => Ok(text != "expected".as_bytes()),
         None => Ok(false),
     }
