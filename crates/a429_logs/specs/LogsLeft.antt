@@ -4,7 +4,7 @@ use Rattle.std.specs.List.{enumerate_from}
 use Rattle.a429_logs.specs.LogFields.{parts_left}
 use Rattle.a429_logs.specs.LogRows.{Stated, stated_by}
 use Rattle.a429_logs.specs.LogDates.{or_second}
-use Rattle.a429_logs.specs.Logs.{Titled, WordAt, entries_from, lines_of, next_log, read_line, reading_past, tail_at, without_titles}
+use Rattle.a429_logs.specs.Logs.{Titled, WordAt, entries_from, is_tail, lines_of, next_log, read_line, reading_past, tail_at, without_titles}
 use Rattle.a429_logs.specs.declared.reading.LineFault.{LineFault}
 use Rattle.a429_logs.specs.declared.reader.LogFault.{LogFault}
 use Rattle.a429_logs.specs.declared.reader.LogReader.{LogReader}
@@ -15,6 +15,10 @@ use Rattle.a429_logs.specs.declared.reading.Shape.{Shape}
 -- the lines with their numbers; after a fault none
 unfoldable pub lines_left : LogReader → List (ℕ × List ℕ)
 lines_left r = if r.is_done then [] else enumerate_from (r.line + 1) (parts_left r.lines)
+
+-- a line that was taken, and those after it, are a tail
+abbrev pub is_tail_of : LogReader → ℕ → List ℕ → Bool
+is_tail_of r n line = is_tail r.reading ((n, line) ∷ lines_left r)
 
 abbrev pub entries_left : LogReader → List (Result WordAt LogFault)
 entries_left r = entries_from r.reading (lines_left r)

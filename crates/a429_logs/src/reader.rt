@@ -48,8 +48,8 @@ impl<'a> LogReader<'a> {
     ghost use Rattle.a429_logs.specs.LogFields.{Takes};
     ghost use Rattle.std.specs.Prelude.{◌<◌, Err, IfSome, Option, Some, ℕ, option_map};
     ghost use Rattle.a429_logs.specs.LogDates.{or_second};
-    ghost use Rattle.a429_logs.specs.Logs.{are_no_rows, are_passed, entry_then, heading_from, is_tail, lines_of, log_entries, next_log, past_then, reading_after};
-    ghost use Rattle.a429_logs.specs.LogsLeft.{GoesOn, TailGoesOn, entries_left, entry_of, lines_left, reading_left, shape_now, tail_left, tail_of, tail_then, titled_by, titles_now, titles_of};
+    ghost use Rattle.a429_logs.specs.Logs.{are_no_rows, are_passed, entry_then, heading_from, lines_of, log_entries, next_log, past_then, reading_after};
+    ghost use Rattle.a429_logs.specs.LogsLeft.{GoesOn, TailGoesOn, entries_left, entry_of, is_tail_of, lines_left, reading_left, shape_now, tail_left, tail_of, tail_then, titled_by, titles_now, titles_of};
     ghost use Rattle.a429_logs.specs.declared.reading.Reading.{Reading};
 
     /// All lines of a log.
@@ -212,7 +212,7 @@ impl<'a> LogReader<'a> {
     /// Whether a line and those that are left come after the last row.
     #[tactic(auto, unfolding(crate::specs::Logs::is_tail))]
     fn is_tail(&self, text: &[u8]) -> bool
-        ensures { (n : ℕ) → result ≡ is_tail self.now.reading ((n, text.now) ∷ lines_left self.now) }
+        ensures { (n : ℕ) → result ≡ is_tail_of self.now n text.now }
     {
         let Some(shape) = &self.reading.shape else {
             return false;
@@ -234,14 +234,13 @@ impl<'a> LogReader<'a> {
         text: &[u8],
         why: LineFault,
     ) -> Option<Result<LogWord<'a>, LogFault>>
-        ensures taken { Takes entry_of result (entry_then line (is_tail self.old.reading ((line, text.now) ∷ lines_left self.old)) (Err why) [])
-            (entries_left self.new) }
+        ensures taken { Takes entry_of result (entry_then line (is_tail_of self.old line text.now) (Err why) []) (entries_left self.new) }
         ensures lines { lines_left self.new ≡ [] }
         ensures titles { self.new.passed.titles ≡ self.old.passed.titles }
         ensures after { (later : Reading) → GoesOn result
-            (next_log (past_then (is_tail self.old.reading ((line, text.now) ∷ lines_left self.old)) (Err why) self.old.reading later)) (reading_left self.new) }
+            (next_log (past_then (is_tail_of self.old line text.now) (Err why) self.old.reading later)) (reading_left self.new) }
         ensures tail { (later : Option ℕ) → TailGoesOn result (or_second self.old.passed.tail
-            (tail_then line (is_tail self.old.reading ((line, text.now) ∷ lines_left self.old)) (Err why) later)) (tail_left self.new) }
+            (tail_then line (is_tail_of self.old line text.now) (Err why) later)) (tail_left self.new) }
     {
         if self.is_tail(text) {
             self.end(Some(line));

@@ -12,8 +12,9 @@ use Rattle.a429_word.proofs.Fields.{power_next}
 use Rattle.a429_word.proofs.Ones.{number_is}
 use Rattle.a429_word.specs.Bits.{bit, has_odd_parity, reversed_from}
 use Rattle.a429_survey.specs.declared.figures.Figures.{Figures}
-use Rattle.a429_survey.specs.Figures.{Noted, intervals, intervals_after, is_even, last_after, last_of, times_of}
-use Rattle.a429_survey.specs.Kept.{LineKept, figures_of, figures_with, first_figures, least_of, line_of, line_with, next_figures, no_figures, one_more, place_of, words_at}
+use Rattle.a429_survey.specs.declared.figures.SsmCounts.{SsmCounts}
+use Rattle.a429_survey.specs.Figures.{Noted, has_ssm, intervals, intervals_after, is_even, last_after, last_of, times_of}
+use Rattle.a429_survey.specs.Kept.{LineKept, counted, figures_of, figures_with, first_figures, least_of, line_of, line_with, next_figures, no_figures, one_more, place_of, ssm_counts, ssm_with, words_at}
 
 -- ---- lists with one more at the end
 
@@ -56,6 +57,23 @@ even_more ws w few =
       | inr even ↦ let one : ◌≡◌ {A = ℕ} (cond (not (has_odd_parity w.raw)) 1 0) 1 = rw even refl in rw even (omega (arith, more, one, small, few))
     ]
 
+counted_more : (p : Noted → Bool) (ws : List Noted) (w : Noted) → length ws < 2 ^ 64 - 1 → counted (p w) (count_by p ws) ≡ count_by p (ws ++ w ∷ [])
+counted_more p ws w few =
+    let more = count_more p ws w in
+    let small : count_by p ws ≤ length ws = count_by-le-length p ws in
+    elim (cases_Bool (p w)) [
+      | inl counts ↦ let one : ◌≡◌ {A = ℕ} (cond (p w) 1 0) 1 = rw counts refl in rw counts (omega (arith, more, one, small, few))
+      | inr fails ↦ let none : ◌≡◌ {A = ℕ} (cond (p w) 1 0) 0 = rw fails refl in rw fails (omega (arith, more, none))
+    ]
+
+same_counts : (a b c d a' b' c' d' : ℕ) → a ≡ a' → b ≡ b' → c ≡ c' → d ≡ d'
+    → ◌≡◌ {A = SsmCounts} record { zero = a; one = b; two = c; three = d } record { zero = a'; one = b'; two = c'; three = d' }
+same_counts a b c d a' b' c' d' p q r s = rw (p, q, r, s) refl
+
+ssm_more : (ws : List Noted) (w : Noted) → length ws < 2 ^ 64 - 1 → ssm_with w.raw (ssm_counts ws) ≡ ssm_counts (ws ++ w ∷ [])
+ssm_more ws w few =
+    same_counts _ _ _ _ _ _ _ _ (counted_more (has_ssm 0) ws w few) (counted_more (has_ssm 1) ws w few) (counted_more (has_ssm 2) ws w few) (counted_more (has_ssm 3) ws w few)
+
 least_more : (t : ℕ) (ts : List ℕ) (interval count : ℕ) → count ≡ length ts + 1
     → (if count == 1 then interval else min (least_of (intervals_after t ts)) interval) ≡ least_of (intervals_after t ts ++ interval ∷ [])
 least_more t [] interval count is = rw is refl
@@ -63,10 +81,10 @@ least_more t (u ∷ ts) interval count is =
     let several : (count == 1) ≡ false = grind (arith, nat_tests) in
     rw several (sym (fold_more min (u - t) (intervals_after u ts) interval))
 
-same_figures : (a b c d e f g a' b' c' d' e' f' g' : ℕ) → a ≡ a' → b ≡ b' → c ≡ c' → d ≡ d' → e ≡ e' → f ≡ f' → g ≡ g'
-    → ◌≡◌ {A = Figures} record { words = a; even = b; least = c; greatest = d; first = e; last = f; last_word = g }
-    record { words = a'; even = b'; least = c'; greatest = d'; first = e'; last = f'; last_word = g' }
-same_figures a b c d e f g a' b' c' d' e' f' g' p q r s t u v = rw (p, q, r, s, t, u, v) refl
+same_figures : (a b c d e f g : ℕ) (h : SsmCounts) (a' b' c' d' e' f' g' : ℕ) (h' : SsmCounts) → a ≡ a' → b ≡ b' → c ≡ c' → d ≡ d' → e ≡ e' → f ≡ f' → g ≡ g' → h ≡ h'
+    → ◌≡◌ {A = Figures} record { words = a; even = b; least = c; greatest = d; first = e; last = f; last_word = g; ssm = h }
+    record { words = a'; even = b'; least = c'; greatest = d'; first = e'; last = f'; last_word = g'; ssm = h' }
+same_figures a b c d e f g h a' b' c' d' e' f' g' h' p q r s t u v w = rw (p, q, r, s, t, u, v, w) refl
 
 -- ---- all of them
 
@@ -80,7 +98,7 @@ next_are v vs w few =
     let ranges : intervals (times_of (v ∷ vs ++ w ∷ [])) ≡ intervals (times_of (v ∷ vs)) ++ interval ∷ [] =
     ap (intervals_after v.time) times ∙ intervals_more v.time w.time (times_of vs) in
     let long : length (v ∷ vs) ≡ length (times_of vs) + 1 = omega (arith, length-map vs (λ (x : Noted). x.time)) in
-    same_figures _ _ _ _ _ _ _ _ _ _ _ _ _ _
+    same_figures _ _ _ _ _ _ _ _ _ _ _ _ _ _ _ _
     (omega (arith, few, length-append (v ∷ vs) (w ∷ [])))
     (even_more (v ∷ vs) w few)
     (least_more v.time (times_of vs) interval (length (v ∷ vs)) long ∙ ap least_of (sym ranges))
@@ -88,14 +106,18 @@ next_are v vs w few =
     refl
     (sym (ap (last_after v.time) times ∙ last_more v.time w.time (times_of vs)))
     (sym (ap (last_after v.raw) raws ∙ last_more v.raw w.raw (map (λ (x : Noted). x.raw) vs)))
+    (ssm_more (v ∷ vs) w few)
 
-first_are : (w : Noted) → first_figures w.time w.raw ≡ figures_of (w ∷ [])
-unfolding figures_of
-first_are w =
+first_even : (w : Noted) → ◌≡◌ {A = ℕ} (if has_odd_parity w.raw then 0 else 1) (count_by is_even (w ∷ []))
+first_even w =
     elim (cases_Bool (has_odd_parity w.raw)) [
       | inl odd ↦ rw odd refl
       | inr even ↦ rw even refl
     ]
+
+first_are : (w : Noted) → first_figures w.time w.raw ≡ figures_of (w ∷ [])
+unfolding figures_of
+first_are w = same_figures _ _ _ _ _ _ _ _ _ _ _ _ _ _ _ _ refl (first_even w) refl refl refl refl refl (ssm_more [] w (omega arith))
 
 with_next : (f : Figures) (time raw : ℕ) → (f.words == 0) ≡ false → figures_with time raw f ≡ next_figures (time - f.last) time raw f
 with_next f time raw some = ap (λ (b : Bool). if b then first_figures time raw else next_figures (time - f.last) time raw f) some

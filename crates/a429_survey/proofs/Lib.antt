@@ -7,3 +7,4 @@ pub mod Pairs
 pub mod Places
 pub mod RowsMore
 pub mod SheetRows
+pub mod MissingRows

@@ -25,3 +25,11 @@ line_rows {X} {Y} f xs i x now next within is now_is next_is =
     next_is ∙ ap (λ (rs : List Y). rs ++ f x) now_is ∙ sym (flat_more f (take i xs) x)
     ∙ ap (λ (y : X). flat_map f (take i xs ++ y ∷ [])) is
     ∙ ap (flat_map f) (sym (take_more xs i x within))
+
+-- the same after rows that were there before
+pub added_rows : {X Y : Type 0} (f : X → List Y) (xs : List X) (i : ℕ) (x : X) (old now next : List Y) → i < length xs → x ≡ get_or xs i x → now ≡ old ++ flat_map f (take i xs) → next ≡ now ++ f x
+    → next ≡ old ++ flat_map f (take (i + 1) xs)
+added_rows {X} {Y} f xs i x old now next within is now_is next_is =
+    next_is ∙ ap (λ (rs : List Y). rs ++ f x) now_is ∙ append_assoc old (flat_map f (take i xs)) (f x)
+    ∙ ap (λ (rs : List Y). old ++ rs)
+    (sym (flat_more f (take i xs) x) ∙ ap (λ (y : X). flat_map f (take i xs ++ y ∷ [])) is ∙ ap (flat_map f) (sym (take_more xs i x within)))

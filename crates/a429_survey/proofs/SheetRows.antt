@@ -1,6 +1,6 @@
 -- The rows by figures are those of the words.
-use Rattle.std.proofs.Common.{◌≡◌, ℕ, zero, suc, ◌+◌, ◌-◌, ◌*◌, ◌<◌, List, [], ◌∷◌, ◌++◌, Bool, true, false, cond, length, map, refl, ap, ap₂, ◌∙◌, arith, zero-add, append-nil}
-use Rattle.std.specs.Prelude.{count_by, filter, flat_map, fold, if◌then◌else◌, max, nat_lt, ◌==◌, ◌&&◌}
+use Rattle.std.proofs.Common.{◌≡◌, ℕ, zero, suc, ◌+◌, ◌-◌, ◌*◌, ◌<◌, List, [], ◌∷◌, ◌++◌, Bool, true, false, cond, length, map, refl, ap, ap₂, sym, ◌∙◌, arith, zero-add, append-nil}
+use Rattle.std.specs.Prelude.{None, Option, Some, codes, count_by, filter, flat_map, fold, if◌then◌else◌, max, nat_lt, ◌==◌, ◌&&◌}
 use Rattle.std.specs.Int.{div_ceil}
 use Rattle.std.specs.List.{range_with_len}
 use Rattle.std.proofs.lemmas.Bool.Decides.{nat_tests}
@@ -13,7 +13,8 @@ use Rattle.a429_word.specs.Hexadecimal.{hex}
 use Rattle.a429_survey.specs.Figures.{Noted, first_of, greatest_field, intervals, intervals_after, is_even, last_of, least_field, load_field, mean_field, times_of}
 use Rattle.a429_survey.specs.Survey.{label_rows, name_rows, names_of, pair_row, pair_rows, rows_if_any, sdi_text, survey_row, survey_rows, words_of, words_with}
 use Rattle.a429_survey.specs.Starts.{interval_field, longer_field, shorter_field, source_name, start_row, start_rows}
-use Rattle.a429_survey.specs.Kept.{LineKept, figures_of, label_in, least_of, line_of, lines_of, load_in, longer_in, no_figures, pair_by, pair_in, place_of, row_in, rows_by, rows_in, shorter_in, start_in, words_at}
+use Rattle.a429_survey.specs.Expected.{Expectation, comes_faster, comes_slower, compared_name, compared_row, expectation_for, pace_of, ssm_fields, verdict_of}
+use Rattle.a429_survey.specs.Kept.{LineKept, figures_of, is_above, label_in, least_of, line_of, lines_of, load_in, longer_in, no_figures, pair_by, pair_in, place_of, row_in, rows_by, rows_in, shorter_in, start_in, verdict_in, words_at}
 use Rattle.a429_survey.specs.declared.rows.RowKind.{RowKind}
 use Rattle.a429_survey.specs.declared.rows.RowKind.TheVariants as kind
 
@@ -67,15 +68,44 @@ start_is slack rate name label sdi ws =
     ap₂ (λ (shorter longer : Field).
     Absent ∷ Number rate ∷ Text (source_name name label sdi) ∷ Text name ∷ Text (octal label) ∷ Number sdi ∷ shorter ∷ longer ∷ []) (shorter_is slack ws) (longer_is slack ws)
 
+-- ---- what a table says
+
+slow_none : (greatest : Option ℕ) → comes_slower greatest [] ≡ false
+slow_none None = refl
+slow_none (Some us) = refl
+
+pace_none : (e : Expectation) → codes "expected" ≡ pace_of e []
+pace_none e = ap (λ (slow : Bool). if slow then codes "slow" else codes "expected") (sym (slow_none e.greatest))
+
+slow_is : (greatest : Option ℕ) (n : ℕ) (ns : List ℕ) → is_above (fold max 0 (n ∷ ns)) greatest ≡ comes_slower greatest (n ∷ ns)
+slow_is None n ns = refl
+slow_is (Some us) n ns = ap (nat_lt us) (from_zero n ns)
+
+verdict_is : (e : Option Expectation) (ws : List Noted) → verdict_in e (figures_of ws) ≡ verdict_of e ws
+unfolding figures_of
+verdict_is None ws = refl
+verdict_is (Some e) [] = pace_none e
+verdict_is (Some e) (w ∷ []) = pace_none e
+verdict_is (Some e) (w ∷ v ∷ ws) =
+    let several : nat_lt 1 (length (w ∷ v ∷ ws)) ≡ true = grind (arith, nat_tests) in
+    let n : ℕ = v.time - w.time in
+    let ns : List ℕ = intervals_after v.time (times_of ws) in
+    rw several (ap (λ (slow : Bool). if comes_faster e.least (n ∷ ns) then codes "fast" else (if slow then codes "slow" else codes "expected")) (slow_is e.greatest n ns))
+
 -- ---- the row of a label and an SDI, by what is asked for
 
 abbrev pair_of : RowKind → ℕ → List ℕ → ℕ → ℕ → List Noted → List Field
 pair_of kind.Figures rate name = pair_row name
 pair_of (kind.Starts slack) rate name = start_row slack rate name
+pair_of (kind.Compared expected) rate name = compared_row expected.now name
 
 pair_by_is : (k : RowKind) (rate : ℕ) (name : List ℕ) (label sdi : ℕ) (ws : List Noted) → pair_by k rate name label sdi (figures_of ws) ≡ pair_of k rate name label sdi ws
+unfolding figures_of
 pair_by_is kind.Figures rate name label sdi ws = row_is name (Text (octal label)) (Text (sdi_text sdi)) Absent ws
 pair_by_is (kind.Starts slack) rate name label sdi ws = start_is slack rate name label sdi ws
+pair_by_is (kind.Compared expected) rate name label sdi ws =
+    ap₂ (λ (row : List Field) (text : List ℕ). row ++ (ssm_fields ws ++ Text text ∷ [])) (row_is name (Text (octal label)) (Text (sdi_text sdi)) Absent ws)
+    (verdict_is (expectation_for expected.now name label sdi) ws)
 
 rows_by_is : (k : RowKind) (rate : ℕ) (name : List ℕ) (label sdi : ℕ) (ws : List Noted) → rows_by k rate name label sdi (figures_of ws) ≡ rows_if_any (pair_of k rate name label sdi) ws
 unfolding figures_of
@@ -95,7 +125,7 @@ filter_same {X} p q (x ∷ xs) same =
 place_tests : (a b l s : ℕ) → b < 4 → s < 4 → (4 * a + b == 4 * l + s) ≡ (a == l && b == s)
 place_tests a b l s small little = grind (arith, nat_tests)
 
-words_same : (label sdi : ℕ) (ws : List Noted) → sdi < 4 → words_at (4 * label + sdi) ws ≡ words_with label sdi ws
+pub words_same : (label sdi : ℕ) (ws : List Noted) → sdi < 4 → words_at (4 * label + sdi) ws ≡ words_with label sdi ws
 words_same label sdi ws small =
     filter_same (λ (w : Noted). place_of w.raw == 4 * label + sdi) (λ (w : Noted). label_of w.raw == label && sdi_of w.raw == sdi) ws
     (λ w. place_tests (label_of w.raw) (sdi_of w.raw) label sdi (omega (arith, number_is 8 2 w.raw)) small)
@@ -135,19 +165,22 @@ last_row rate name ws = row_is name Absent Absent (load_field rate ws) ws
 abbrev asked_rows : RowKind → ℕ → List ℕ → List Noted → List (List Field)
 asked_rows kind.Figures rate name ws = name_rows rate name ws
 asked_rows (kind.Starts slack) rate name ws = pair_rows (start_row slack rate name) ws
+asked_rows (kind.Compared expected) rate name ws = compared_name expected.now rate name ws
 
 line_is : (k : RowKind) (rate : ℕ) (name : List ℕ) (ws : List Noted) → rows_in k rate (line_of name ws) ≡ asked_rows k rate name ws
-unfolding line_of
+unfolding line_of figures_of
 line_is kind.Figures rate name ws =
     ap₂ (λ (rs : List (List Field)) (r : List Field). rs ++ r ∷ []) (labels_are kind.Figures rate name ws) (last_row rate name ws)
 line_is (kind.Starts slack) rate name ws =
     append-nil (flat_map (label_in (kind.Starts slack) rate (line_of name ws)) (range_with_len 0 256)) ∙ labels_are (kind.Starts slack) rate name ws
+line_is (kind.Compared expected) rate name ws =
+    ap₂ (λ (rs : List (List Field)) (r : List Field). rs ++ (r ++ (ssm_fields ws ++ Absent ∷ [])) ∷ []) (labels_are (kind.Compared expected) rate name ws) (last_row rate name ws)
 
 flat_mapped : (k : RowKind) (rate : ℕ) (ws : List Noted) (names : List (List ℕ)) → flat_map (rows_in k rate) (lines_of names ws) ≡ flat_map (λ name. asked_rows k rate name (words_of name ws)) names
 flat_mapped k rate ws [] = refl
 flat_mapped k rate ws (n ∷ names) = ap₂ (λ (rs qs : List (List Field)). rs ++ qs) (line_is k rate n (words_of n ws)) (flat_mapped k rate ws names)
 
-asked_are : (k : RowKind) (rate : ℕ) (ws : List Noted) (lines : List LineKept) → lines ≡ lines_of (names_of ws) ws
+pub asked_are : (k : RowKind) (rate : ℕ) (ws : List Noted) (lines : List LineKept) → lines ≡ lines_of (names_of ws) ws
     → flat_map (rows_in k rate) lines ≡ flat_map (λ name. asked_rows k rate name (words_of name ws)) (names_of ws)
 asked_are k rate ws lines is = ap (flat_map (rows_in k rate)) is ∙ flat_mapped k rate ws (names_of ws)
 

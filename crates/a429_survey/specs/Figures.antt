@@ -1,8 +1,8 @@
 -- The figures of some words of a recording, oldest first (profile: docs/FORMATS.md, Output of `survey`).
-use Rattle.std.specs.Prelude.{ℕ, ◌-◌, ◌*◌, ◌/◌, ◌^◌, List, [], ◌∷◌, Bool, not, fold, if◌then◌else◌, length, map, max, min, nat_lt}
+use Rattle.std.specs.Prelude.{ℕ, ◌==◌, ◌-◌, ◌*◌, ◌/◌, ◌^◌, List, [], ◌∷◌, Bool, not, fold, if◌then◌else◌, length, map, max, min, nat_lt}
 use Rattle.std.specs.Int.{div_ceil}
 use Rattle.a429_text.specs.Fields.{Field, Number, Tenths, Absent}
-use Rattle.a429_word.specs.Bits.{has_odd_parity}
+use Rattle.a429_word.specs.Bits.{has_odd_parity, ssm_of}
 
 -- a word of a recording: its time in microseconds, the name of its receiver or channel, and its 32 bits
 pub record Noted : Type 0 where
@@ -16,6 +16,10 @@ times_of words = map (λ w. w.time) words
 -- an even number of the 32 bits are ones
 abbrev pub is_even : Noted → Bool
 is_even w = not (has_odd_parity w.raw)
+
+-- a word has this SSM
+abbrev pub has_ssm : ℕ → Noted → Bool
+has_ssm ssm w = ssm_of w.raw == ssm
 
 -- ---- the first and the last
 

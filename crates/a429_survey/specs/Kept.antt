@@ -1,5 +1,5 @@
 -- What a survey keeps of the words that were noted (vocabulary of contracts).
-use Rattle.std.specs.Prelude.{◌≡◌, ℕ, suc, ◌+◌, ◌-◌, ◌*◌, ◌/◌, ◌^◌, ◌==◌, List, [], ◌∷◌, ◌++◌, Bool, true, false, bytes_eq, count_by, filter, flat_map, fold, if◌then◌else◌, length, map, max, min, nat_lt, set, slice_index_or}
+use Rattle.std.specs.Prelude.{◌≡◌, ◌&&◌, ◌||◌, ℕ, suc, ◌+◌, ◌-◌, ◌*◌, ◌/◌, ◌^◌, ◌==◌, List, [], ◌∷◌, ◌++◌, Bool, None, Option, Some, true, false, bytes_eq, codes, count_by, filter, flat_map, fold, if◌then◌else◌, length, map, max, min, nat_lt, not, set, slice_index_or}
 use Rattle.std.specs.Int.{div_ceil}
 use Rattle.std.specs.List.{list_any, range_with_len}
 use Rattle.std.specs.Ordering.{is_eq, is_lt, nat_cmp}
@@ -8,11 +8,13 @@ use Rattle.a429_text.specs.declared.cells.Cell.{Cell}
 use Rattle.a429_text.specs.Fields.{Field, Text, Number, Absent}
 use Rattle.a429_text.specs.Sheets.{field_of}
 use Rattle.a429_text.specs.Texts.{octal}
-use Rattle.a429_word.specs.Bits.{has_odd_parity, label_of, sdi_of}
+use Rattle.a429_word.specs.Bits.{has_odd_parity, label_of, sdi_of, ssm_of}
 use Rattle.a429_word.specs.Hexadecimal.{hex}
 use Rattle.a429_survey.specs.declared.figures.Figures.{Figures}
-use Rattle.a429_survey.specs.Figures.{Noted, first_of, intervals, is_even, last_of, tenths_field, times_of}
+use Rattle.a429_survey.specs.declared.figures.SsmCounts.{SsmCounts}
+use Rattle.a429_survey.specs.Figures.{Noted, first_of, intervals, has_ssm, is_even, last_of, tenths_field, times_of}
 use Rattle.a429_survey.specs.Starts.{interval_field, source_name}
+use Rattle.a429_survey.specs.Expected.{Expectation, expectation_for, is_on, missing_if, takes_sdi}
 use Rattle.a429_survey.specs.Survey.{names_of, sdi_text, words_of}
 use Rattle.a429_survey.specs.declared.rows.RowKind.{RowKind}
 use Rattle.a429_survey.specs.declared.rows.RowKind.TheVariants as kind
@@ -24,6 +26,15 @@ abbrev pub least_of : List ℕ → ℕ
 least_of [] = 0
 least_of (n ∷ ns) = fold min n ns
 
+-- how many of some words have each SSM
+abbrev pub ssm_counts : List Noted → SsmCounts
+ssm_counts words = record {
+  zero = count_by (has_ssm 0) words;
+  one = count_by (has_ssm 1) words;
+  two = count_by (has_ssm 2) words;
+  three = count_by (has_ssm 3) words;
+}
+
 -- the figures of some words
 unfoldable pub figures_of : List Noted → Figures
 figures_of words = record {
@@ -34,15 +45,32 @@ figures_of words = record {
   first = first_of (times_of words);
   last = last_of (times_of words);
   last_word = last_of (map (λ w. w.raw) words);
+  ssm = ssm_counts words;
 }
 
 -- those of no word
+abbrev pub no_ssm : SsmCounts
+no_ssm = record { zero = 0; one = 0; two = 0; three = 0 }
+
 abbrev pub no_figures : Figures
-no_figures = record { words = 0; even = 0; least = 0; greatest = 0; first = 0; last = 0; last_word = 0 }
+no_figures = record { words = 0; even = 0; least = 0; greatest = 0; first = 0; last = 0; last_word = 0; ssm = no_ssm }
 
 -- one more, up to 2^64 - 1
 abbrev pub one_more : ℕ → ℕ
 one_more count = min (count + 1) (2 ^ 64 - 1)
+
+-- a count, after a word that may be counted
+abbrev pub counted : Bool → ℕ → ℕ
+counted is_counted count = if is_counted then one_more count else count
+
+-- how many words have each SSM, after one more word
+abbrev pub ssm_with : ℕ → SsmCounts → SsmCounts
+ssm_with raw c = record {
+  zero = counted (ssm_of raw == 0) c.zero;
+  one = counted (ssm_of raw == 1) c.one;
+  two = counted (ssm_of raw == 2) c.two;
+  three = counted (ssm_of raw == 3) c.three;
+}
 
 -- the figures of the first word
 abbrev pub first_figures : ℕ → ℕ → Figures
@@ -54,6 +82,7 @@ first_figures time raw = record {
   first = time;
   last = time;
   last_word = raw;
+  ssm = ssm_with raw no_ssm;
 }
 
 -- the figures after one word more than some, the interval to it among them
@@ -66,6 +95,7 @@ next_figures interval time raw f = record {
   first = f.first;
   last = time;
   last_word = raw;
+  ssm = ssm_with raw f.ssm;
 }
 
 -- the figures after one more word
@@ -180,14 +210,33 @@ unfoldable pub start_in : ℕ → ℕ → List ℕ → ℕ → ℕ → Figures �
 start_in slack rate name label sdi f =
     Absent ∷ Number rate ∷ Text (source_name name label sdi) ∷ Text name ∷ Text (octal label) ∷ Number sdi ∷ shorter_in slack f ∷ longer_in slack f ∷ []
 
+-- what a table says of some words, by their figures
+abbrev pub is_above : ℕ → Option ℕ → Bool
+is_above interval None = false
+is_above interval (Some greatest) = nat_lt greatest interval
+
+abbrev pub verdict_in : Option Expectation → Figures → List ℕ
+verdict_in None f = codes "unexpected"
+verdict_in (Some e) f =
+    if nat_lt 1 f.words
+    then (if nat_lt f.least e.least then codes "fast" else (if is_above f.greatest e.greatest then codes "slow" else codes "expected"))
+    else codes "expected"
+
+-- a row with how many of its words have each SSM, and with what a table says of them
+abbrev pub wider_row : List Field → Figures → Field → List Field
+wider_row row f field = row ++ Number f.ssm.zero ∷ Number f.ssm.one ∷ Number f.ssm.two ∷ Number f.ssm.three ∷ field ∷ []
+
 -- the row of a label and an SDI of a name, and what follows the rows of a name, by what is asked for
 abbrev pub pair_by : RowKind → ℕ → List ℕ → ℕ → ℕ → Figures → List Field
 pair_by kind.Figures rate name label sdi f = row_in name (Text (octal label)) (Text (sdi_text sdi)) Absent f
 pair_by (kind.Starts slack) rate name label sdi f = start_in slack rate name label sdi f
+pair_by (kind.Compared expected) rate name label sdi f =
+    wider_row (row_in name (Text (octal label)) (Text (sdi_text sdi)) Absent f) f (Text (verdict_in (expectation_for expected.now name label sdi) f))
 
 abbrev pub end_by : RowKind → ℕ → LineKept → List (List Field)
 end_by kind.Figures rate l = row_in l.name Absent Absent (load_in rate l.all) l.all ∷ []
 end_by (kind.Starts slack) rate l = []
+end_by (kind.Compared expected) rate l = wider_row (row_in l.name Absent Absent (load_in rate l.all) l.all) l.all Absent ∷ []
 
 -- the row of a label and an SDI, if there are such words
 abbrev pub rows_by : RowKind → ℕ → List ℕ → ℕ → ℕ → Figures → List (List Field)
@@ -202,3 +251,24 @@ label_in kind rate l label = flat_map (pair_in kind rate l label) (range_with_le
 -- the rows of a line
 abbrev pub rows_in : RowKind → ℕ → LineKept → List (List Field)
 rows_in kind rate l = flat_map (label_in kind rate l) (range_with_len 0 256) ++ end_by kind rate l
+
+-- ---- what is missing
+
+-- words of an expectation's label came on a line, with an SDI
+abbrev pub has_at : Expectation → LineKept → ℕ → Bool
+has_at e l sdi = takes_sdi e sdi && nat_lt 0 (slice_index_or l.each (4 * e.label + sdi) no_figures).words
+
+abbrev pub has_in : Expectation → LineKept → Bool
+has_in e l = has_at e l 0 || (has_at e l 1 || (has_at e l 2 || has_at e l 3))
+
+-- and the line has a name for it
+abbrev pub is_seen_in : Expectation → LineKept → Bool
+is_seen_in e l = is_on e l.name && has_in e l
+
+-- its line is among these, and none of its words came
+abbrev pub is_missing_in : List LineKept → Expectation → Bool
+is_missing_in lines e = list_any (λ l. is_on e l.name) lines && not (list_any (is_seen_in e) lines)
+
+-- its row, if it is missing
+abbrev pub missing_in : List LineKept → Expectation → List (List Field)
+missing_in lines e = missing_if e (is_missing_in lines e)

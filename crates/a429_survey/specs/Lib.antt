@@ -4,3 +4,4 @@ pub mod Pairs
 pub mod Past
 pub mod Survey
 pub mod Starts
+pub mod Expected

@@ -1,13 +1,14 @@
 //! The cells of a row.
-ghost use Rattle.std.specs.Prelude.{◌≡◌, ◌<◌, ◌∷◌, ◌++◌, ◌-◌, [], map};
+ghost use Rattle.std.specs.Prelude.{◌≡◌, ◌<◌, ◌∷◌, ◌++◌, ◌-◌, [], map, OnOk};
 ghost use Rattle.a429_text.specs.Sheets.{field_of};
 ghost use Rattle.a429_survey.specs.Figures.{tenths_field};
 ghost use Rattle.a429_text.specs.Fields.{Text};
 ghost use Rattle.a429_survey.specs.Survey.{sdi_text};
-ghost use Rattle.a429_survey.specs.Kept.{interval_in, load_in, mean_in, row_with, span_in};
+ghost use Rattle.a429_survey.specs.Kept.{interval_in, load_in, mean_in, row_with, span_in, wider_row};
 
 use crate::figures::Figures;
-use a429_text::{Cell, Rows};
+use a429_text::{Cell, Row, Rows};
+use std::alloc::{AllocError, Global};
 
 /// The time that a word takes at 1 bit/s, in microseconds, times the 1000 tenths of a percent in a whole: 36 bit times.
 const WORD_SHARE: u128 = 36 * 1_000_000 * 1000;
@@ -122,4 +123,31 @@ pub fn add_row(
     ensures { rows.new ≡ rows.old ++ row_with name.now label.entry sdi.entry load.entry figures.now ∷ [] }
 {
     rows.add(&cells(name, label, sdi, load, figures));
+}
+
+/// Adds the row of some words, with how many of them have each SSM and with what a table says at its end. Error: an allocation
+/// failed.
+pub fn add_wider(
+    rows: &mut Rows,
+    alloc: Global,
+    name: &str,
+    label: Cell<'_>,
+    sdi: Cell<'_>,
+    load: Cell<'_>,
+    figures: &Figures,
+    says: Cell<'_>,
+) -> Result<(), AllocError>
+    ensures { OnOk result (rows.new
+        ≡ rows.old ++ wider_row (row_with name.now label.entry sdi.entry load.entry figures.now) figures.now (field_of says.entry) ∷ []) }
+{
+    let row = Row::of(alloc, &cells(name, label, sdi, load, figures));
+    let ssm = &figures.ssm;
+    let more = [
+        Cell::Number(ssm.zero),
+        Cell::Number(ssm.one),
+        Cell::Number(ssm.two),
+        Cell::Number(ssm.three),
+        says,
+    ];
+    rows.add_wider(&row, &more)
 }

@@ -1,7 +1,16 @@
 //! The figures of some words.
 ghost use Rattle.std.specs.Prelude.{◌≡◌, ◌<◌, ◌==◌, if◌then◌else◌, min};
-ghost use Rattle.a429_word.specs.Bits.{has_odd_parity};
-ghost use Rattle.a429_survey.specs.Kept.{figures_with, first_figures, next_figures, no_figures, place_of};
+ghost use Rattle.a429_word.specs.Bits.{has_odd_parity, ssm_of};
+ghost use Rattle.a429_survey.specs.Kept.{counted, figures_with, first_figures, next_figures, no_figures, no_ssm, place_of, ssm_with};
+
+/// How many words have each SSM.
+#[derive(Clone, Copy)]
+pub struct SsmCounts {
+    pub zero: u64,
+    pub one: u64,
+    pub two: u64,
+    pub three: u64,
+}
 
 /// The figures of some words of a recording, with times and intervals in microseconds. All are 0 if there is no word.
 #[derive(Clone, Copy)]
@@ -20,6 +29,7 @@ pub struct Figures {
     pub last: u64,
     /// The bits of the last word.
     pub last_word: u32,
+    pub ssm: SsmCounts,
 }
 
 /// Whether an odd number of the bits are ones.
@@ -41,6 +51,52 @@ pub fn place_of(raw: u32) -> usize
     4 * usize::from(low.reverse_bits()) + sdi as usize
 }
 
+/// The SSM of a word.
+#[tactic(auto, using(a429_word::proofs::Fields::ssm_is))]
+fn ssm_of(raw: u32) -> u32
+    ensures { result ≡ ssm_of raw }
+{
+    (raw >> 29) & 3
+}
+
+/// A count, after a word that may be counted. A count that is 2^64 - 1 stays.
+fn counted(is_counted: bool, count: u64) -> u64
+    ensures { result ≡ counted is_counted count }
+{
+    if is_counted {
+        count.saturating_add(1)
+    } else {
+        count
+    }
+}
+
+impl SsmCounts {
+    /// Those of no word.
+    fn none() -> SsmCounts
+        ensures { result ≡ no_ssm }
+    {
+        SsmCounts {
+            zero: 0,
+            one: 0,
+            two: 0,
+            three: 0,
+        }
+    }
+
+    /// Those after one more word.
+    fn with(&self, raw: u32) -> SsmCounts
+        ensures { result ≡ ssm_with raw self.now }
+    {
+        let ssm = ssm_of(raw);
+        SsmCounts {
+            zero: counted(ssm == 0, self.zero),
+            one: counted(ssm == 1, self.one),
+            two: counted(ssm == 2, self.two),
+            three: counted(ssm == 3, self.three),
+        }
+    }
+}
+
 impl Figures {
     /// The figures of no word.
     pub fn none() -> Figures
@@ -54,6 +110,7 @@ impl Figures {
             first: 0,
             last: 0,
             last_word: 0,
+            ssm: SsmCounts::none(),
         }
     }
 
@@ -69,6 +126,7 @@ impl Figures {
             first: time,
             last: time,
             last_word: raw,
+            ssm: SsmCounts::none().with(raw),
         }
     }
 
@@ -110,6 +168,7 @@ impl Figures {
             first: self.first,
             last: time,
             last_word: raw,
+            ssm: self.ssm.with(raw),
         }
     }
 }

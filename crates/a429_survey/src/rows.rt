@@ -3,7 +3,8 @@ ghost use Rattle.std.specs.Prelude.{◌≡◌, ◌<◌, ◌∷◌, ◌++◌, [],
 ghost use Rattle.std.specs.List.{range_with_len};
 ghost use Rattle.a429_survey.specs.Kept.{end_by, label_in, pair_by, pair_in, rows_in};
 
-use crate::cells::{add_row, load_cell, sdi_cell};
+use crate::cells::{add_row, add_wider, load_cell, sdi_cell};
+use crate::expected::{Expected, verdict};
 use crate::figures::Figures;
 use crate::lines::Line;
 use crate::starts::add_start;
@@ -12,9 +13,11 @@ use std::alloc::{AllocError, Global};
 
 /// Which rows are asked for.
 #[derive(Clone, Copy)]
-pub enum RowKind {
+pub enum RowKind<'a> {
     /// The figures of the words.
     Figures,
+    /// The figures, and what a table says of them that expects these words.
+    Compared(&'a [Expected<'a>]),
     /// The start of a table, with intervals widened by this part of them, in per cent.
     Starts(u32),
 }
@@ -23,7 +26,7 @@ pub enum RowKind {
 fn add_figures(
     rows: &mut Rows,
     alloc: Global,
-    kind: RowKind,
+    kind: RowKind<'_>,
     rate: u32,
     name: &str,
     label: u8,
@@ -31,7 +34,7 @@ fn add_figures(
     figures: &Figures,
 ) -> Result<(), AllocError>
     requires { sdi < 4 }
-    ensures { OnOk result (rows.new ≡ rows.old ++ pair_by kind rate name.now label sdi figures.now ∷ []) }
+    ensures { OnOk result (rows.new ≡ rows.old ++ pair_by kind.entry rate name.now label sdi figures.now ∷ []) }
 {
     match kind {
         RowKind::Figures => {
@@ -46,6 +49,11 @@ fn add_figures(
             Ok(())
         }
         RowKind::Starts(slack) => add_start(rows, alloc, slack, rate, name, label, sdi, figures),
+        RowKind::Compared(expected) => {
+            let says = Cell::Text(verdict(expected, name, label, sdi, figures));
+            let (label, sdi) = (Cell::Octal(label), sdi_cell(sdi));
+            add_wider(rows, alloc, name, label, sdi, Cell::Absent, figures, says)
+        }
     }
 }
 
@@ -54,14 +62,14 @@ fn add_figures(
 fn add_pair(
     rows: &mut Rows,
     alloc: Global,
-    kind: RowKind,
+    kind: RowKind<'_>,
     rate: u32,
     line: &Line,
     label: u8,
     sdi: u8,
 ) -> Result<(), AllocError>
     requires { sdi < 4 }
-    ensures { OnOk result (rows.new ≡ rows.old ++ pair_in kind rate line.now label sdi) }
+    ensures { OnOk result (rows.new ≡ rows.old ++ pair_in kind.entry rate line.now label sdi) }
 {
     let figures = line.at(label, sdi);
     if figures.words == 0 {
@@ -83,12 +91,12 @@ fn add_pair(
 fn add_label(
     rows: &mut Rows,
     alloc: Global,
-    kind: RowKind,
+    kind: RowKind<'_>,
     rate: u32,
     line: &Line,
     label: u8,
 ) -> Result<(), AllocError>
-    ensures { OnOk result (rows.new ≡ rows.old ++ label_in kind rate line.now label) }
+    ensures { OnOk result (rows.new ≡ rows.old ++ label_in kind.entry rate line.now label) }
 {
     for sdi in 0..4 {
         add_pair(rows, alloc, kind, rate, line, label, sdi)?;
@@ -100,11 +108,11 @@ fn add_label(
 fn add_labels(
     rows: &mut Rows,
     alloc: Global,
-    kind: RowKind,
+    kind: RowKind<'_>,
     rate: u32,
     line: &Line,
 ) -> Result<(), AllocError>
-    ensures { OnOk result (rows.new ≡ rows.old ++ flat_map (label_in kind rate line.now) (range_with_len 0 256)) }
+    ensures { OnOk result (rows.new ≡ rows.old ++ flat_map (label_in kind.entry rate line.now) (range_with_len 0 256)) }
 {
     for label in 0..256u32 {
         add_label(rows, alloc, kind, rate, line, label as u8)?;
@@ -112,17 +120,29 @@ fn add_labels(
     Ok(())
 }
 
-/// Adds what follows the rows of each label.
-fn add_end(rows: &mut Rows, kind: RowKind, rate: u32, line: &Line)
-    ensures { rows.new ≡ rows.old ++ end_by kind rate line.now }
+/// Adds what follows the rows of each label. Error: an allocation failed.
+fn add_end(
+    rows: &mut Rows,
+    alloc: Global,
+    kind: RowKind<'_>,
+    rate: u32,
+    line: &Line,
+) -> Result<(), AllocError>
+    ensures { OnOk result (rows.new ≡ rows.old ++ end_by kind.entry rate line.now) }
 {
+    let none = Cell::Absent;
+    let name = line.name().as_str();
     match kind {
         RowKind::Figures => {
             let load = load_cell(rate, line.all());
-            let name = line.name().as_str();
-            add_row(rows, name, Cell::Absent, Cell::Absent, load, line.all());
+            add_row(rows, name, none, none, load, line.all());
+            Ok(())
         }
-        RowKind::Starts(_) => {}
+        RowKind::Starts(_) => Ok(()),
+        RowKind::Compared(_) => {
+            let load = load_cell(rate, line.all());
+            add_wider(rows, alloc, name, none, none, load, line.all(), none)
+        }
     }
 }
 
@@ -130,20 +150,24 @@ fn add_end(rows: &mut Rows, kind: RowKind, rate: u32, line: &Line)
 fn add_line(
     rows: &mut Rows,
     alloc: Global,
-    kind: RowKind,
+    kind: RowKind<'_>,
     rate: u32,
     line: &Line,
 ) -> Result<(), AllocError>
-    ensures { OnOk result (rows.new ≡ rows.old ++ rows_in kind rate line.now) }
+    ensures { OnOk result (rows.new ≡ rows.old ++ rows_in kind.entry rate line.now) }
 {
     add_labels(rows, alloc, kind, rate, line)?;
-    add_end(rows, kind, rate, line);
-    Ok(())
+    add_end(rows, alloc, kind, rate, line)
 }
 
 /// The rows of each name, in order. Error: an allocation failed.
-pub fn rows_of(alloc: Global, kind: RowKind, rate: u32, lines: &[Line]) -> Result<Rows, AllocError>
-    ensures { IfOk result (λ rows. rows ≡ flat_map (rows_in kind rate) lines.now) }
+pub fn rows_of(
+    alloc: Global,
+    kind: RowKind<'_>,
+    rate: u32,
+    lines: &[Line],
+) -> Result<Rows, AllocError>
+    ensures { IfOk result (λ rows. rows ≡ flat_map (rows_in kind.entry rate) lines.now) }
 {
     let mut rows = Rows::new(alloc);
     for line in lines {

@@ -1,9 +1,12 @@
 //! The survey of a recording.
 ghost use Rattle.std.specs.Prelude.{◌≡◌, ◌↔◌, ◌++◌, ◌∷◌, ◌-◌, ◌^◌, [], length, map, IfOk, OnOk, OnErr, IsErrOf};
+ghost use Rattle.a429_survey.specs.Expected.{compared_columns, compared_rows};
 ghost use Rattle.a429_survey.specs.Starts.{start_columns, start_rows};
 ghost use Rattle.a429_survey.specs.Survey.{survey_columns, survey_rows};
 
+use crate::expected::Expected;
 use crate::lines::Line;
+use crate::missing::add_missing;
 use crate::names::note_word;
 use crate::past::Past;
 use crate::rows::{RowKind, rows_of};
@@ -28,6 +31,27 @@ const COLUMNS: &[&str] = &[
     "load",
 ];
 
+/// The names of the columns if a table is compared.
+const COMPARED_COLUMNS: &[&str] = &[
+    "name",
+    "label",
+    "sdi",
+    "words",
+    "even",
+    "least_us",
+    "mean_us",
+    "greatest_us",
+    "first_us",
+    "last_us",
+    "last_word",
+    "load",
+    "ssm_0",
+    "ssm_1",
+    "ssm_2",
+    "ssm_3",
+    "table",
+];
+
 /// The names of the columns of rows that start a table.
 const START_COLUMNS: &[&str] = &[
     "group", "rate", "source", "receiver", "label", "sdi", "min_us", "max_us",
@@ -45,7 +69,7 @@ pub enum NoteFault {
 }
 
 /// What is on the lines of a recording. Clauses see all words that were noted, oldest first. A program keeps figures: it
-/// needs some 200 bytes for each name and 100 for each label and SDI of it, and nothing for a word.
+/// needs some 200 bytes for each name and 130 for each label and SDI of it, and nothing for a word.
 #[derive(Drop)]
 pub struct Survey {
     alloc: Global,
@@ -117,6 +141,28 @@ impl Survey {
         let rows = rows_of(alloc, RowKind::Figures, rate, &self.lines)?;
         Ok(Sheet {
             columns: COLUMNS,
+            rows,
+        })
+    }
+
+    /// The same with how many words have each SSM, and with a column `table`: what a table says that expects these words. It is `expected` or `unexpected`, or how
+    /// the words of a group come: `fast`, if their least interval is less than the least that is expected, or `slow`, if the
+    /// greatest is more than the greatest. Nothing is said in the row of all words. Rows of expected words that are `missing`
+    /// follow, if a name of the recording is for their line. `has_finding` says whether a row has another text than
+    /// `expected`. Error: an allocation failed.
+    pub fn compared_sheet(
+        &self,
+        alloc: Global,
+        rate: u32,
+        expected: &[Expected<'_>],
+    ) -> Result<Sheet, AllocError>
+        ensures columns { IfOk result (λ sheet. map (λ name. name.now) sheet.columns.now ≡ compared_columns) }
+        ensures rows { IfOk result (λ sheet. sheet.rows ≡ compared_rows expected.now rate self.now) }
+    {
+        let mut rows = rows_of(alloc, RowKind::Compared(expected), rate, &self.lines)?;
+        add_missing(&mut rows, expected, &self.lines);
+        Ok(Sheet {
+            columns: COMPARED_COLUMNS,
             rows,
         })
     }
