@@ -1,4 +1,5 @@
 -- How the library `csv` passes a byte (vocabulary of contracts).
+use Rattle.std.specs.Prelude.{Bool, false, true}
 use Rattle.csv.specs.declared.parser.Action.{Action}
 use Rattle.csv.specs.declared.parser.Action.TheVariants as act
 use Rattle.csv.specs.declared.parser.State.{State}
@@ -23,3 +24,8 @@ ended_by act.Skip = ends.Nothing
 ended_by act.Copy = ends.Nothing
 ended_by act.EndField = ends.Field
 ended_by act.EndRecord = ends.Row
+
+-- that was a row
+abbrev pub ends_row : Ended → Bool
+ends_row ends.Row = true
+ends_row _ = false

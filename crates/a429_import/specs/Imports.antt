@@ -28,6 +28,7 @@ use Rattle.a429_import.specs.FilledLines.{AreFilledBelow}
 use Rattle.a429_import.specs.KeyedLines.{AreKeyed}
 use Rattle.a429_import.specs.KeptFields.{kept_of}
 use Rattle.a429_import.specs.Renamed.{all_renamed}
+use Rattle.a429_import.specs.RowLines.{row_lines}
 use Rattle.a429_import.specs.TableTexts.{IsTableText}
 
 -- the result is the one of the rows, unless an allocation failed; the fault of a table cannot come here
@@ -49,14 +50,15 @@ is_filled field = not (length field == 0)
 abbrev pub has_text : List (List ℕ) → Bool
 has_text fields = list_any is_filled fields
 
--- the rows of a text from its heading on, as the library `csv` reads them, each with its line and its separator; without blanks round fields, and
--- without the rows whose fields are all empty
+-- the rows of a text from its heading on, as the library `csv` reads them, each with its separator and the line of the text on which it begins; without
+-- blanks round fields, and without the rows whose fields are all empty
 pub record AreLines (maps : List (List ℕ)) (text : List ℕ) (lines : List CsvLine) : Type 0 where
   pub all : List CsvLine
   pub rows : List (List (List ℕ))
   pub records : AreRecords (separated (separator_in maps text)) st.StartRecord (strip_bom (from_heading maps text)) rows
   pub fields : map (λ l. fields_of l.fields) all ≡ map (map trimmed) rows
   pub separators : AllByRecursion (λ l. l.separator ≡ separator_in maps text) all
+  pub numbers : map (λ l. l.number) all ≡ row_lines (separated (separator_in maps text)) text (length all) (from_heading maps text)
   pub filled : lines ≡ filter (λ l. has_text (fields_of l.fields)) all
 
 -- the same, with the names of the heading by texts HEADING=COLUMN

@@ -20,6 +20,8 @@ pub mod NumberRanges
 pub mod PrintedTables
 pub mod Imports
 pub mod ImportSteps
+pub mod RowLines
+pub mod LineCounts
 pub mod ImportedRows
 pub mod FirstRows
 pub mod ImportClashes

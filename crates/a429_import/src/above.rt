@@ -5,14 +5,14 @@ ghost use Rattle.csv.specs.Reading.{owned_rows_left, owned_rows_reader, strip_bo
 ghost use Rattle.csv.specs.Records.{fields_of};
 ghost use Rattle.a429_import.specs.ImportAbove.{first_row, has_data, has_data_above, is_data};
 ghost use Rattle.a429_import.specs.ImportMaps.{given_texts, names_by};
-ghost use Rattle.a429_import.specs.ImportReading.{HasRead};
+ghost use Rattle.a429_import.specs.ImportReading.{IsUnread};
 ghost use Rattle.a429_import.specs.Imports.{separated};
 
 use crate::columns::Heading;
 use crate::fault::ImportColumn;
 use crate::fields::label_in;
 use crate::forms::{Form, text_before};
-use crate::lines::{CsvLine, LineCount, line_of, rows_of};
+use crate::lines::{CsvLine, count_before, line_of, rows_of};
 use crate::maps::named_by;
 use csv::{ByteRecord, ByteRecordsIntoIter};
 use std::alloc::{AllocError, Global};
@@ -23,13 +23,14 @@ fn first_line(
     form: Form<'_>,
     rows: &mut ByteRecordsIntoIter<&[u8]>,
 ) -> Result<CsvLine, AllocError>
-    requires before { HasRead form.separator form.text.now (owned_rows_reader rows.old) [] }
+    requires before { IsUnread form.separator form.text.now (owned_rows_reader rows.old) }
     requires left { 0 < owned_rows_left rows.old }
     ensures { IfOk result (λ line. fields_of line.fields ≡ first_row (separated form.entry.separator) form.entry.text.now) }
 {
+    let mut count = count_before(form.text, form.text);
     match rows.next() {
         Some(row) => {
-            let line = line_of(alloc, form, &mut LineCount::new(), row)?;
+            let line = line_of(alloc, form.text, form, &mut count, row)?;
             Ok(line)
         }
         None => Ok(CsvLine {
@@ -79,15 +80,15 @@ fn data_line(
     form: Form<'_>,
     rows: &mut ByteRecordsIntoIter<&[u8]>,
 ) -> Result<Option<u64>, AllocError>
-    requires before { HasRead form.separator form.text.now (owned_rows_reader rows.old) [] }
+    requires before { IsUnread form.separator form.text.now (owned_rows_reader rows.old) }
     requires left { 0 < owned_rows_left rows.old }
     ensures { IfOk result (λ line. is_some line
         ≡ has_data (separated form.entry.separator) (fields_of heading.now.line.fields) form.entry.text.now) }
 {
-    let mut count = LineCount::new();
+    let mut count = count_before(form.text, form.text);
     let mut found = None;
     for row in rows {
-        let line = line_of(alloc, form, &mut count, row)?;
+        let line = line_of(alloc, form.text, form, &mut count, row)?;
         found = found_at(found, heading, &line);
     }
     Ok(found)

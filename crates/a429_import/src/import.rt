@@ -11,6 +11,7 @@ ghost use Rattle.a429_import.specs.ImportReading.{HasRows, HaveRows, StandsFor};
 ghost use Rattle.a429_import.specs.Imports.{IsImport, IsImportFrom, IsTableBy, IsTableOf, IsTextFault, separated};
 ghost use Rattle.a429_import.specs.KeptFields.{AreKept, lines_kept};
 ghost use Rattle.a429_import.specs.Known.{Knows};
+ghost use Rattle.a429_import.specs.LineCounts.{IsEnd};
 ghost use Rattle.a429_import.specs.NumberRanges.{HaveRanges};
 ghost use Rattle.a429_import.specs.Renamed.{all_renamed};
 ghost use Rattle.a429_import.specs.TableTexts.{AreSound, rows_before};
@@ -232,6 +233,7 @@ fn unfit_line(
     form: Form<'_>,
     refused: &mut Option<RefusedRows>,
 ) -> Result<Option<u64>, AllocError>
+    requires { IsEnd text.now form.text.now }
     ensures { IfOk result (λ line. is_some line ≡ (has_wrong_quotes (separated form.entry.separator) form.entry.text.now text.now
         || has_data_above (separated form.entry.separator) (given_texts maps.now) form.entry.text.now text.now)) }
 {

@@ -6,8 +6,9 @@ ghost use Rattle.csv.specs.declared.parser.State.TheVariants as st;
 ghost use Rattle.a429_import.specs.ImportQuotes.{breaks_quotes, has_wrong_quotes, is_after_quote, is_in_text, is_inside_quotes, is_misquoted, is_misquoted_from, text_before};
 ghost use Rattle.a429_import.specs.ImportSteps.{state_of};
 ghost use Rattle.a429_import.specs.Imports.{separated};
+ghost use Rattle.a429_import.specs.LineCounts.{IsEnd};
 
-use crate::forms::{Form, text_before, without_mark};
+use crate::forms::{Form, from_place, text_before, without_mark};
 use crate::lines::line_at;
 use crate::steps::{Ended, Part, pass};
 
@@ -85,9 +86,10 @@ fn misquoted_place(of_rows: bool, separator: u8, text: &[u8]) -> Option<usize>
 fn line_above(text: &[u8], form: Form<'_>) -> Option<u64>
     ensures { is_some result ≡ is_misquoted false (separated form.entry.separator) (text_before form.entry.text.now text.now) }
 {
-    let lines = without_mark(text_before(form.text, text));
+    let before = text_before(form.text, text);
+    let lines = without_mark(before);
     match misquoted_place(false, form.separator, lines) {
-        Some(place) => Some(line_at(text, text, lines, place)),
+        Some(place) => Some(line_at(before, from_place(lines, place))),
         None => None,
     }
 }
@@ -95,11 +97,12 @@ fn line_above(text: &[u8], form: Form<'_>) -> Option<u64>
 /// The line on which the first such field begins from the heading on.
 #[tactic(auto, using(crate::proofs::ImportQuotes::same_mark))]
 fn line_of_rows(text: &[u8], form: Form<'_>) -> Option<u64>
+    requires { IsEnd text.now form.text.now }
     ensures { is_some result ≡ is_misquoted true (separated form.entry.separator) form.entry.text.now }
 {
     let rows = without_mark(form.text);
     match misquoted_place(true, form.separator, rows) {
-        Some(place) => Some(line_at(text, form.text, rows, place)),
+        Some(place) => Some(line_at(text, from_place(rows, place))),
         None => None,
     }
 }
@@ -107,6 +110,7 @@ fn line_of_rows(text: &[u8], form: Form<'_>) -> Option<u64>
 /// The line on which the first field begins that does not end as a field in quotes does, counted from 1. `None` if there
 /// is no such field. The form is that of the text.
 pub fn misquoted_line_of(text: &[u8], form: Form<'_>) -> Option<u64>
+    requires { IsEnd text.now form.text.now }
     ensures { is_some result ≡ has_wrong_quotes (separated form.entry.separator) form.entry.text.now text.now }
 {
     match line_above(text, form) {

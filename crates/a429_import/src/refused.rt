@@ -1,5 +1,6 @@
 //! The rows of a refused sheet, for a person: those that say something new, and the first ones with a fault. No contract
 //! rests on them.
+ghost use Rattle.a429_import.specs.LineCounts.{IsEnd};
 
 use crate::columns::Heading;
 use crate::forms::Form;
@@ -169,14 +170,17 @@ pub fn misquoted_rows(alloc: Global) -> RefusedRows {
 }
 
 /// A text with a row of data above its heading. Error: an allocation failed.
-pub fn titled_rows(alloc: Global, text: &[u8], form: Form<'_>) -> Result<RefusedRows, AllocError> {
+pub fn titled_rows(alloc: Global, text: &[u8], form: Form<'_>) -> Result<RefusedRows, AllocError>
+    requires { IsEnd text.now form.text.now }
+{
     let mut refused = RefusedRows::new(alloc);
     let mut rows = rows_of(alloc, form);
     let first = rows.next();
     // One call, instead of a drop of each of its parts.
     std::mem::drop(rows);
     if let Some(row) = first {
-        let titles = line_of(alloc, form, &mut count_before(text, form.text), row)?;
+        let mut count = count_before(text, form.text);
+        let titles = line_of(alloc, text, form, &mut count, row)?;
         refused.titles = Some(titles);
     }
     Ok(refused)

@@ -10,6 +10,6 @@ abbrev pub invariant-loop-row : goal.invariant-loop-row
 invariant-loop-row l = record {
   turns : 0 < l.row-iterator.left;
   all : List CsvLine;
-  read : HasRead l.form.separator l.form.text.now l.row-iterator.rdr all;
+  read : HasRead l.form.separator l.form.text.now l.form.text.now l.row-iterator.rdr l.count all;
   found : is_some l.found ≡ has_data_line (fields_of l.heading.line.fields) all;
 }
