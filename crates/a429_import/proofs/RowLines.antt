@@ -38,7 +38,7 @@ after_more a [] i below = absurd (omega (arith, below))
 after_more a (b ∷ text) zero below = refl
 after_more a (b ∷ text) (suc i) below = after_more (b == 13) text i (omega (arith, below))
 
--- where in a row a byte is makes no difference
+-- the place in a row makes no difference
 pub part_passed : (text : List ℕ) (count : LineCount) (part : Part) → HasCounted text count → HasCounted text (record count { part = part })
 part_passed text count part counted = record { within = counted.within; ended = counted.ended; after = counted.after; few = counted.few }
 

@@ -4,25 +4,29 @@ ghost use Rattle.csv.specs.Records.{fields_of, partial_of};
 ghost use Rattle.a429_import.specs.declared.fault.ImportColumn.TheVariants.{Source};
 ghost use Rattle.a429_import.specs.ImportFields.{field_in};
 ghost use Rattle.a429_import.specs.ImportRows.{column_field};
-ghost use Rattle.a429_import.specs.KeyedLines.{IsKeyedLine, end_in, is_place, key_end, keyed_fields, keyed_text, with_text};
+ghost use Rattle.a429_import.specs.KeyedLines.{IsKeyedLine, end_in, is_place, key_end, keyed_text, with_text};
 
 use crate::columns::Heading;
 use crate::fault::ImportColumn;
 use crate::fields::{label_in, sdi_in, text_in};
 use crate::lines::CsvLine;
 use crate::made_names::put_label_end;
-use a429_text::Text;
 use a429_word::{Label, Sdi};
 use csv::ByteRecord;
 use std::alloc::{AllocError, Global};
 
-/// Writes what comes after the text of a source in its key: its receiver, its label and its SDI.
-fn put_key_end(key: &mut Text, receiver: &str, label: Label, sdi: Option<Sdi>)
-    ensures { key.new ≡ key.old ++ key_end receiver.now label sdi }
+/// Writes what comes after the text of a source in its key: its receiver, its label and its SDI. Error: an allocation failed.
+fn put_key_end(
+    key: &mut Vec<u8>,
+    receiver: &str,
+    label: Label,
+    sdi: Option<Sdi>,
+) -> Result<(), AllocError>
+    ensures { OnOk result (key.new.items ≡ key.old.items ++ key_end receiver.now label sdi) }
 {
-    key.put_bytes(&[0]);
-    key.put(receiver);
-    put_label_end(key, label, sdi);
+    key.extend_from_slice(&[0])?;
+    key.extend_from_slice(receiver.as_bytes())?;
+    put_label_end(key, label, sdi)
 }
 
 /// The same as bytes. Error: an allocation failed.
@@ -34,37 +38,37 @@ pub fn key_end(
 ) -> Result<Vec<u8>, AllocError>
     ensures { IfOk result (λ end. end.items ≡ key_end receiver.now label sdi) }
 {
-    let mut end = Text::new(alloc);
-    put_key_end(&mut end, receiver, label, sdi);
-    end.into_bytes()
+    let mut end = Vec::new(alloc);
+    put_key_end(&mut end, receiver, label, sdi)?;
+    Ok(end)
 }
 
-/// Writes the same of a line; nothing if the line does not state it.
+/// Writes the same of a line; nothing if the line does not state it. Error: an allocation failed.
 #[tactic(auto, unfolding(crate::specs::KeyedLines::end_in))]
-fn put_end(key: &mut Text, heading: &Heading, line: &CsvLine)
-    ensures { key.new ≡ key.old ++ end_in (fields_of heading.now.line.fields) (fields_of line.now.fields) }
+fn put_end(key: &mut Vec<u8>, heading: &Heading, line: &CsvLine) -> Result<(), AllocError>
+    ensures { OnOk result (key.new.items ≡ key.old.items ++ end_in (fields_of heading.now.line.fields) (fields_of line.now.fields)) }
 {
     let receiver = text_in(heading.field_of(line, ImportColumn::Receiver));
     let label = label_in(heading.field_of(line, ImportColumn::Label));
     let sdi = sdi_in(heading.field_of(line, ImportColumn::Sdi));
     match (receiver, label, sdi) {
         (Some(receiver), Some(label), Some(sdi)) => put_key_end(key, receiver, label, sdi),
-        _ => {}
+        _ => Ok(()),
     }
 }
 
-/// The key of the source of a line; nothing if the line has no source. Error: an allocation failed.
-fn key_in(alloc: Global, heading: &Heading, line: &CsvLine) -> Result<Vec<u8>, AllocError>
-    ensures { IfOk result (λ key. key.items ≡ keyed_text (end_in (fields_of heading.now.line.fields) (fields_of line.now.fields))
+/// Writes the key of the source of a line; nothing if the line has no source. Error: an allocation failed.
+fn put_key(key: &mut Vec<u8>, heading: &Heading, line: &CsvLine) -> Result<(), AllocError>
+    requires { key.old.items ≡ [] }
+    ensures { OnOk result (key.new.items ≡ keyed_text (end_in (fields_of heading.now.line.fields) (fields_of line.now.fields))
         (column_field (fields_of heading.now.line.fields) (fields_of line.now.fields) Source)) }
 {
     let source = heading.field_of(line, ImportColumn::Source);
-    let mut key = Text::new(alloc);
-    key.put_bytes(source);
-    if !source.is_empty() {
-        put_end(&mut key, heading, line);
+    if source.is_empty() {
+        return Ok(());
     }
-    key.into_bytes()
+    key.extend_from_slice(source)?;
+    put_end(key, heading, line)
 }
 
 /// The field of a line at a place, or the key of its source if the source is there.
@@ -94,25 +98,45 @@ fn push_keyed(
     Ok(())
 }
 
-/// The fields of a line, with the key of its source. Error: an allocation failed.
-fn fields_keyed(alloc: Global, heading: &Heading, line: &CsvLine) -> Result<ByteRecord, AllocError>
-    ensures { IfOk result (λ fields. fields_of fields
-        ≡ keyed_fields (end_in (fields_of heading.now.line.fields) (fields_of line.now.fields)) (fields_of heading.now.line.fields) (fields_of line.now.fields)) }
-{
-    let key = key_in(alloc, heading, line)?;
-    let room = line.fields.as_slice().len().saturating_add(key.len());
-    let mut fields = ByteRecord::with_capacity(alloc, room, line.len())?;
-    push_keyed(&mut fields, line, heading.place(ImportColumn::Source), &key)?;
-    Ok(fields)
+/// Room for a line with the key of its source. It is used for one line after the other.
+#[derive(Drop)]
+pub struct KeyedRoom {
+    pub key: Vec<u8>,
+    pub line: CsvLine,
 }
 
-/// A line below a heading, with the key of its source. Error: an allocation failed.
-pub fn keyed_line(alloc: Global, heading: &Heading, line: &CsvLine) -> Result<CsvLine, AllocError>
-    ensures { IfOk result (λ keyed. IsKeyedLine heading.now.line line.now keyed) }
+impl KeyedRoom {
+    /// Room that was not used.
+    pub fn new(alloc: Global) -> KeyedRoom {
+        KeyedRoom {
+            key: Vec::new(alloc),
+            line: CsvLine {
+                number: 1,
+                separator: b',',
+                fields: ByteRecord::new(alloc),
+            },
+        }
+    }
+}
+
+/// Writes a line below a heading, with the key of its source, in the place of another. Error: an allocation failed.
+pub fn write_keyed(
+    key: &mut Vec<u8>,
+    keyed: &mut CsvLine,
+    heading: &Heading,
+    line: &CsvLine,
+) -> Result<(), AllocError>
+    ensures { OnOk result (IsKeyedLine heading.now.line line.now keyed.new) }
 {
-    Ok(CsvLine {
-        number: line.number,
-        separator: line.separator,
-        fields: fields_keyed(alloc, heading, line)?,
-    })
+    key.clear();
+    put_key(key, heading, line)?;
+    keyed.number = line.number;
+    keyed.separator = line.separator;
+    keyed.fields.clear();
+    push_keyed(
+        &mut keyed.fields,
+        line,
+        heading.place(ImportColumn::Source),
+        key,
+    )
 }

@@ -1,5 +1,6 @@
 //! The rows of a refused sheet, for a person: those that say something new, and the first ones with a fault. No contract
 //! rests on them.
+ghost use Rattle.std.specs.Prelude.{◌≡◌, IfOk};
 ghost use Rattle.a429_import.specs.LineCounts.{IsEnd};
 
 use crate::columns::Heading;
@@ -58,7 +59,9 @@ pub fn before_line(read: &LinesRead) -> Before {
 }
 
 /// A copy of a line. Error: an allocation failed.
-pub fn copy_of_line(line: &CsvLine) -> Result<CsvLine, AllocError> {
+pub fn copy_of_line(line: &CsvLine) -> Result<CsvLine, AllocError>
+    ensures { IfOk result (λ copy. copy ≡ line.now) }
+{
     Ok(CsvLine {
         number: line.number,
         separator: line.separator,

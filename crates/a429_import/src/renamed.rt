@@ -21,7 +21,6 @@ use crate::named_rows::NamedRows;
 use crate::names::Names;
 use crate::reading::{RowsRead, push_row};
 use crate::rows::{ImportRow, RowFields, TextFields};
-use a429_text::Text;
 use std::alloc::{AllocError, Global};
 
 /// How many texts of a column are kept apart: as many as a table has sources at most.
@@ -92,12 +91,12 @@ fn base_of(alloc: Global, part: Part, row: &ImportRow) -> Result<Vec<u8>, AllocE
 fn end_of(alloc: Global, part: Part, row: &ImportRow) -> Result<Vec<u8>, AllocError>
     ensures { IfOk result (λ end. end.items ≡ end_of part row.now) }
 {
-    let mut end = Text::new(alloc);
+    let mut end = Vec::new(alloc);
     match part {
-        Part::Sources => put_label_end(&mut end, row.numbers.label, row.numbers.sdi),
+        Part::Sources => put_label_end(&mut end, row.numbers.label, row.numbers.sdi)?,
         Part::Receivers | Part::Groups => {}
     }
-    end.into_bytes()
+    Ok(end)
 }
 
 /// Whether a name is one of these, or of others.
