@@ -19,6 +19,7 @@ pub mod Flags
 mod Lookups
 pub mod FewRows
 pub mod RowLines
+pub mod FaultLines
 pub mod ImportForms
 pub mod ImportQuotes
 pub mod ImportAbove

@@ -29,3 +29,8 @@ ended_by act.EndRecord = ends.Row
 abbrev pub ends_row : Ended → Bool
 ends_row ends.Row = true
 ends_row _ = false
+
+-- that was a field, which may be the last of its row
+abbrev pub ends_field : Ended → Bool
+ends_field ends.Nothing = false
+ends_field _ = true

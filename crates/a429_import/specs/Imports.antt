@@ -17,6 +17,7 @@ use Rattle.a429_import.specs.declared.fault.ImportFault.{ImportFault}
 use Rattle.a429_import.specs.declared.fault.ImportFault.TheVariants.{NoMemory, Csv, Table}
 use Rattle.a429_import.specs.declared.lines.CsvLine.{CsvLine}
 use Rattle.a429_import.specs.declared.rows.ImportRow.{ImportRow}
+use Rattle.a429_import.specs.FaultLines.{fault_line}
 use Rattle.a429_import.specs.ImportAbove.{has_data_above}
 use Rattle.a429_import.specs.ImportForms.{from_heading, separator_in}
 use Rattle.a429_import.specs.ImportMaps.{AreNamedBy}
@@ -127,10 +128,13 @@ abbrev pub IsFilledImport : Bool → Bool → List CsvLine → Result Imported I
 IsFilledImport false makes_names lines result = IsImportBy makes_names lines result
 IsFilledImport true makes_names lines result = (filled : List CsvLine) × AreFilledBelow lines filled × IsImportBy makes_names filled result
 
--- the import of a text, unless its quotes are wrong or a row of data is above its heading: then no other line is looked at. The line of that fault
--- is not stated
+-- the line of the fault that comes before those of rows
+abbrev pub text_fault_line : List (List ℕ) → List ℕ → Option ℕ
+text_fault_line maps text = fault_line (separated (separator_in maps text)) maps (from_heading maps text) text
+
+-- the import of a text, unless its quotes are wrong or a row of data is above its heading: then no other line is looked at
 abbrev pub IsImportIf : Bool → List (List ℕ) → ImportOptions → List ℕ → Result Imported ImportFault → Type 0
-IsImportIf true maps options text result = (line : ℕ) × (result ≡ Err (Csv line Form None))
+IsImportIf true maps options text result = (line : ℕ) × (text_fault_line maps text ≡ Some line) × (result ≡ Err (Csv line Form None))
 IsImportIf false maps options text result =
     (lines : List CsvLine) × AreNamedLines maps text lines × IsFilledImport options.fills options.makes_names lines result
 

@@ -21,6 +21,7 @@ pub mod PrintedTables
 pub mod Imports
 pub mod ImportSteps
 pub mod RowLines
+pub mod FaultLines
 pub mod LineCounts
 pub mod ImportedRows
 pub mod FirstRows
