@@ -1,9 +1,9 @@
 -- On which line the fault is that comes before those of rows.
-use Rattle.std.proofs.Common.{◌≡◌, ◌∙◌, ◌+◌, ◌<◌, ◌≤◌, ℕ, suc, Bool, true, false, cond, List, [], ◌∷◌, ◌++◌, Option, None, Some, ap, ap₂, arith, drop, get_or, length, map, refl, sym}
+use Rattle.std.proofs.Common.{◌≡◌, ◌∙◌, ◌+◌, ◌<◌, ◌≤◌, ℕ, Bool, true, false, cond, List, [], ◌∷◌, ◌++◌, Option, None, Some, ap, ap₂, arith, drop, get_or, length, map, refl, sym}
 use Rattle.std.specs.Option.{option_map, option_or}
 use Rattle.std.proofs.lemmas.List.{drop_all, drop_more, length-map, map-append}
 use Rattle.csv.specs.Machine.{step}
-use Rattle.csv.specs.Reading.{ReadRecord, records, strip_bom}
+use Rattle.csv.specs.Reading.{strip_bom}
 use Rattle.csv.specs.Records.{fields_of}
 use Rattle.csv.specs.declared.parser.Config.{Config}
 use Rattle.csv.specs.declared.parser.State.{State}
@@ -25,7 +25,7 @@ module _ (of_rows : Bool) (cfg : Config) where
   -- one more byte
   pub wrong_passed : (s : State) (field text : List ℕ) (i : ℕ) → i < length text → wrong_from of_rows cfg s field (drop i text)
       ≡ cond (breaks_quotes of_rows s (step cfg s (get_or text i 0)).0) (Some field)
-        (wrong_from of_rows cfg (step cfg s (get_or text i 0)).0 (cond (ends_field (ended_by (step cfg s (get_or text i 0)).1)) (drop (i + 1) text) field) (drop (i + 1) text))
+      (wrong_from of_rows cfg (step cfg s (get_or text i 0)).0 (cond (ends_field (ended_by (step cfg s (get_or text i 0)).1)) (drop (i + 1) text) field) (drop (i + 1) text))
   wrong_passed s field text i below = ap (wrong_from of_rows cfg s field) (drop_more text i 0 below) ∙ wrong_next s field (get_or text i 0) (drop (i + 1) text)
 
   pub wrong_at_end : (s : State) (field text : List ℕ) (i : ℕ) → length text ≤ i → wrong_from of_rows cfg s field (drop i text) ≡ cond (is_inside_quotes s) (Some field) None

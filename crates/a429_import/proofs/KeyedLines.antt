@@ -1,6 +1,5 @@
 -- Lines with keys of sources.
-use Rattle.std.proofs.Common.{◌≡◌, ◌∙◌, ℕ, ◌<◌, Bool, cond, List, [], Option, None, Some, get_or, get_or-set_other, get_or-set_same, inl, inr, length, length-set, set, ap, arith, refl, sym}
-use Rattle.std.specs.Prelude.{◌==◌}
+use Rattle.std.proofs.Common.{◌≡◌, ◌∙◌, ℕ, ◌<◌, Bool, cond, List, [], Option, None, Some, get_or, get_or-set_other, get_or-set_same, inl, inr, length, length-set, set, ap, refl, sym}
 use Rattle.std.proofs.lemmas.Bool.{cases_eq, eq-eqb, ne_eqb}
 use Rattle.a429_import.specs.KeyedLines.{is_place, with_text}
 

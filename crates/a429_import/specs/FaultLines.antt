@@ -21,9 +21,13 @@ wrong_from of_rows cfg s field (c ∷ rest) =
     if breaks_quotes of_rows s (step cfg s c).0 then Some field
     else wrong_from of_rows cfg (step cfg s c).0 (if ends_field (ended_by (step cfg s c).1) then rest else field) rest
 
+-- the same from the beginning of a text
+abbrev pub wrong_in : Bool → Config → List ℕ → Option (List ℕ)
+wrong_in of_rows cfg text = wrong_from of_rows cfg st.StartRecord text text
+
 -- the line of a text on which such a field of an end of it begins. A byte order mark may come first
 abbrev pub wrong_line : Bool → Config → List ℕ → List ℕ → Option ℕ
-wrong_line of_rows cfg text end = option_map (λ field. line_of text (from_row field)) (wrong_from of_rows cfg st.StartRecord (strip_bom end) (strip_bom end))
+wrong_line of_rows cfg text end = option_map (λ field. line_of text (from_row field)) (wrong_in of_rows cfg (strip_bom end))
 
 -- the first such line: above the heading, or from it on
 abbrev pub quotes_line : Config → List ℕ → List ℕ → Option ℕ

@@ -42,7 +42,7 @@ pub fn take_by(
     line: &CsvLine,
 ) -> Result<(), AllocError>
     requires { (lines : List CsvLine) × IsReadBy makes_names read.old lines }
-    ensures { OnOk result ((all : List CsvLine) → IsReadBy makes_names read.old all → IsReadBy makes_names read.new (all ++ line.now ∷ [])) }
+    ensures { OnOk result ((ls : List CsvLine) → IsReadBy makes_names read.old ls → IsReadBy makes_names read.new (ls ++ line.now ∷ [])) }
 {
     if makes_names {
         take_keyed(alloc, read, room, line)

@@ -4,7 +4,7 @@ ghost use Rattle.std.specs.Prelude.{◌≡◌, if◌then◌else◌, drop, false,
 ghost use Rattle.csv.specs.Reading.{strip_bom};
 ghost use Rattle.csv.specs.declared.parser.State.TheVariants as st;
 ghost use Rattle.a429_import.specs.ImportQuotes.{breaks_quotes, has_wrong_quotes, is_after_quote, is_in_text, is_inside_quotes, is_misquoted, is_misquoted_from, text_before};
-ghost use Rattle.a429_import.specs.FaultLines.{quotes_line, wrong_from, wrong_line};
+ghost use Rattle.a429_import.specs.FaultLines.{quotes_line, wrong_in, wrong_line};
 ghost use Rattle.a429_import.specs.ImportSteps.{ends_field, state_of};
 ghost use Rattle.a429_import.specs.Imports.{separated};
 ghost use Rattle.a429_import.specs.LineCounts.{IsEnd};
@@ -66,7 +66,7 @@ fn field_after(ended: Ended, begin: usize, after: usize) -> usize
 /// field.
 fn misquoted_place(of_rows: bool, separator: u8, text: &[u8]) -> Option<usize>
     ensures wrong { is_some result ≡ is_misquoted_from of_rows (separated separator) st.StartRecord text.now }
-    ensures field { option_map (λ place. drop place text.now) result ≡ wrong_from of_rows (separated separator) st.StartRecord text.now text.now }
+    ensures field { option_map (λ place. drop place text.now) result ≡ wrong_in of_rows (separated separator) text.now }
 {
     let mut part = Part::Row;
     let mut begin = 0;

@@ -1,7 +1,7 @@
-use Rattle.std.proofs.Common.{◌≡◌, ◌∙◌, ◌<◌, ◌+◌, ◌++◌, ◌∷◌, [], List, ℕ, suc, ap, ap₂, arith, cond, get_or, length, subst, sym, take}
+use Rattle.std.proofs.Common.{◌≡◌, ◌∙◌, ◌<◌, ◌+◌, ◌++◌, ◌∷◌, [], List, ℕ, suc, ap, ap₂, arith, get_or, length, subst, sym, take}
 use Rattle.std.proofs.Math.Seq.{take-suc}
 use Rattle.csv.specs.Records.{fields_of}
-use Rattle.a429_import.specs.KeyedLines.{is_place, with_text}
+use Rattle.a429_import.specs.KeyedLines.{with_text}
 use Rattle.a429_import.proofs.KeyedLines.{keyed_field, keyed_length}
 use Rattle.a429_import.proofs.keyed_lines.push_keyed.Goals as goal
 

@@ -1,4 +1,4 @@
-use Rattle.std.proofs.Common.{◌∙◌, ℕ, List, Some, ap, drop, false, subst, sym, true}
+use Rattle.std.proofs.Common.{◌∙◌, ℕ, List, Some, ap, drop, false, subst, sym}
 use Rattle.std.specs.Option.{option_map}
 use Rattle.csv.specs.declared.parser.Config.{Config}
 use Rattle.a429_import.specs.FaultLines.{wrong_line}

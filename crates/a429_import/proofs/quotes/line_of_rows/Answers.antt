@@ -1,7 +1,6 @@
-use Rattle.std.proofs.Common.{◌∙◌, ℕ, List, Some, ap, drop, false, subst, sym, true}
+use Rattle.std.proofs.Common.{◌∙◌, ℕ, List, Some, ap, drop, subst, sym, true}
 use Rattle.std.specs.Option.{option_map}
 use Rattle.csv.specs.declared.parser.Config.{Config}
-use Rattle.a429_import.specs.FaultLines.{wrong_line}
 use Rattle.a429_import.specs.ImportForms.{without_byte_order_mark}
 use Rattle.a429_import.specs.Imports.{separated}
 use Rattle.a429_import.specs.LineCounts.{IsEnd}

@@ -1,6 +1,4 @@
 use Rattle.std.proofs.Common.{◌≡◌, ◌+◌, ◌≤◌, ℕ, length}
-use Rattle.std.specs.List.{count_by}
-use Rattle.std.specs.Str.{bytes_eq}
 use Rattle.a429_import.specs.Names.{chain_of, last_below, names_of}
 use Rattle.a429_import.proofs.NameChains.{counted_from}
 use Rattle.a429_import.proofs.names.Names.count.Given as goal
