@@ -3,7 +3,7 @@ use Rattle.std.proofs.Common.{Bor, ◌≡◌, ◌∙◌, ◌∷◌, ◌++◌, �
 use Rattle.std.specs.Prelude.{◌||◌, if◌then◌else◌}
 use Rattle.std.specs.List.{list_any}
 use Rattle.std.specs.Option.{option_map_or}
-use Rattle.std.proofs.lemmas.List.{map-append}
+use Rattle.std.proofs.lemmas.List.{length-map, map-append}
 use Rattle.std.proofs.lemmas.List.Folds.{list_any-append}
 use Rattle.std.proofs.lemmas.Option.{none-some, same_Some}
 use Rattle.csv.specs.Machine.{Read, ends_at_end, field_after, fields_after, is_end, next_record, step}
@@ -15,10 +15,14 @@ use Rattle.csv.specs.declared.parser.State.TheVariants as st
 use Rattle.csv.specs.declared.reader.Reader.{Reader}
 use Rattle.csv.proofs.ReadFacts.{rows-end}
 use Rattle.a429_import.specs.declared.lines.CsvLine.{CsvLine}
+use Rattle.a429_import.specs.declared.lines.LineCount.{LineCount}
+use Rattle.a429_import.specs.FaultLines.{data_line, number_of}
 use Rattle.a429_import.specs.ImportAbove.{first_row, has_data, is_data}
 use Rattle.a429_import.specs.ImportReading.{HasRead}
 use Rattle.a429_import.specs.Imports.{separated}
 use Rattle.a429_import.specs.ImportWords.{trimmed}
+use Rattle.a429_import.specs.RowLines.{row_lines}
+use Rattle.a429_import.proofs.FaultLines.{line_number, number_mapped}
 
 module _ (cfg : Config) where
   -- ---- what a record leaves
@@ -87,8 +91,8 @@ first_of separator text s ys (row ∷ rows) fields reached same =
     ap (λ (zs : List (List (List ℕ))). get_or zs 0 []) same ∙ ap (map trimmed) (reached.2 ∙ sym (ap (λ (o : Option Read). option_map_or (λ (p : Read). p.0) o []) reached.1))
 
 -- the first line that is read has the fields of the first row
-pub first_is : (separator : ℕ) (text : List ℕ) (a : Reader (Bor (List ℕ))) (line : CsvLine) → HasRead separator text a (line ∷ []) → fields_of line.fields ≡ first_row (separated separator) text
-first_is separator text a line has = first_of separator text a.state has.rest has.rows (fields_of line.fields) has.reached has.fields
+pub first_is : (separator : ℕ) (text : List ℕ) (a : Reader (Bor (List ℕ))) (count : LineCount) (line : CsvLine) → HasRead separator text text a count (line ∷ []) → fields_of line.fields ≡ first_row (separated separator) text
+first_is separator text a count line has = first_of separator text a.state has.rest has.rows (fields_of line.fields) has.reached has.fields
 
 none_first : (separator : ℕ) (text : List ℕ) (s : State) (ys : List ℕ) (rows : List (List (List ℕ))) → Reached (separated separator) st.StartRecord (strip_bom text) rows s ys → ◌≡◌ {A = List (List (List ℕ))} [] (map (map trimmed) rows)
     → next_record (separated separator) s [] [] ys ≡ None → [] ≡ first_row (separated separator) text
@@ -98,8 +102,8 @@ none_first separator text s ys [] reached same end =
     sym (ap (λ (o : Option Read). map trimmed (option_map_or (λ (p : Read). p.0) o [])) first)
 none_first separator text s ys (row ∷ rows) reached same end = absurd (omega (arith, ap length same))
 
-pub no_first : (separator : ℕ) (text : List ℕ) (a b : Reader (Bor (List ℕ))) → HasRead separator text a [] → ReadRecord (λ s. Some s.now) a b false [] → [] ≡ first_row (separated separator) text
-no_first separator text a b has end =
+pub no_first : (separator : ℕ) (text : List ℕ) (a b : Reader (Bor (List ℕ))) (count : LineCount) → HasRead separator text text a count [] → ReadRecord (λ s. Some s.now) a b false [] → [] ≡ first_row (separated separator) text
+no_first separator text a b count has end =
     none_first separator text a.state has.rest has.rows has.reached has.fields (rows-end (λ (s : Bor (List ℕ)). Some s.now) a b [] (separated separator) has.rest has.config has.source end)
 
 -- a row of data is among the lines that were read
@@ -121,9 +125,23 @@ any_trimmed : (passes : List (List ℕ) → Bool) (rows : List (List (List ℕ))
 any_trimmed passes [] = refl
 any_trimmed passes (row ∷ rows) = ap (λ (b : Bool). passes (map trimmed row) || b) (any_trimmed passes rows)
 
-pub data_read : (separator : ℕ) (heading : List (List ℕ)) (text : List ℕ) (a b : Reader (Bor (List ℕ))) (lines : List CsvLine) → HasRead separator text a lines → ReadRecord (λ s. Some s.now) a b false []
+pub data_read : (separator : ℕ) (heading : List (List ℕ)) (text : List ℕ) (a b : Reader (Bor (List ℕ))) (count : LineCount) (lines : List CsvLine) → HasRead separator text text a count lines → ReadRecord (λ s. Some s.now) a b false []
     → has_data_line heading lines ≡ has_data (separated separator) heading text
-data_read separator heading text a b lines has end =
+data_read separator heading text a b count lines has end =
     let none = rows-end (λ (s : Bor (List ℕ)). Some s.now) a b [] (separated separator) has.rest has.config has.source end in
     let same = records_are (separated separator) (strip_bom text) has.rows (a.state, has.rest, has.reached, none) in
     ap (list_any (is_data heading)) has.fields ∙ any_trimmed (is_data heading) has.rows ∙ sym (ap (list_any (λ (row : List (List ℕ)). is_data heading (map trimmed row))) same)
+
+-- the line of the first row of data is that of the lines that were read
+pub line_read : (separator : ℕ) (heading : List (List ℕ)) (text : List ℕ) (a b : Reader (Bor (List ℕ))) (count : LineCount) (lines : List CsvLine) → HasRead separator text text a count lines → ReadRecord (λ s. Some s.now) a b false []
+    → line_number (is_data heading) lines ≡ data_line (separated separator) heading text
+line_read separator heading text a b count lines has end =
+    let cfg : Config = separated separator in
+    let passes : List (List ℕ) → Bool = λ row. is_data heading (map trimmed row) in
+    let none = rows-end (λ (s : Bor (List ℕ)). Some s.now) a b [] cfg has.rest has.config has.source end in
+    let same : records cfg (strip_bom text) ≡ has.rows = records_are cfg (strip_bom text) has.rows (a.state, has.rest, has.reached, none) in
+    let many : length has.rows ≡ length lines = sym (length-map has.rows (map trimmed)) ∙ sym (ap length has.fields) ∙ length-map lines (λ (l : CsvLine). fields_of l.fields) in
+    ap₂ (λ (rows : List (List (List ℕ))) (numbers : List ℕ). number_of (is_data heading) rows numbers) has.fields has.numbers
+    ∙ number_mapped (is_data heading) (map trimmed) has.rows (row_lines cfg text (length lines) text)
+    ∙ sym (ap (λ (n : ℕ). number_of passes has.rows (row_lines cfg text n text)) many)
+    ∙ sym (ap (λ (rows : List (List (List ℕ))). number_of passes rows (row_lines cfg text (length rows) text)) same)

@@ -1,31 +1,57 @@
 -- The lines of a text, from its heading on.
-use Rattle.std.proofs.Common.{Bor, ◌≡◌, ◌∙◌, ◌∷◌, ◌++◌, ◌+◌, ◌-◌, ◌<◌, ◌≤◌, [], ℕ, true, false, zero, suc, Bool, List, None, Option, Some, ap, ap₂, arith, cond, drop, filter, inl, length, map, not, refl, slice_index_or, subst, sym, take}
+use Rattle.std.proofs.Common.{Bor, ◌≡◌, ◌∙◌, ◌∷◌, ◌++◌, ◌+◌, ◌-◌, ◌<◌, ◌≤◌, [], ℕ, true, false, zero, suc, Bool, List, None, Option, Some, ap, ap₂, arith, cond, drop, filter, inl, length, length-append, map, not, refl, slice_index_or, subst, sym, take}
 use Rattle.std.specs.Prelude.{◌==◌, ◌&&◌, ◌||◌, option_map}
 use Rattle.std.specs.List.{AllByRecursion, find}
 use Rattle.std.specs.Option.{option_map_or, option_or}
-use Rattle.std.proofs.lemmas.List.{drop_all, map-append}
+use Rattle.std.proofs.lemmas.List.{drop_all, length-map, map-append}
 use Rattle.csv.specs.Reading.{AreRecords, ReadRecord, strip_bom}
 use Rattle.csv.specs.Records.{fields_of}
+use Rattle.csv.specs.declared.parser.Config.{Config}
+use Rattle.csv.specs.declared.parser.State.{State}
 use Rattle.csv.specs.declared.parser.State.TheVariants as st
 use Rattle.csv.specs.declared.reader.Reader.{Reader}
 use Rattle.csv.proofs.ReadFacts.{rows-end, rows-more}
 use Rattle.a429_import.specs.declared.forms.Form.{Form}
 use Rattle.a429_import.specs.declared.lines.CsvLine.{CsvLine}
+use Rattle.a429_import.specs.declared.lines.LineCount.{LineCount}
 use Rattle.a429_import.specs.ImportForms.{after_separator, ends_line, field_len, from_heading, heading_among, is_heading, later_lines, len_before, names_column, names_in_row, quotes_end, separator_in, separators}
 use Rattle.a429_import.specs.ImportReading.{HasRead}
 use Rattle.a429_import.specs.Imports.{AreLines, has_text, separated}
+use Rattle.a429_import.specs.ImportSteps.{state_of}
 use Rattle.a429_import.specs.ImportWords.{trimmed}
+use Rattle.a429_import.specs.LineCounts.{HasCounted, is_between, row_end}
+use Rattle.a429_import.specs.RowLines.{from_row, line_of, lines_from, row_lines}
+use Rattle.a429_import.proofs.RowLines.{LastRow, last_row, lines_more, row_is}
 
 one_more_separator : {separator : ℕ} (lines : List CsvLine) (line : CsvLine) → AllByRecursion (λ l. l.separator ≡ separator) lines → line.separator ≡ separator
     → AllByRecursion (λ l. l.separator ≡ separator) (lines ++ line ∷ [])
 one_more_separator [] line all here = (here, tt)
 one_more_separator (l ∷ lines) line all here = (all.0, one_more_separator lines line all.1 here)
 
+one_more_number : (lines : List CsvLine) (line : CsvLine) → map (λ l. l.number) (lines ++ line ∷ []) ≡ map (λ l. l.number) lines ++ line.number ∷ []
+one_more_number lines line = map-append (λ (l : CsvLine). l.number) lines (line ∷ [])
+
+-- what is counted of one more line
+pub record IsCounted (separator : ℕ) (file : List ℕ) (old new : LineCount) (line : CsvLine) : Type 0 where
+  pub number : line.number ≡ line_of file (from_row (drop old.at file))
+  pub counted : HasCounted file new
+  pub row : row_end (separated separator) (state_of old.part) (drop old.at file) ≡ (state_of new.part, drop new.at file)
+  pub between : is_between (state_of new.part) ≡ true
+
 -- one more line is read
-pub read_more : (separator : ℕ) (text : List ℕ) (a b : Reader (Bor (List ℕ))) (lines : List CsvLine) (line : CsvLine) (row : List (List ℕ)) → HasRead separator text a lines → ReadRecord (λ s. Some s.now) a b true row → b.first ≡ true
-    → line.separator ≡ separator → fields_of line.fields ≡ map trimmed row → HasRead separator text b (lines ++ line ∷ [])
-read_more separator text a b lines line row has next first own same =
-    let m = rows-more (λ (s : Bor (List ℕ)). Some s.now) a b row (separated separator) st.StartRecord (strip_bom text) has.rest has.rows has.config has.source has.reached next in
+pub read_more : (separator : ℕ) (file text : List ℕ) (a b : Reader (Bor (List ℕ))) (old new : LineCount) (lines : List CsvLine) (line : CsvLine) (row : List (List ℕ)) → HasRead separator file text a old lines → ReadRecord (λ s. Some s.now) a b true row
+    → b.first ≡ true → line.separator ≡ separator → fields_of line.fields ≡ map trimmed row → IsCounted separator file old new line → HasRead separator file text b new (lines ++ line ∷ [])
+read_more separator file text a b old new lines line row has next first own same count =
+    let cfg : Config = separated separator in
+    let m = rows-more (λ (s : Bor (List ℕ)). Some s.now) a b row cfg st.StartRecord (strip_bom text) has.rest has.rows has.config has.source has.reached next in
+    let last : LastRow cfg a.state has.rest b.state m.0 = last_row cfg has.rows row st.StartRecord a.state b.state (strip_bom text) has.rest m.0 has.reached m.2 in
+    let passed : row_end cfg a.state has.rest ≡ (last.read.1, last.read.2) = row_is cfg has.rest a.state [] [] last.read last.found in
+    let after : (state_of new.part, drop new.at file) ≡ (b.state, m.0) =
+    sym count.row ∙ ap₂ (λ (s : State) (xs : List ℕ). row_end cfg s xs) has.state has.at ∙ passed ∙ ap₂ (λ (s : State) (xs : List ℕ). (s, xs)) last.state last.rest in
+    let state : state_of new.part ≡ b.state = ap (λ (p : State × List ℕ). p.0) after in
+    let many : length has.rows ≡ length lines = sym (length-map has.rows (map trimmed)) ∙ sym (ap length has.fields) ∙ length-map lines (λ (l : CsvLine). fields_of l.fields) in
+    let more : length (lines ++ line ∷ []) ≡ suc (length lines) = let l = length-append lines (line ∷ []) in omega (arith, l) in
+    let numbered = lines_more cfg file has.rows st.StartRecord a.state (strip_bom text) has.rest last.read has.reached last.found in
     record {
       plain = next.3 ∙ has.plain;
       ready = inl first;
@@ -39,12 +65,23 @@ read_more separator text a b lines line row has next first own same =
           ∙ ap₂ (λ (xs ys : List (List (List ℕ))). xs ++ ys) has.fields (ap (λ (x : List (List ℕ)). x ∷ []) same)
           ∙ sym (map-append (map trimmed) has.rows (row ∷ []));
       separators = one_more_separator lines line has.separators own;
+      counted = count.counted;
+      state = state;
+      between = sym (ap is_between state) ∙ count.between;
+      at = ap (λ (p : State × List ℕ). p.1) after;
+      numbers =
+          one_more_number lines line
+          ∙ ap₂ (λ (ns : List ℕ) (n : ℕ). ns ++ n ∷ []) has.numbers (count.number ∙ ap (λ (xs : List ℕ). line_of file (from_row xs)) has.at)
+          ∙ sym (ap (λ (n : ℕ). lines_from cfg file n st.StartRecord (strip_bom text) ++ line_of file (from_row has.rest) ∷ []) many)
+          ∙ sym numbered
+          ∙ ap (λ (n : ℕ). lines_from cfg file (suc n) st.StartRecord (strip_bom text)) many
+          ∙ sym (ap (λ (n : ℕ). lines_from cfg file n st.StartRecord (strip_bom text)) more);
     }
 
 -- all lines are read
-pub read_all : (maps : List (List ℕ)) (text : List ℕ) (form : Form) (a b : Reader (Bor (List ℕ))) (all lines : List CsvLine) → form.separator ≡ separator_in maps text → form.text.now ≡ from_heading maps text
-    → HasRead form.separator form.text.now a all → ReadRecord (λ s. Some s.now) a b false [] → lines ≡ filter (λ l. has_text (fields_of l.fields)) all → AreLines maps text lines
-read_all maps text form a b all lines separator from has end filled =
+pub read_all : (maps : List (List ℕ)) (text : List ℕ) (form : Form) (a b : Reader (Bor (List ℕ))) (count : LineCount) (all lines : List CsvLine) → form.separator ≡ separator_in maps text → form.text.now ≡ from_heading maps text
+    → HasRead form.separator text form.text.now a count all → ReadRecord (λ s. Some s.now) a b false [] → lines ≡ filter (λ l. has_text (fields_of l.fields)) all → AreLines maps text lines
+read_all maps text form a b count all lines separator from has end filled =
     let are : AreRecords (separated form.separator) st.StartRecord (strip_bom form.text.now) has.rows =
     (a.state, has.rest, has.reached, rows-end (λ (s : Bor (List ℕ)). Some s.now) a b [] (separated form.separator) has.rest has.config has.source end) in
     let one = subst (λ (s : ℕ). AreRecords (separated s) st.StartRecord (strip_bom form.text.now) has.rows) separator are in
@@ -54,6 +91,7 @@ read_all maps text form a b all lines separator from has end filled =
       records = subst (λ (xs : List ℕ). AreRecords (separated (separator_in maps text)) st.StartRecord (strip_bom xs) has.rows) from one;
       fields = has.fields;
       separators = subst (λ (s : ℕ). AllByRecursion (λ l. l.separator ≡ s) all) separator has.separators;
+      numbers = has.numbers ∙ ap₂ (λ (s : ℕ) (xs : List ℕ). row_lines (separated s) text (length all) xs) separator from;
       filled = filled;
     }
 

@@ -38,7 +38,7 @@ use Rattle.a429_import.specs.ImportTables.{part_tree, record_stated, root_member
 use Rattle.a429_import.specs.KeptFields.{kept_comments, kept_of}
 use Rattle.a429_import.specs.PrintedTables.{PrintsTables}
 use Rattle.a429_import.specs.TableTexts.{IsTableText, before_at, column_comments, made_comment, piece_of, pieces, row_before}
-use Rattle.a429_import.specs.Imports.{AreNamedLines, IsFilledImport, IsImport, IsImportBy, IsImportFrom, IsImportIf, IsImportOf, IsTableBy, IsTableOf, IsTextFault, has_row_above, rows_by, table_made, is_misquoted_text, separated}
+use Rattle.a429_import.specs.Imports.{AreNamedLines, IsFilledImport, IsImport, IsImportBy, IsImportFrom, IsImportIf, IsImportOf, IsTableBy, IsTableOf, IsTextFault, has_row_above, rows_by, table_made, is_misquoted_text, separated, text_fault_line}
 use Rattle.a429_import.specs.ImportReading.{HaveFault, StandsFor}
 use Rattle.a429_import.specs.NumberRanges.{HaveRanges}
 use Rattle.a429_import.specs.RenamedReading.{IsReadBy}
@@ -208,12 +208,12 @@ module _ (maps : List (List ℕ)) (options : ImportOptions) (text : List ℕ) wh
   import_of lines (Err (Table f)) fit are h = of_rows lines (Err (Table f)) fit are h
 
   -- a text whose quotes are wrong, or with a row of data above its heading
-  unfit_import : (line : ℕ) → is_unfit ≡ true → IsImport maps options text (Err (Csv line Form None))
-  unfit_import line unfit =
+  unfit_import : (line : ℕ) → text_fault_line maps text ≡ Some line → is_unfit ≡ true → IsImport maps options text (Err (Csv line Form None))
+  unfit_import line at unfit =
       let fault : Result Imported ImportFault = Err (Csv line Form None) in
-      subst (λ (b : Bool). IsImportIf b maps options text fault) (sym unfit) (line, refl)
+      subst (λ (b : Bool). IsImportIf b maps options text fault) (sym unfit) (line, at, refl)
 
 -- the fault of such a text
-pub unfit_fault : (maps : List (List ℕ)) (text : List ℕ) (line : ℕ) (fault : ImportFault) → (is_misquoted_text maps text || has_row_above maps text) ≡ true → fault ≡ Csv line Form None
-    → IsTextFault maps text (Some fault)
-unfit_fault maps text line fault unfit is = λ options. subst (λ (f : ImportFault). IsImport maps options text (Err f)) (sym is) (unfit_import maps options text line unfit)
+pub unfit_fault : (maps : List (List ℕ)) (text : List ℕ) (line : ℕ) (fault : ImportFault) → text_fault_line maps text ≡ Some line → (is_misquoted_text maps text || has_row_above maps text) ≡ true
+    → fault ≡ Csv line Form None → IsTextFault maps text (Some fault)
+unfit_fault maps text line fault at unfit is = λ options. subst (λ (f : ImportFault). IsImport maps options text (Err f)) (sym is) (unfit_import maps options text line at unfit)

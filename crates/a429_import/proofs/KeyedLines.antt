@@ -1,26 +1,22 @@
 -- Lines with keys of sources.
-use Rattle.std.proofs.Common.{◌≡◌, ◌∙◌, ℕ, zero, suc, ◌<◌, ◌&&◌, Bool, false, cond, List, [], ◌∷◌, ◌++◌, get_or, length, take, ap, arith, refl, sym}
-use Rattle.std.proofs.Math.Seq.{take-suc}
-use Rattle.a429_import.specs.declared.fault.ImportColumn.TheVariants.{Source}
-use Rattle.a429_import.specs.ImportRows.{is_named}
-use Rattle.a429_import.specs.ImportTables.{is_word}
-use Rattle.a429_import.specs.KeyedLines.{keyed_below, keyed_fields}
+use Rattle.std.proofs.Common.{◌≡◌, ◌∙◌, ℕ, ◌<◌, Bool, cond, List, [], Option, None, Some, get_or, get_or-set_other, get_or-set_same, inl, inr, length, length-set, set, ap, refl, sym}
+use Rattle.std.proofs.lemmas.Bool.{cases_eq, eq-eqb, ne_eqb}
+use Rattle.a429_import.specs.KeyedLines.{is_place, with_text}
 
-no_source : is_named Source [] ≡ false
-unfolding is_named
-no_source = refl
+pub keyed_length : (source : Option ℕ) (text : List ℕ) (fields : List (List ℕ)) → length (with_text source text fields) ≡ length fields
+keyed_length None text fields = refl
+keyed_length (Some place) text fields = length-set fields place text
 
-pub keyed_none : (end : List ℕ) (heading : List (List ℕ)) → keyed_fields end heading [] ≡ []
-keyed_none end [] = refl
-keyed_none end (h ∷ heading) = refl
-
--- one more field
-pub keyed_more : (end : List ℕ) (heading fields : List (List ℕ)) (i : ℕ) → i < length fields
-    → keyed_fields end heading (take (suc i) fields) ≡ keyed_fields end heading (take i fields) ++ keyed_below end (get_or heading i []) (get_or fields i []) ∷ []
-keyed_more end [] fields i below =
-    take-suc fields i [] below
-    ∙ ap (λ (b : Bool). take i fields ++ cond (b && is_word (get_or fields i [])) (get_or fields i [] ++ end) (get_or fields i []) ∷ []) (sym no_source)
-keyed_more end (h ∷ heading) [] i below = absurd (omega (arith, below))
-keyed_more end (h ∷ heading) (field ∷ fields) zero below = ap (λ (fs : List (List ℕ)). keyed_below end h field ∷ fs) (keyed_none end heading)
-keyed_more end (h ∷ heading) (field ∷ fields) (suc i) below =
-    ap (λ (fs : List (List ℕ)). keyed_below end h field ∷ fs) (keyed_more end heading fields i (omega (arith, below)))
+-- the field at a place, with the text
+pub keyed_field : (source : Option ℕ) (text : List ℕ) (fields : List (List ℕ)) (i : ℕ) → i < length fields
+    → get_or (with_text source text fields) i [] ≡ cond (is_place i source) text (get_or fields i [])
+keyed_field None text fields i below = refl
+keyed_field (Some place) text fields i below =
+    let own : List ℕ = get_or fields i [] in
+    elim (cases_eq place i) [
+      | inl same ↦
+          ap (λ (n : ℕ). get_or (set fields n text) i []) same ∙ get_or-set_same fields i text [] below
+          ∙ sym (ap (λ (b : Bool). cond b text own) (eq-eqb place i same))
+      | inr apart ↦
+          get_or-set_other fields place i text [] (λ e. apart (sym e)) ∙ sym (ap (λ (b : Bool). cond b text own) (ne_eqb place i apart))
+    ]

@@ -18,6 +18,8 @@ pub mod KnownRows
 pub mod Flags
 mod Lookups
 pub mod FewRows
+pub mod RowLines
+pub mod FaultLines
 pub mod ImportForms
 pub mod ImportQuotes
 pub mod ImportAbove

@@ -1,9 +1,11 @@
 -- How a name is found by its chain.
+use mir.Val.{bool_byte}
 use Rattle.std.proofs.Common.{ap₂, get_or, length-append, length-set, set, inl, inr, get_or-set_same, get_or-set_other, ◌≡◌, ◌∙◌, ℕ, zero, suc, ◌+◌, ◌<◌, ◌≤◌, Bool, true, false, cond, List, [], ◌∷◌, ◌++◌, drop, length, Option, Some, ap, arith, refl, sym, subst, true≢false}
 use Rattle.std.specs.Prelude.{◌==◌}
-use Rattle.std.specs.List.{position_from}
+use Rattle.std.specs.List.{count_by, position_from}
 use Rattle.std.specs.Str.{bytes_eq}
 use Rattle.std.proofs.lemmas.Bool.{cases_eq, cases_lt, eq-eqb, eqb-true, ne_eqb}
+use Rattle.std.proofs.lemmas.List.Sums.{sum_by-drop_more}
 use Rattle.std.proofs.lemmas.Slice.Eq.{bytes_eq-Decides}
 use Rattle.std.proofs.Math.ListN.{get_or-append}
 use Rattle.std.proofs.Math.Seq.{get_or-append_seam}
@@ -26,13 +28,45 @@ last_below_bound chains chain names (suc k) = by (chain_of chains (field_in k na
     by true h = omega arith
     by false h = omega arith
 
-module _ (chains : ℕ) (name : List ℕ) (names : List (List ℕ)) where
+-- ---- what is found, and how many there are
+
+-- the number of the first such name that is not below a number
+abbrev pub found_from : List ℕ → List (List ℕ) → ℕ → Option ℕ
+found_from name names k = position_from (bytes_eq name) k (drop k names)
+
+-- how many such names are not below a number
+abbrev pub counted_from : List ℕ → List (List ℕ) → ℕ → ℕ
+counted_from name names k = count_by (bytes_eq name) (drop k names)
+
+pub found_next : (name : List ℕ) (names : List (List ℕ)) (k : ℕ) → k < length names
+    → found_from name names k ≡ cond (bytes_eq name (field_in k names)) (Some k) (found_from name names (suc k))
+found_next name names k h =
+    let same : k + 1 ≡ suc k = omega arith in
+    one_more (bytes_eq name) k k names h ∙ ap (λ (m : ℕ). cond (bytes_eq name (field_in k names)) (Some k) (position_from (bytes_eq name) m (drop (suc k) names))) same
+
+pub counted_next : (name : List ℕ) (names : List (List ℕ)) (k : ℕ) → k < length names
+    → counted_from name names k ≡ cond (bytes_eq name (field_in k names)) 1 0 + counted_from name names (suc k)
+counted_next name names k h =
+    let same : k + 1 ≡ suc k = omega arith in
+    sum_by-drop_more (λ (x : List ℕ). cond (bytes_eq name x) 1 0) names k [] h ∙ ap (λ (m : ℕ). cond (bytes_eq name (field_in k names)) 1 0 + counted_from name names m) same
+
+pub found_skips : (name : List ℕ) (names : List (List ℕ)) (k : ℕ) → k < length names → bytes_eq name (field_in k names) ≡ false → found_from name names k ≡ found_from name names (suc k)
+found_skips name names k h other = found_next name names k h ∙ ap (λ b. cond b (Some k) (found_from name names (suc k))) other
+
+pub counted_skips : (name : List ℕ) (names : List (List ℕ)) (k : ℕ) → k < length names → bytes_eq name (field_in k names) ≡ false → counted_from name names k ≡ counted_from name names (suc k)
+counted_skips name names k h other = counted_next name names k h ∙ ap (λ b. cond b 1 0 + counted_from name names (suc k)) other ∙ omega arith
+
+-- one more, if a name is the one
+pub one_is : (b : Bool) → bool_byte b ≡ cond b 1 0
+one_is true = refl
+one_is false = refl
+
+-- ---- along a chain: what skips other names
+
+module _ (chains : ℕ) (name : List ℕ) (names : List (List ℕ)) (X : Type 0) (F : ℕ → X)
+    (skips : (k : ℕ) → k < length names → bytes_eq name (field_in k names) ≡ false → F k ≡ F (suc k)) where
   abbrev pub own : ℕ
   own = chain_of chains name
-
-  -- the number of the first such name that is not below a number
-  abbrev pub found_from : ℕ → Option ℕ
-  found_from k = position_from (bytes_eq name) k (drop k names)
 
   -- a name of another chain has other bytes
   other_chain : (other : List ℕ) → (chain_of chains other == own) ≡ false → bytes_eq name other ≡ false
@@ -41,21 +75,16 @@ module _ (chains : ℕ) (name : List ℕ) (names : List (List ℕ)) where
       let e : name ≡ other = (bytes_eq-Decides name other).0 same in
       true≢false (sym (eq-eqb (chain_of chains other) own (ap (chain_of chains) (sym e))) ∙ apart))
 
-  found_next : (k : ℕ) → k < length names → found_from k ≡ cond (bytes_eq name (field_in k names)) (Some k) (found_from (suc k))
-  found_next k h =
-      let same : k + 1 ≡ suc k = omega arith in
-      one_more (bytes_eq name) k k names h ∙ ap (λ (m : ℕ). cond (bytes_eq name (field_in k names)) (Some k) (position_from (bytes_eq name) m (drop (suc k) names))) same
-
-  passed : (k : ℕ) → k < length names → (chain_of chains (field_in k names) == own) ≡ false → found_from k ≡ found_from (suc k)
-  passed k h apart = found_next k h ∙ ap (λ b. cond b (Some k) (found_from (suc k))) (other_chain (field_in k names) apart)
+  passed : (k : ℕ) → k < length names → (chain_of chains (field_in k names) == own) ≡ false → F k ≡ F (suc k)
+  passed k h apart = skips k h (other_chain (field_in k names) apart)
 
   -- no name of the chain is left
-  pub ended : (k : ℕ) → k ≤ length names → last_below chains own names k ≡ 0 → found_from 0 ≡ found_from k
+  pub ended : (k : ℕ) → k ≤ length names → last_below chains own names k ≡ 0 → F 0 ≡ F k
   ended zero h none = refl
   ended (suc k) h none = by (chain_of chains (field_in k names) == own) refl none (ended k (omega arith))
     where
       by : (b : Bool) → (chain_of chains (field_in k names) == own) ≡ b → cond b (suc k) (last_below chains own names k) ≡ 0
-          → (last_below chains own names k ≡ 0 → found_from 0 ≡ found_from k) → found_from 0 ≡ found_from (suc k)
+          → (last_below chains own names k ≡ 0 → F 0 ≡ F k) → F 0 ≡ F (suc k)
       by true is none rest = cc
       by false is none rest = rest none ∙ passed k (omega (arith, h)) is
 
@@ -63,7 +92,7 @@ module _ (chains : ℕ) (name : List ℕ) (names : List (List ℕ)) where
   pub record IsNextName (k j : ℕ) : Type 0 where
     pub below : j < k
     pub chained : chain_of chains (field_in j names) ≡ own
-    pub found : found_from j ≡ cond (bytes_eq name (field_in j names)) (Some j) (found_from k)
+    pub rest : F (suc j) ≡ F k
 
   pub next_name : (k j : ℕ) → k ≤ length names → last_below chains own names k ≡ suc j → IsNextName k j
   next_name zero j h is = cc
@@ -73,11 +102,11 @@ module _ (chains : ℕ) (name : List ℕ) (names : List (List ℕ)) where
           → (last_below chains own names k ≡ suc j → IsNextName k j) → IsNextName (suc k) j
       by true here is rest =
           let same : k ≡ j = omega (arith, is) in
-          subst (IsNextName (suc k)) same (record { below = omega arith; chained = eqb-true _ _ here; found = found_next k (omega (arith, h)) })
+          subst (IsNextName (suc k)) same (record { below = omega arith; chained = eqb-true _ _ here; rest = refl })
       by false here is rest =
           let later : IsNextName k j = rest is in
           let few : j < k = later.below in
-          record { below = omega (arith, few); chained = later.chained; found = later.found ∙ ap (cond (bytes_eq name (field_in j names)) (Some j)) (passed k (omega (arith, h)) here) }
+          record { below = omega (arith, few); chained = later.chained; rest = later.rest ∙ passed k (omega (arith, h)) here }
 
 -- ---- an added name
 

@@ -1,5 +1,5 @@
 -- The first column of which rows have one too many (profile: equipment table).
-use Rattle.std.specs.Prelude.{ℕ, ◌&&◌, ◌||◌, Bool, List, Option, None, Some, if◌then◌else◌, length, nat_lt}
+use Rattle.std.specs.Prelude.{◌&&◌, ◌||◌, Bool, List, Option, None, Some, if◌then◌else◌, length, nat_lt}
 use Rattle.std.specs.List.{count_by}
 use Rattle.a429_import.specs.declared.fault.ImportColumn.{ImportColumn}
 use Rattle.a429_import.specs.declared.fault.ImportColumn.TheVariants.{Receiver, Source, Group, Filters}

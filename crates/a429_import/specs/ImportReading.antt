@@ -1,6 +1,6 @@
 -- What is known of lines that were read: what the rows among them say, or their first fault (profile: import).
 use Rattle.std.specs.Borrow.{Bor}
-use Rattle.std.specs.Prelude.{◌≡◌, ◌+◌, ℕ, Bool, true, false, List, [], ◌∷◌, Option, None, Some, length, map, option_map, Result, Ok, Err, vec_len}
+use Rattle.std.specs.Prelude.{◌≡◌, ◌+◌, ℕ, Bool, true, false, List, [], ◌∷◌, Option, None, Some, drop, length, map, option_map, Result, Ok, Err, vec_len}
 use Rattle.std.specs.List.{AllByRecursion, list_any}
 use Rattle.csv.specs.Reading.{Reached, Ready, source_of, strip_bom}
 use Rattle.csv.specs.Records.{fields_of}
@@ -13,6 +13,7 @@ use Rattle.a429_import.specs.declared.fault.ImportColumn.{ImportColumn}
 use Rattle.a429_import.specs.declared.fault.ImportFault.{ImportFault}
 use Rattle.a429_import.specs.declared.fault.ImportFault.TheVariants.{Csv}
 use Rattle.a429_import.specs.declared.lines.CsvLine.{CsvLine}
+use Rattle.a429_import.specs.declared.lines.LineCount.{LineCount}
 use Rattle.a429_import.specs.declared.notes.Notes.{Notes}
 use Rattle.a429_import.specs.declared.reading.LinesRead.{LinesRead}
 use Rattle.a429_import.specs.declared.reading.RowsRead.{RowsRead}
@@ -21,12 +22,15 @@ use Rattle.a429_import.specs.ImportClashes.{Agree}
 use Rattle.a429_import.specs.ImportMaps.{AreNamedBy}
 use Rattle.a429_import.specs.ImportRows.{CsvFault, has_label, rows_after, rows_stated, without_notes, wrong_column}
 use Rattle.a429_import.specs.Imports.{States, separated}
+use Rattle.a429_import.specs.ImportSteps.{state_of}
 use Rattle.a429_import.specs.ImportWords.{trimmed}
 use Rattle.a429_import.specs.KeptFields.{KeepsTexts}
 use Rattle.a429_import.specs.Known.{Knows}
+use Rattle.a429_import.specs.LineCounts.{HasCounted, IsBefore, is_between}
+use Rattle.a429_import.specs.RowLines.{row_lines}
 
--- the library `csv` has read these lines of a text whose fields this separates; the lines have no blanks round fields
-pub record HasRead (separator : ℕ) (text : List ℕ) (reader : Reader (Bor (List ℕ))) (lines : List CsvLine) : Type 0 where
+-- the library `csv` has read these lines of an end of a file, whose fields this separates, and they are counted; the lines have no blanks round fields
+pub record HasRead (separator : ℕ) (file text : List ℕ) (reader : Reader (Bor (List ℕ))) (count : LineCount) (lines : List CsvLine) : Type 0 where
   pub plain : reader.trim ≡ trim.None
   pub ready : Ready reader
   pub config : reader.config ≡ separated separator
@@ -36,6 +40,15 @@ pub record HasRead (separator : ℕ) (text : List ℕ) (reader : Reader (Bor (Li
   pub reached : Reached (separated separator) st.StartRecord (strip_bom text) rows reader.state rest
   pub fields : map (λ l. fields_of l.fields) lines ≡ map (map trimmed) rows
   pub separators : AllByRecursion (λ l. l.separator ≡ separator) lines
+  pub counted : HasCounted file count
+  pub state : state_of count.part ≡ reader.state
+  pub between : is_between reader.state ≡ true
+  pub at : drop count.at file ≡ rest
+  pub numbers : map (λ l. l.number) lines ≡ row_lines (separated separator) file (length lines) text
+
+-- it has read none of them
+abbrev pub IsUnread : ℕ → List ℕ → Reader (Bor (List ℕ)) → Type 0
+IsUnread separator text reader = (file : List ℕ) (count : LineCount) → IsBefore file text count → HasRead separator file text reader count []
 
 -- a row was read, and this is so of it
 abbrev pub IsReadRow : {A E : Type 0} → (A → Type 0) → Result A E → Type 0

@@ -1,4 +1,5 @@
 -- How the library `csv` passes a byte (vocabulary of contracts).
+use Rattle.std.specs.Prelude.{Bool, false, true}
 use Rattle.csv.specs.declared.parser.Action.{Action}
 use Rattle.csv.specs.declared.parser.Action.TheVariants as act
 use Rattle.csv.specs.declared.parser.State.{State}
@@ -23,3 +24,13 @@ ended_by act.Skip = ends.Nothing
 ended_by act.Copy = ends.Nothing
 ended_by act.EndField = ends.Field
 ended_by act.EndRecord = ends.Row
+
+-- that was a row
+abbrev pub ends_row : Ended → Bool
+ends_row ends.Row = true
+ends_row _ = false
+
+-- that was a field, which may be the last of its row
+abbrev pub ends_field : Ended → Bool
+ends_field ends.Nothing = false
+ends_field _ = true

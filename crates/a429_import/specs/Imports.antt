@@ -17,6 +17,7 @@ use Rattle.a429_import.specs.declared.fault.ImportFault.{ImportFault}
 use Rattle.a429_import.specs.declared.fault.ImportFault.TheVariants.{NoMemory, Csv, Table}
 use Rattle.a429_import.specs.declared.lines.CsvLine.{CsvLine}
 use Rattle.a429_import.specs.declared.rows.ImportRow.{ImportRow}
+use Rattle.a429_import.specs.FaultLines.{fault_line}
 use Rattle.a429_import.specs.ImportAbove.{has_data_above}
 use Rattle.a429_import.specs.ImportForms.{from_heading, separator_in}
 use Rattle.a429_import.specs.ImportMaps.{AreNamedBy}
@@ -28,6 +29,7 @@ use Rattle.a429_import.specs.FilledLines.{AreFilledBelow}
 use Rattle.a429_import.specs.KeyedLines.{AreKeyed}
 use Rattle.a429_import.specs.KeptFields.{kept_of}
 use Rattle.a429_import.specs.Renamed.{all_renamed}
+use Rattle.a429_import.specs.RowLines.{row_lines}
 use Rattle.a429_import.specs.TableTexts.{IsTableText}
 
 -- the result is the one of the rows, unless an allocation failed; the fault of a table cannot come here
@@ -49,14 +51,15 @@ is_filled field = not (length field == 0)
 abbrev pub has_text : List (List ℕ) → Bool
 has_text fields = list_any is_filled fields
 
--- the rows of a text from its heading on, as the library `csv` reads them, each with its line and its separator; without blanks round fields, and
--- without the rows whose fields are all empty
+-- the rows of a text from its heading on, as the library `csv` reads them, each with its separator and the line of the text on which it begins; without
+-- blanks round fields, and without the rows whose fields are all empty
 pub record AreLines (maps : List (List ℕ)) (text : List ℕ) (lines : List CsvLine) : Type 0 where
   pub all : List CsvLine
   pub rows : List (List (List ℕ))
   pub records : AreRecords (separated (separator_in maps text)) st.StartRecord (strip_bom (from_heading maps text)) rows
   pub fields : map (λ l. fields_of l.fields) all ≡ map (map trimmed) rows
   pub separators : AllByRecursion (λ l. l.separator ≡ separator_in maps text) all
+  pub numbers : map (λ l. l.number) all ≡ row_lines (separated (separator_in maps text)) text (length all) (from_heading maps text)
   pub filled : lines ≡ filter (λ l. has_text (fields_of l.fields)) all
 
 -- the same, with the names of the heading by texts HEADING=COLUMN
@@ -125,10 +128,13 @@ abbrev pub IsFilledImport : Bool → Bool → List CsvLine → Result Imported I
 IsFilledImport false makes_names lines result = IsImportBy makes_names lines result
 IsFilledImport true makes_names lines result = (filled : List CsvLine) × AreFilledBelow lines filled × IsImportBy makes_names filled result
 
--- the import of a text, unless its quotes are wrong or a row of data is above its heading: then no other line is looked at. The line of that fault
--- is not stated
+-- the line of the fault that comes before those of rows
+abbrev pub text_fault_line : List (List ℕ) → List ℕ → Option ℕ
+text_fault_line maps text = fault_line (separated (separator_in maps text)) maps (from_heading maps text) text
+
+-- the import of a text, unless its quotes are wrong or a row of data is above its heading: then no other line is looked at
 abbrev pub IsImportIf : Bool → List (List ℕ) → ImportOptions → List ℕ → Result Imported ImportFault → Type 0
-IsImportIf true maps options text result = (line : ℕ) × (result ≡ Err (Csv line Form None))
+IsImportIf true maps options text result = (line : ℕ) × (text_fault_line maps text ≡ Some line) × (result ≡ Err (Csv line Form None))
 IsImportIf false maps options text result =
     (lines : List CsvLine) × AreNamedLines maps text lines × IsFilledImport options.fills options.makes_names lines result
 

@@ -1,5 +1,5 @@
 -- Lines with keys of sources. The key of a source is its text, and after it its receiver, its label and its SDI (profile: import).
-use Rattle.std.specs.Prelude.{◌≡◌, ℕ, ◌&&◌, List, [], ◌∷◌, ◌++◌, Option, Some, if◌then◌else◌}
+use Rattle.std.specs.Prelude.{◌≡◌, ◌==◌, ℕ, Bool, false, List, [], ◌∷◌, ◌++◌, Option, None, Some, if◌then◌else◌, position, set}
 use Rattle.std.specs.List.{AllZip}
 use Rattle.csv.specs.Records.{fields_of}
 use Rattle.a429_import.specs.declared.fault.ImportColumn.TheVariants.{Source, Receiver, Label, Sdi}
@@ -23,15 +23,23 @@ unfoldable pub end_in : List (List ℕ) → List (List ℕ) → List ℕ
 end_in heading fields =
     end_stated (text_in (column_field heading fields Receiver)) (label_in (column_field heading fields Label)) (sdi_in (column_field heading fields Sdi))
 
--- the field below a field of the heading, with this end if it is the text of a source
-abbrev pub keyed_below : List ℕ → List ℕ → List ℕ → List ℕ
-keyed_below end heading field = if is_named Source heading && is_word field then field ++ end else field
+-- the text of a source, with this end unless it is empty
+abbrev pub keyed_text : List ℕ → List ℕ → List ℕ
+keyed_text end text = if is_word text then text ++ end else text
 
--- the same for all fields of a line
+-- a place is the one that is given, if one is
+abbrev pub is_place : ℕ → Option ℕ → Bool
+is_place place None = false
+is_place place (Some given) = given == place
+
+-- fields, with a text for the one at a place, if a place is given
+abbrev pub with_text : Option ℕ → List ℕ → List (List ℕ) → List (List ℕ)
+with_text None text fields = fields
+with_text (Some place) text fields = set fields place text
+
+-- the fields of a line, with this end after the text of its source
 abbrev pub keyed_fields : List ℕ → List (List ℕ) → List (List ℕ) → List (List ℕ)
-keyed_fields end [] fields = fields
-keyed_fields end (h ∷ heading) [] = []
-keyed_fields end (h ∷ heading) (field ∷ fields) = keyed_below end h field ∷ keyed_fields end heading fields
+keyed_fields end heading fields = with_text (position (is_named Source) heading) (keyed_text end (column_field heading fields Source)) fields
 
 -- a line below a heading, with the key of its source for its text
 pub record IsKeyedLine (heading line keyed : CsvLine) : Type 0 where

@@ -20,6 +20,9 @@ pub mod NumberRanges
 pub mod PrintedTables
 pub mod Imports
 pub mod ImportSteps
+pub mod RowLines
+pub mod FaultLines
+pub mod LineCounts
 pub mod ImportedRows
 pub mod FirstRows
 pub mod ImportClashes

@@ -9,21 +9,21 @@ use Rattle.a429_import.specs.declared.renamed.AllNames.{AllNames}
 use Rattle.a429_import.specs.declared.rows.ImportRow.{ImportRow}
 use Rattle.a429_import.specs.ImportReading.{StandsFor}
 use Rattle.a429_import.specs.KeyedLines.{IsKeyedLine}
-use Rattle.a429_import.specs.Names.{AreTexts, texts_of}
+use Rattle.a429_import.specs.Names.{IsIndexed, names_of}
 use Rattle.a429_import.specs.Renamed.{names_in}
 
--- the texts of names are whole
-pub record AreWhole (names : AllNames) : Type 0 where
-  pub receivers : AreTexts names.receivers
-  pub sources : AreTexts names.sources
-  pub groups : AreTexts names.groups
+-- the names have their chains
+pub record AreIndexed (names : AllNames) : Type 0 where
+  pub receivers : IsIndexed names.receivers
+  pub sources : IsIndexed names.sources
+  pub groups : IsIndexed names.groups
 
 -- the names are those of rows
 pub record AreNames (names : AllNames) (rows : List ImportRow) : Type 0 where
-  pub whole : AreWhole names
-  pub receivers : texts_of names.receivers ≡ names_in Receivers rows
-  pub sources : texts_of names.sources ≡ names_in Sources rows
-  pub groups : texts_of names.groups ≡ names_in Groups rows
+  pub indexed : AreIndexed names
+  pub receivers : names_of names.receivers ≡ names_in Receivers rows
+  pub sources : names_of names.sources ≡ names_in Sources rows
+  pub groups : names_of names.groups ≡ names_in Groups rows
 
 -- a heading and lines below it, with keys of sources
 pub record KeyedBelow (heading : CsvLine) (read : LinesRead) (lines : List CsvLine) : Type 0 where

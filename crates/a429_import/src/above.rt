@@ -1,18 +1,20 @@
 //! Rows of data above the heading: a sheet that was sorted with its heading has them. They would be passed over, as titles are.
-ghost use Rattle.std.specs.Prelude.{◌≡◌, ◌||◌, ◌<◌, [], IfOk, is_some};
+ghost use Rattle.std.specs.Prelude.{◌≡◌, ◌||◌, ◌<◌, [], if◌then◌else◌, IfOk, None, Some, is_some};
+ghost use Rattle.std.specs.Option.{option_or};
 ghost use Rattle.std.specs.List.{list_any};
 ghost use Rattle.csv.specs.Reading.{owned_rows_left, owned_rows_reader, strip_bom};
 ghost use Rattle.csv.specs.Records.{fields_of};
+ghost use Rattle.a429_import.specs.FaultLines.{data_line, data_line_above};
 ghost use Rattle.a429_import.specs.ImportAbove.{first_row, has_data, has_data_above, is_data};
 ghost use Rattle.a429_import.specs.ImportMaps.{given_texts, names_by};
-ghost use Rattle.a429_import.specs.ImportReading.{HasRead};
+ghost use Rattle.a429_import.specs.ImportReading.{IsUnread};
 ghost use Rattle.a429_import.specs.Imports.{separated};
 
 use crate::columns::Heading;
 use crate::fault::ImportColumn;
 use crate::fields::label_in;
 use crate::forms::{Form, text_before};
-use crate::lines::{CsvLine, LineCount, line_of, rows_of};
+use crate::lines::{CsvLine, count_before, line_of, rows_of};
 use crate::maps::named_by;
 use csv::{ByteRecord, ByteRecordsIntoIter};
 use std::alloc::{AllocError, Global};
@@ -23,13 +25,14 @@ fn first_line(
     form: Form<'_>,
     rows: &mut ByteRecordsIntoIter<&[u8]>,
 ) -> Result<CsvLine, AllocError>
-    requires before { HasRead form.separator form.text.now (owned_rows_reader rows.old) [] }
+    requires before { IsUnread form.separator form.text.now (owned_rows_reader rows.old) }
     requires left { 0 < owned_rows_left rows.old }
     ensures { IfOk result (λ line. fields_of line.fields ≡ first_row (separated form.entry.separator) form.entry.text.now) }
 {
+    let mut count = count_before(form.text, form.text);
     match rows.next() {
         Some(row) => {
-            let line = line_of(alloc, form, &mut LineCount::new(), row)?;
+            let line = line_of(alloc, form.text, form, &mut count, row)?;
             Ok(line)
         }
         None => Ok(CsvLine {
@@ -63,7 +66,9 @@ fn is_data(heading: &Heading, row: &CsvLine) -> bool
 
 /// The line that was found, otherwise that of a row of data.
 fn found_at(found: Option<u64>, heading: &Heading, row: &CsvLine) -> Option<u64>
-    ensures { is_some result ≡ (is_some found || is_data (fields_of heading.now.line.fields) (fields_of row.now.fields)) }
+    ensures line { result ≡ option_or found (if is_data (fields_of heading.now.line.fields) (fields_of row.now.fields)
+        then Some row.now.number else None) }
+    ensures data { is_some result ≡ (is_some found || is_data (fields_of heading.now.line.fields) (fields_of row.now.fields)) }
 {
     match found {
         Some(line) => Some(line),
@@ -79,15 +84,17 @@ fn data_line(
     form: Form<'_>,
     rows: &mut ByteRecordsIntoIter<&[u8]>,
 ) -> Result<Option<u64>, AllocError>
-    requires before { HasRead form.separator form.text.now (owned_rows_reader rows.old) [] }
+    requires before { IsUnread form.separator form.text.now (owned_rows_reader rows.old) }
     requires left { 0 < owned_rows_left rows.old }
-    ensures { IfOk result (λ line. is_some line
+    ensures line { IfOk result (λ line. line
+        ≡ data_line (separated form.entry.separator) (fields_of heading.now.line.fields) form.entry.text.now) }
+    ensures data { IfOk result (λ line. is_some line
         ≡ has_data (separated form.entry.separator) (fields_of heading.now.line.fields) form.entry.text.now) }
 {
-    let mut count = LineCount::new();
+    let mut count = count_before(form.text, form.text);
     let mut found = None;
     for row in rows {
-        let line = line_of(alloc, form, &mut count, row)?;
+        let line = line_of(alloc, form.text, form, &mut count, row)?;
         found = found_at(found, heading, &line);
     }
     Ok(found)
@@ -101,7 +108,9 @@ pub fn line_above(
     text: &[u8],
     form: Form<'_>,
 ) -> Result<Option<u64>, AllocError>
-    ensures { IfOk result (λ line. is_some line
+    ensures line { IfOk result (λ line. line
+        ≡ data_line_above (separated form.entry.separator) (given_texts maps.now) form.entry.text.now text.now) }
+    ensures data { IfOk result (λ line. is_some line
         ≡ has_data_above (separated form.entry.separator) (given_texts maps.now) form.entry.text.now text.now) }
 {
     let heading = heading_of(alloc, maps, form)?;

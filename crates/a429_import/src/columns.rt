@@ -202,6 +202,13 @@ impl Heading {
         }
     }
 
+    /// The place of a column, counted from 0. `None` if the heading has no such column.
+    pub fn place(&self, column: ImportColumn) -> Option<usize>
+        ensures { result ≡ position (is_named column) (fields_of self.now.line.fields) }
+    {
+        self.places.of(column)
+    }
+
     /// The field of a row in a column; an empty one if the heading has no such column.
     #[tactic(auto, unfolding(crate::specs::ImportRows::column_field))]
     pub fn field_of<'a>(&self, line: &'a CsvLine, column: ImportColumn) -> &'a [u8]

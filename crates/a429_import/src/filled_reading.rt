@@ -8,10 +8,11 @@ ghost use Rattle.a429_import.specs.RenamedReading.{IsReadBy};
 
 use crate::filled_lines::filled_line;
 use crate::import::ImportOptions;
+use crate::keyed_lines::KeyedRoom;
 use crate::keyed_reading::take_by;
 use crate::lines::CsvLine;
 use crate::reading::LinesRead;
-use crate::refused::{RefusedRows, before_line, copy_of_line};
+use crate::refused::{RefusedRows, before_line};
 use csv::ByteRecord;
 use std::alloc::{AllocError, Global};
 
@@ -29,6 +30,7 @@ pub struct Filler {
 pub struct SheetRead {
     pub filler: Filler,
     pub lines: LinesRead,
+    pub room: KeyedRoom,
     /// What a hint needs if the sheet is refused.
     pub refused: RefusedRows,
 }
@@ -54,6 +56,7 @@ impl SheetRead {
         Ok(SheetRead {
             filler: Filler::new(alloc),
             lines: LinesRead::new(alloc, chains)?,
+            room: KeyedRoom::new(alloc),
             refused: RefusedRows::new(alloc),
         })
     }
@@ -64,6 +67,7 @@ fn take_noted(
     alloc: Global,
     makes_names: bool,
     read: &mut LinesRead,
+    room: &mut KeyedRoom,
     refused: &mut RefusedRows,
     line: CsvLine,
 ) -> Result<(), AllocError>
@@ -71,10 +75,8 @@ fn take_noted(
     ensures { OnOk result ((all : List CsvLine) → IsReadBy makes_names read.old all → IsReadBy makes_names read.new (all ++ line ∷ [])) }
 {
     let before = before_line(read);
-    let copy = copy_of_line(&line)?;
-    take_by(alloc, makes_names, read, line)?;
-    refused.note(read, before, copy)?;
-    Ok(())
+    take_by(alloc, makes_names, read, room, &line)?;
+    refused.note(read, before, line)
 }
 
 /// Takes one more line below the heading, filled from the line above it. Error: an allocation failed.
@@ -84,6 +86,7 @@ fn take_below(
     above: &mut ByteRecord,
     makes_names: bool,
     read: &mut LinesRead,
+    room: &mut KeyedRoom,
     refused: &mut RefusedRows,
     line: &CsvLine,
 ) -> Result<(), AllocError>
@@ -94,7 +97,7 @@ fn take_below(
     let filled = filled_line(alloc, heading, above, line)?;
     let fields = filled.fields.clone()?;
     *above = fields;
-    take_noted(alloc, makes_names, read, refused, filled)?;
+    take_noted(alloc, makes_names, read, room, refused, filled)?;
     Ok(())
 }
 
@@ -104,6 +107,7 @@ fn take_filled(
     filler: &mut Filler,
     makes_names: bool,
     read: &mut LinesRead,
+    room: &mut KeyedRoom,
     refused: &mut RefusedRows,
     line: CsvLine,
 ) -> Result<(), AllocError>
@@ -115,7 +119,7 @@ fn take_filled(
         None => {
             let heading = line.fields.clone()?;
             filler.heading = Some(heading);
-            take_noted(alloc, makes_names, read, refused, line)?;
+            take_noted(alloc, makes_names, read, room, refused, line)?;
             Ok(())
         }
         Some(heading) => {
@@ -125,6 +129,7 @@ fn take_filled(
                 &mut filler.above,
                 makes_names,
                 read,
+                room,
                 refused,
                 &line,
             )?;
@@ -149,6 +154,7 @@ pub fn take_filled_by(
             &mut read.filler,
             options.makes_names,
             &mut read.lines,
+            &mut read.room,
             &mut read.refused,
             line,
         );
@@ -157,6 +163,7 @@ pub fn take_filled_by(
         alloc,
         options.makes_names,
         &mut read.lines,
+        &mut read.room,
         &mut read.refused,
         line,
     )

@@ -3,6 +3,7 @@ ghost use Rattle.std.specs.Prelude.{◌≡◌, ◌||◌, [], false, IfOk, is_som
 ghost use Rattle.a429_import.specs.declared.lines.CsvLine.{CsvLine};
 ghost use Rattle.a429_import.specs.declared.rows.ImportRow.{ImportRow};
 ghost use Rattle.a429_import.specs.ImportAbove.{has_data_above};
+ghost use Rattle.a429_import.specs.FaultLines.{fault_line};
 ghost use Rattle.a429_import.specs.FilledReading.{IsReadFilled};
 ghost use Rattle.a429_import.specs.ImportForms.{from_heading, separator_in};
 ghost use Rattle.a429_import.specs.ImportMaps.{given_texts};
@@ -11,6 +12,7 @@ ghost use Rattle.a429_import.specs.ImportReading.{HasRows, HaveRows, StandsFor};
 ghost use Rattle.a429_import.specs.Imports.{IsImport, IsImportFrom, IsTableBy, IsTableOf, IsTextFault, separated};
 ghost use Rattle.a429_import.specs.KeptFields.{AreKept, lines_kept};
 ghost use Rattle.a429_import.specs.Known.{Knows};
+ghost use Rattle.a429_import.specs.LineCounts.{IsEnd};
 ghost use Rattle.a429_import.specs.NumberRanges.{HaveRanges};
 ghost use Rattle.a429_import.specs.Renamed.{all_renamed};
 ghost use Rattle.a429_import.specs.TableTexts.{AreSound, rows_before};
@@ -232,7 +234,10 @@ fn unfit_line(
     form: Form<'_>,
     refused: &mut Option<RefusedRows>,
 ) -> Result<Option<u64>, AllocError>
-    ensures { IfOk result (λ line. is_some line ≡ (has_wrong_quotes (separated form.entry.separator) form.entry.text.now text.now
+    requires { IsEnd text.now form.text.now }
+    ensures line { IfOk result (λ line. line
+        ≡ fault_line (separated form.entry.separator) (given_texts maps.now) form.entry.text.now text.now) }
+    ensures wrong { IfOk result (λ line. is_some line ≡ (has_wrong_quotes (separated form.entry.separator) form.entry.text.now text.now
         || has_data_above (separated form.entry.separator) (given_texts maps.now) form.entry.text.now text.now)) }
 {
     match misquoted_line_of(text, form) {

@@ -1,19 +1,35 @@
 //! Lines with keys of sources. The key of a source is its text, and after it its receiver, its label and its SDI.
-ghost use Rattle.std.specs.Prelude.{◌≡◌, ◌++◌, ◌∷◌, [], IfOk, OnOk};
+ghost use Rattle.std.specs.Prelude.{◌≡◌, ◌++◌, [], if◌then◌else◌, IfOk, OnOk};
 ghost use Rattle.csv.specs.Records.{fields_of, partial_of};
-ghost use Rattle.a429_import.specs.KeyedLines.{IsKeyedLine, end_in, key_end, keyed_below, keyed_fields};
+ghost use Rattle.a429_import.specs.declared.fault.ImportColumn.TheVariants.{Source};
+ghost use Rattle.a429_import.specs.ImportFields.{field_in};
+ghost use Rattle.a429_import.specs.ImportRows.{column_field};
+ghost use Rattle.a429_import.specs.KeyedLines.{IsKeyedLine, end_in, is_place, key_end, keyed_text, with_text};
 
-use crate::columns::{Heading, is_named};
+use crate::columns::Heading;
 use crate::fault::ImportColumn;
 use crate::fields::{label_in, sdi_in, text_in};
 use crate::lines::CsvLine;
 use crate::made_names::put_label_end;
-use a429_text::Text;
 use a429_word::{Label, Sdi};
 use csv::ByteRecord;
 use std::alloc::{AllocError, Global};
 
-/// What comes after the text of a source in its key: its receiver, its label and its SDI. Error: an allocation failed.
+/// Writes what comes after the text of a source in its key: its receiver, its label and its SDI. Error: an allocation failed.
+fn put_key_end(
+    key: &mut Vec<u8>,
+    receiver: &str,
+    label: Label,
+    sdi: Option<Sdi>,
+) -> Result<(), AllocError>
+    ensures { OnOk result (key.new.items ≡ key.old.items ++ key_end receiver.now label sdi) }
+{
+    key.extend_from_slice(&[0])?;
+    key.extend_from_slice(receiver.as_bytes())?;
+    put_label_end(key, label, sdi)
+}
+
+/// The same as bytes. Error: an allocation failed.
 pub fn key_end(
     alloc: Global,
     receiver: &str,
@@ -22,98 +38,105 @@ pub fn key_end(
 ) -> Result<Vec<u8>, AllocError>
     ensures { IfOk result (λ end. end.items ≡ key_end receiver.now label sdi) }
 {
-    let mut end = Text::new(alloc);
-    end.put_bytes(&[0]);
-    end.put(receiver);
-    put_label_end(&mut end, label, sdi);
-    end.into_bytes()
+    let mut end = Vec::new(alloc);
+    put_key_end(&mut end, receiver, label, sdi)?;
+    Ok(end)
 }
 
-/// The same of a line; nothing if the line does not state it. Error: an allocation failed.
+/// Writes the same of a line; nothing if the line does not state it. Error: an allocation failed.
 #[tactic(auto, unfolding(crate::specs::KeyedLines::end_in))]
-fn end_in(alloc: Global, heading: &Heading, line: &CsvLine) -> Result<Vec<u8>, AllocError>
-    ensures { IfOk result (λ end. end.items ≡ end_in (fields_of heading.now.line.fields) (fields_of line.now.fields)) }
+fn put_end(key: &mut Vec<u8>, heading: &Heading, line: &CsvLine) -> Result<(), AllocError>
+    ensures { OnOk result (key.new.items ≡ key.old.items ++ end_in (fields_of heading.now.line.fields) (fields_of line.now.fields)) }
 {
     let receiver = text_in(heading.field_of(line, ImportColumn::Receiver));
     let label = label_in(heading.field_of(line, ImportColumn::Label));
     let sdi = sdi_in(heading.field_of(line, ImportColumn::Sdi));
     match (receiver, label, sdi) {
-        (Some(receiver), Some(label), Some(sdi)) => key_end(alloc, receiver, label, sdi),
-        _ => Ok(Vec::new(alloc)),
+        (Some(receiver), Some(label), Some(sdi)) => put_key_end(key, receiver, label, sdi),
+        _ => Ok(()),
     }
 }
 
-/// Adds a field with an end. Error: an allocation failed.
-fn push_ended(
-    alloc: Global,
-    fields: &mut ByteRecord,
-    field: &[u8],
-    end: &[u8],
-) -> Result<(), AllocError>
-    requires { partial_of fields.old ≡ [] }
-    ensures fields { OnOk result (fields_of fields.new ≡ fields_of fields.old ++ (field.now ++ end.now) ∷ []) }
-    ensures partial { OnOk result (partial_of fields.new ≡ []) }
+/// Writes the key of the source of a line; nothing if the line has no source. Error: an allocation failed.
+fn put_key(key: &mut Vec<u8>, heading: &Heading, line: &CsvLine) -> Result<(), AllocError>
+    requires { key.old.items ≡ [] }
+    ensures { OnOk result (key.new.items ≡ keyed_text (end_in (fields_of heading.now.line.fields) (fields_of line.now.fields))
+        (column_field (fields_of heading.now.line.fields) (fields_of line.now.fields) Source)) }
 {
-    let mut text = Vec::from_slice(alloc, field)?;
-    text.extend_from_slice(end)?;
-    fields.push_field(text.as_slice())
+    let source = heading.field_of(line, ImportColumn::Source);
+    if source.is_empty() {
+        return Ok(());
+    }
+    key.extend_from_slice(source)?;
+    put_end(key, heading, line)
 }
 
-/// Adds the field below a field of the heading, with this end if it is the text of a source.
-fn push_below(
-    alloc: Global,
-    fields: &mut ByteRecord,
-    end: &[u8],
-    heading: &[u8],
-    field: &[u8],
-) -> Result<(), AllocError>
-    requires { partial_of fields.old ≡ [] }
-    ensures fields { OnOk result (fields_of fields.new ≡ fields_of fields.old ++ keyed_below end.now heading.now field.now ∷ []) }
-    ensures partial { OnOk result (partial_of fields.new ≡ []) }
+/// The field of a line at a place, or the key of its source if the source is there.
+fn keyed_at<'a>(line: &'a CsvLine, source: Option<usize>, key: &'a [u8], place: usize) -> &'a [u8]
+    ensures { result.now ≡ (if is_place place source then key.now else field_in place (fields_of line.now.fields)) }
 {
-    if is_named(ImportColumn::Source, heading) && !field.is_empty() {
-        push_ended(alloc, fields, field, end)
-    } else {
-        fields.push_field(field)
+    match source {
+        Some(found) if found == place => key,
+        _ => line.field(place),
     }
 }
 
-/// Adds the fields of a line, with this end after the text of its source.
-fn push_line(
-    alloc: Global,
+/// Adds the fields of a line, with the key of its source, which is at a place.
+fn push_keyed(
     fields: &mut ByteRecord,
-    end: &[u8],
-    heading: &CsvLine,
     line: &CsvLine,
+    source: Option<usize>,
+    key: &[u8],
 ) -> Result<(), AllocError>
     requires none { fields_of fields.old ≡ [] }
     requires partial { partial_of fields.old ≡ [] }
-    ensures { OnOk result (fields_of fields.new ≡ keyed_fields end.now (fields_of heading.now.fields) (fields_of line.now.fields)) }
+    ensures { OnOk result (fields_of fields.new ≡ with_text source key.now (fields_of line.now.fields)) }
 {
     for place in 0..line.len() {
-        push_below(alloc, fields, end, heading.field(place), line.field(place))?;
+        fields.push_field(keyed_at(line, source, key, place))?;
     }
     Ok(())
 }
 
-/// The fields of a line, with the key of its source. Error: an allocation failed.
-fn fields_keyed(alloc: Global, heading: &Heading, line: &CsvLine) -> Result<ByteRecord, AllocError>
-    ensures { IfOk result (λ fields. fields_of fields
-        ≡ keyed_fields (end_in (fields_of heading.now.line.fields) (fields_of line.now.fields)) (fields_of heading.now.line.fields) (fields_of line.now.fields)) }
-{
-    let end = end_in(alloc, heading, line)?;
-    let mut fields = ByteRecord::new(alloc);
-    push_line(alloc, &mut fields, &end, &heading.line, line)?;
-    Ok(fields)
+/// Room for a line with the key of its source. It is used for one line after the other.
+#[derive(Drop)]
+pub struct KeyedRoom {
+    pub key: Vec<u8>,
+    pub line: CsvLine,
 }
 
-/// A line below a heading, with the key of its source. Error: an allocation failed.
-pub fn keyed_line(alloc: Global, heading: &Heading, line: &CsvLine) -> Result<CsvLine, AllocError>
-    ensures { IfOk result (λ keyed. IsKeyedLine heading.now.line line.now keyed) }
+impl KeyedRoom {
+    /// Room that was not used.
+    pub fn new(alloc: Global) -> KeyedRoom {
+        KeyedRoom {
+            key: Vec::new(alloc),
+            line: CsvLine {
+                number: 1,
+                separator: b',',
+                fields: ByteRecord::new(alloc),
+            },
+        }
+    }
+}
+
+/// Writes a line below a heading, with the key of its source, in the place of another. Error: an allocation failed.
+pub fn write_keyed(
+    key: &mut Vec<u8>,
+    keyed: &mut CsvLine,
+    heading: &Heading,
+    line: &CsvLine,
+) -> Result<(), AllocError>
+    ensures { OnOk result (IsKeyedLine heading.now.line line.now keyed.new) }
 {
-    Ok(CsvLine {
-        number: line.number,
-        separator: line.separator,
-        fields: fields_keyed(alloc, heading, line)?,
-    })
+    key.clear();
+    put_key(key, heading, line)?;
+    keyed.number = line.number;
+    keyed.separator = line.separator;
+    keyed.fields.clear();
+    push_keyed(
+        &mut keyed.fields,
+        line,
+        heading.place(ImportColumn::Source),
+        key,
+    )
 }

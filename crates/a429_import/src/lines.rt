@@ -1,14 +1,19 @@
 //! The rows of a text of comma-separated values.
-ghost use Rattle.std.specs.Prelude.{◌≡◌, ◌<◌, [], IfOk, length, map};
+ghost use Rattle.std.specs.Prelude.{◌≡◌, ◌<◌, ◌≤◌, ◌+◌, [], IfOk, List, OnOk, drop, length, map, true, ℕ};
 ghost use Rattle.csv.specs.Reading.{owned_rows_left, owned_rows_reader};
 ghost use Rattle.csv.specs.Records.{fields_of};
+ghost use Rattle.csv.specs.declared.parser.State.TheVariants as st;
 ghost use Rattle.a429_import.specs.ImportFields.{field_in};
-ghost use Rattle.a429_import.specs.ImportReading.{HasRead, IsReadRow};
-ghost use Rattle.a429_import.specs.Imports.{has_text, is_filled};
+ghost use Rattle.a429_import.specs.ImportReading.{IsReadRow, IsUnread};
+ghost use Rattle.a429_import.specs.Imports.{has_text, is_filled, separated};
+ghost use Rattle.a429_import.specs.ImportSteps.{state_of};
 ghost use Rattle.a429_import.specs.ImportWords.{trimmed};
+ghost use Rattle.a429_import.specs.LineCounts.{HasCounted, IsBefore, IsEnd, begins_with_end, is_between, row_end};
+ghost use Rattle.a429_import.specs.RowLines.{ends_here, from_row, line_of};
 
 use crate::blanks::trimmed_row;
-use crate::forms::{Form, without_mark};
+use crate::forms::{Form, ends_line, without_mark};
+use crate::steps::{Part, ends_row, pass};
 use csv::{ByteRecord, ByteRecordsIntoIter, Error, ReaderBuilder};
 use std::alloc::{AllocError, Global};
 
@@ -66,80 +71,161 @@ impl CsvLine {
     }
 }
 
-/// Counts the lines of a text. A line ends with a line feed, with a carriage return, or with both in this order.
+/// Whether a byte ends a line, which ends with a line feed, with a carriage return, or with both in this order.
+fn ends_here(is_after_return: bool, byte: u8) -> bool
+    ensures { result ≡ ends_here is_after_return byte }
+{
+    byte == b'\r' || byte == b'\n' && !is_after_return
+}
+
+/// Counts the lines of a text up to a place in it.
 #[derive(Clone, Copy)]
 pub struct LineCount {
+    /// The place of the next byte.
     at: usize,
-    line: u64,
+    /// How many lines end before that byte.
+    ended: u64,
     is_after_return: bool,
+    /// Where in a row that byte is.
+    part: Part,
 }
 
 impl LineCount {
-    /// The count of lines before the first byte of a text.
-    pub fn new() -> LineCount {
+    /// The count before the first byte of a text.
+    fn new() -> LineCount
+        ensures counted { (text : List ℕ) → HasCounted text result }
+        ensures at { result.at ≡ 0 }
+        ensures start { state_of result.part ≡ st.StartRecord }
+    {
         LineCount {
             at: 0,
-            line: 1,
+            ended: 0,
             is_after_return: false,
+            part: Part::Row,
         }
     }
 
-    /// Counts one more byte.
-    fn pass(&mut self, byte: u8) {
-        let ends_line = byte == b'\r' || byte == b'\n' && !self.is_after_return;
-        if ends_line {
-            self.line = self.line.saturating_add(1);
-        }
+    /// Counts the next byte.
+    fn pass_byte(&mut self, text: &[u8])
+        requires counted { HasCounted text.now self.old }
+        requires below { self.old.at < length text.now }
+        ensures counted { HasCounted text.now self.new }
+        ensures at { self.new.at ≡ self.old.at + 1 }
+        ensures part { self.new.part ≡ self.old.part }
+    {
+        let byte = text[self.at];
+        self.ended += u64::from(ends_here(self.is_after_return, byte));
         self.is_after_return = byte == b'\r';
-        self.at = self.at.saturating_add(1);
+        self.at += 1;
     }
 
-    /// Counts the bytes up to a byte of the text, and the line ends that follow. A byte order mark is passed.
-    fn pass_to(&mut self, text: &[u8], byte: usize) {
-        let byte = byte.max(text.len().saturating_sub(without_mark(text).len()));
-        for passed in text.get(self.at..byte).unwrap_or(&[]) {
-            self.pass(*passed);
+    /// Whether the next byte is a line end.
+    fn is_at_end(&self, text: &[u8]) -> bool
+        ensures { result ≡ begins_with_end (drop self.now.at text.now) }
+    {
+        match text.get(self.at) {
+            Some(byte) => ends_line(*byte),
+            None => false,
         }
-        for passed in text.get(byte..).unwrap_or(&[]) {
-            if !matches!(passed, b'\r' | b'\n') {
+    }
+
+    /// Counts the line ends before the next row.
+    fn pass_ends(&mut self, text: &[u8])
+        requires counted { HasCounted text.now self.old }
+        requires between { is_between (state_of self.old.part) ≡ true }
+        ensures counted { HasCounted text.now self.new }
+        ensures rest { drop self.new.at text.now ≡ from_row (drop self.old.at text.now) }
+        ensures row { (separator : ℕ) → row_end (separated separator) (state_of self.new.part) (drop self.new.at text.now)
+            ≡ row_end (separated separator) (state_of self.old.part) (drop self.old.at text.now) }
+    {
+        while self.is_at_end(text) {
+            self.pass_byte(text);
+            self.part = Part::Row;
+        }
+    }
+
+    /// Counts the bytes of a row up to the one that ends it, or all bytes.
+    fn pass_row(&mut self, text: &[u8], separator: u8)
+        requires counted { HasCounted text.now self.old }
+        ensures counted { HasCounted text.now self.new }
+        ensures row { row_end (separated separator) (state_of self.old.part) (drop self.old.at text.now)
+            ≡ (state_of self.new.part, drop self.new.at text.now) }
+        ensures between { is_between (state_of self.new.part) ≡ true }
+    {
+        while self.at < text.len() {
+            let (part, ended) = pass(separator, self.part, text[self.at]);
+            self.pass_byte(text);
+            self.part = part;
+            if ends_row(ended) {
                 return;
             }
-            self.pass(*passed);
         }
+        self.part = Part::Row;
     }
 
-    /// The line on which a row begins, after the rows before it. The library `csv` reports the place at which it began to
-    /// read the row; empty lines may follow that place.
-    fn line_of_row(&mut self, text: &[u8], fields: &ByteRecord) -> u64 {
-        if let Some(position) = fields.position() {
-            self.pass_to(text, position.byte() as usize);
+    /// The line of the next byte, counted from 1.
+    fn line(&self, text: &[u8]) -> u64
+        requires { HasCounted text.now self.now }
+        ensures { result ≡ line_of text.now (drop self.now.at text.now) }
+    {
+        self.ended.saturating_add(1)
+    }
+
+    /// The line on which the next row begins, counted from 1. Counts that row.
+    fn row_line(&mut self, text: &[u8], separator: u8) -> u64
+        requires counted { HasCounted text.now self.old }
+        requires between { is_between (state_of self.old.part) ≡ true }
+        ensures line { result ≡ line_of text.now (from_row (drop self.old.at text.now)) }
+        ensures counted { HasCounted text.now self.new }
+        ensures row { row_end (separated separator) (state_of self.old.part) (drop self.old.at text.now)
+            ≡ (state_of self.new.part, drop self.new.at text.now) }
+        ensures between { is_between (state_of self.new.part) ≡ true }
+    {
+        self.pass_ends(text);
+        let line = self.line(text);
+        self.pass_row(text, separator);
+        line
+    }
+
+    /// Counts bytes up to a place.
+    fn pass_to(&mut self, text: &[u8], place: usize)
+        requires counted { HasCounted text.now self.old }
+        requires before { self.old.at ≤ place }
+        requires within { place ≤ length text.now }
+        ensures counted { HasCounted text.now self.new }
+        ensures at { self.new.at ≡ place }
+        ensures part { self.new.part ≡ self.old.part }
+    {
+        while self.at < place {
+            self.pass_byte(text);
         }
-        self.line
     }
 }
 
-/// The line of a byte of a text, given the rest of the text from its heading on, and the rows in it with the place of the
-/// byte there. Line ends from that byte on count too.
-pub fn line_at(text: &[u8], from_heading: &[u8], rows: &[u8], place: usize) -> u64 {
-    let mut count = count_before(text, from_heading);
-    count.pass_to(rows, place);
-    count.line
-}
-
-/// Counts the line ends of a text before its heading.
-pub fn count_before(text: &[u8], from_heading: &[u8]) -> LineCount {
+/// The count before the rows of an end of a text.
+pub fn count_before(text: &[u8], end: &[u8]) -> LineCount
+    requires { IsEnd text.now end.now }
+    ensures { IsBefore text.now end.now result }
+{
     let mut count = LineCount::new();
-    let before = text.len().saturating_sub(from_heading.len());
-    for byte in text.get(..before).unwrap_or(&[]) {
-        count.pass(*byte);
-    }
-    count.at = 0;
+    count.pass_to(text, text.len() - without_mark(end).len());
     count
+}
+
+/// The line on which the first row of an end of a text begins, counted from 1.
+pub fn line_at(text: &[u8], end: &[u8]) -> u64
+    requires { IsEnd text.now end.now }
+    ensures { result ≡ line_of text.now (from_row end.now) }
+{
+    let mut count = LineCount::new();
+    count.pass_to(text, text.len() - end.len());
+    count.pass_ends(text);
+    count.line(text)
 }
 
 /// The rows of a text of this form, as the library `csv` reads them.
 pub fn rows_of<'a>(alloc: Global, form: Form<'a>) -> ByteRecordsIntoIter<&'a [u8]>
-    ensures before { HasRead form.entry.separator form.entry.text.now (owned_rows_reader result) [] }
+    ensures before { IsUnread form.entry.separator form.entry.text.now (owned_rows_reader result) }
     ensures left { 0 < owned_rows_left result }
 {
     let reader = ReaderBuilder::new()
@@ -153,14 +239,22 @@ pub fn rows_of<'a>(alloc: Global, form: Form<'a>) -> ByteRecordsIntoIter<&'a [u8
 /// A line of fields, without blanks round them. Error: an allocation failed.
 fn line_with(
     alloc: Global,
+    text: &[u8],
     form: Form<'_>,
     count: &mut LineCount,
     fields: ByteRecord,
 ) -> Result<CsvLine, AllocError>
+    requires counted { HasCounted text.now count.old }
+    requires between { is_between (state_of count.old.part) ≡ true }
     ensures fields { IfOk result (λ line. fields_of line.fields ≡ map trimmed (fields_of fields)) }
     ensures separator { IfOk result (λ line. line.separator ≡ form.entry.separator) }
+    ensures number { IfOk result (λ line. line.number ≡ line_of text.now (from_row (drop count.old.at text.now))) }
+    ensures counted { OnOk result (HasCounted text.now count.new) }
+    ensures row { OnOk result (row_end (separated form.entry.separator) (state_of count.old.part) (drop count.old.at text.now)
+        ≡ (state_of count.new.part, drop count.new.at text.now)) }
+    ensures between { OnOk result (is_between (state_of count.new.part) ≡ true) }
 {
-    let number = count.line_of_row(form.text, &fields);
+    let number = count.row_line(text, form.separator);
     let fields = trimmed_row(alloc, fields)?;
     Ok(CsvLine {
         number,
@@ -169,19 +263,27 @@ fn line_with(
     })
 }
 
-/// A line, from what the library `csv` reads, without blanks round its fields. The library refuses no row, so its only error is
-/// that an allocation failed.
+/// A line, from what the library `csv` reads, without blanks round its fields. It is the next one that is counted. The library
+/// refuses no row, so its only error is that an allocation failed.
 pub fn line_of(
     alloc: Global,
+    text: &[u8],
     form: Form<'_>,
     count: &mut LineCount,
     row: Result<ByteRecord, Error>,
 ) -> Result<CsvLine, AllocError>
+    requires counted { HasCounted text.now count.old }
+    requires between { is_between (state_of count.old.part) ≡ true }
     ensures fields { IfOk result (λ line. IsReadRow (λ fields. fields_of line.fields ≡ map trimmed (fields_of fields)) row) }
     ensures separator { IfOk result (λ line. line.separator ≡ form.entry.separator) }
+    ensures number { IfOk result (λ line. line.number ≡ line_of text.now (from_row (drop count.old.at text.now))) }
+    ensures counted { OnOk result (HasCounted text.now count.new) }
+    ensures row { OnOk result (row_end (separated form.entry.separator) (state_of count.old.part) (drop count.old.at text.now)
+        ≡ (state_of count.new.part, drop count.new.at text.now)) }
+    ensures between { OnOk result (is_between (state_of count.new.part) ≡ true) }
 {
     match row {
-        Ok(fields) => line_with(alloc, form, count, fields),
+        Ok(fields) => line_with(alloc, text, form, count, fields),
         Err(_) => Err(AllocError),
     }
 }

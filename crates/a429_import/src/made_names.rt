@@ -226,14 +226,20 @@ pub fn in_room_or(
     Ok(name)
 }
 
-/// Writes `-LLL`, and `-S` unless the SDI is any.
-pub fn put_label_end(end: &mut Text, label: Label, sdi: Option<Sdi>)
-    ensures { end.new ≡ end.old ++ label_end label sdi }
+/// Writes `-LLL`, and `-S` unless the SDI is any. Error: an allocation failed.
+pub fn put_label_end(end: &mut Vec<u8>, label: Label, sdi: Option<Sdi>) -> Result<(), AllocError>
+    ensures { OnOk result (end.new.items ≡ end.old.items ++ label_end label sdi) }
 {
-    end.put("-");
-    end.put_octal(label.value());
-    if let Some(sdi) = sdi {
-        end.put_bytes(&[b'-', b'0' + sdi.value()]);
+    let value = label.value();
+    end.extend_from_slice(&[
+        b'-',
+        b'0' + value / 64,
+        b'0' + value / 8 % 8,
+        b'0' + value % 8,
+    ])?;
+    match sdi {
+        Some(sdi) => end.extend_from_slice(&[b'-', b'0' + sdi.value()]),
+        None => Ok(()),
     }
 }
 

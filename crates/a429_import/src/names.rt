@@ -1,7 +1,7 @@
 //! Names in the order in which they came, in one text, and how one is found: each name is in one of several chains, which
 //! is chosen by its bytes, and is compared with the names of that chain alone.
 ghost use Rattle.std.specs.Prelude.{◌≡◌, ◌++◌, ◌∷◌, [], ◌<◌, Some, if◌then◌else◌, IfOk, OnOk, length, slice_index_or};
-ghost use Rattle.std.specs.List.{position_from};
+ghost use Rattle.std.specs.List.{count_by, position_from};
 ghost use Rattle.std.specs.Str.{bytes_eq};
 ghost use Rattle.a429_import.specs.ImportFields.{field_in};
 ghost use Rattle.a429_import.specs.Names.{AreTexts, IsIndexed, chain_of, hash_from, names_of};
@@ -102,6 +102,21 @@ impl Names {
             next = self.links.at(number);
         }
         found
+    }
+
+    /// How many names have these bytes.
+    pub fn count(&self, name: &[u8]) -> usize
+        requires { IsIndexed self.now }
+        ensures { result ≡ count_by (bytes_eq name.now) (names_of self.now) }
+    {
+        let mut count = 0;
+        let mut next = self.last(self.chain_of(name));
+        while next != 0 {
+            let number = next - 1;
+            count += usize::from(name == self.name(number));
+            next = self.links.at(number);
+        }
+        count
     }
 
     /// Adds a name at the end. Error: an allocation failed.

@@ -1,13 +1,15 @@
 //! Fields in quotes that do not end with a quote and a separator or a line end (RFC 4180). The library `csv` reads on, so
 //! rows below such a field would become a part of it.
-ghost use Rattle.std.specs.Prelude.{◌≡◌, false, is_some, true};
+ghost use Rattle.std.specs.Prelude.{◌≡◌, if◌then◌else◌, drop, false, is_some, option_map, true};
 ghost use Rattle.csv.specs.Reading.{strip_bom};
 ghost use Rattle.csv.specs.declared.parser.State.TheVariants as st;
 ghost use Rattle.a429_import.specs.ImportQuotes.{breaks_quotes, has_wrong_quotes, is_after_quote, is_in_text, is_inside_quotes, is_misquoted, is_misquoted_from, text_before};
-ghost use Rattle.a429_import.specs.ImportSteps.{state_of};
+ghost use Rattle.a429_import.specs.FaultLines.{quotes_line, wrong_in, wrong_line};
+ghost use Rattle.a429_import.specs.ImportSteps.{ends_field, state_of};
 ghost use Rattle.a429_import.specs.Imports.{separated};
+ghost use Rattle.a429_import.specs.LineCounts.{IsEnd};
 
-use crate::forms::{Form, text_before, without_mark};
+use crate::forms::{Form, from_place, text_before, without_mark};
 use crate::lines::line_at;
 use crate::steps::{Ended, Part, pass};
 
@@ -50,18 +52,21 @@ fn breaks_quotes(of_rows: bool, before: Part, after: Part) -> bool
     of_rows && is_after_quote(before) && is_in_text(after)
 }
 
-/// The place at which a field begins, after the byte at another place.
-fn field_after(ended: Ended, begin: usize, place: usize) -> usize {
+/// The place at which a field begins: another place, if a field ended before it.
+fn field_after(ended: Ended, begin: usize, after: usize) -> usize
+    ensures { result ≡ (if ends_field ended then after else begin) }
+{
     match ended {
         Ended::Nothing => begin,
-        _ => place.saturating_add(1),
+        _ => after,
     }
 }
 
 /// The place at which the first field begins that does not end as a field in quotes does. Line ends may come before the
 /// field.
 fn misquoted_place(of_rows: bool, separator: u8, text: &[u8]) -> Option<usize>
-    ensures { is_some result ≡ is_misquoted_from of_rows (separated separator) st.StartRecord text.now }
+    ensures wrong { is_some result ≡ is_misquoted_from of_rows (separated separator) st.StartRecord text.now }
+    ensures field { option_map (λ place. drop place text.now) result ≡ wrong_in of_rows (separated separator) text.now }
 {
     let mut part = Part::Row;
     let mut begin = 0;
@@ -71,7 +76,7 @@ fn misquoted_place(of_rows: bool, separator: u8, text: &[u8]) -> Option<usize>
             return Some(begin);
         }
         part = next;
-        begin = field_after(ended, begin, place);
+        begin = field_after(ended, begin, place + 1);
     }
     if is_inside_quotes(part) {
         Some(begin)
@@ -83,11 +88,14 @@ fn misquoted_place(of_rows: bool, separator: u8, text: &[u8]) -> Option<usize>
 /// The line on which such a field begins above the heading: the heading is inside its quotes.
 #[tactic(auto, using(crate::proofs::ImportQuotes::same_mark))]
 fn line_above(text: &[u8], form: Form<'_>) -> Option<u64>
-    ensures { is_some result ≡ is_misquoted false (separated form.entry.separator) (text_before form.entry.text.now text.now) }
+    ensures wrong { is_some result ≡ is_misquoted false (separated form.entry.separator) (text_before form.entry.text.now text.now) }
+    ensures line { result ≡ wrong_line false (separated form.entry.separator) (text_before form.entry.text.now text.now)
+        (text_before form.entry.text.now text.now) }
 {
-    let lines = without_mark(text_before(form.text, text));
+    let before = text_before(form.text, text);
+    let lines = without_mark(before);
     match misquoted_place(false, form.separator, lines) {
-        Some(place) => Some(line_at(text, text, lines, place)),
+        Some(place) => Some(line_at(before, from_place(lines, place))),
         None => None,
     }
 }
@@ -95,11 +103,13 @@ fn line_above(text: &[u8], form: Form<'_>) -> Option<u64>
 /// The line on which the first such field begins from the heading on.
 #[tactic(auto, using(crate::proofs::ImportQuotes::same_mark))]
 fn line_of_rows(text: &[u8], form: Form<'_>) -> Option<u64>
-    ensures { is_some result ≡ is_misquoted true (separated form.entry.separator) form.entry.text.now }
+    requires { IsEnd text.now form.text.now }
+    ensures wrong { is_some result ≡ is_misquoted true (separated form.entry.separator) form.entry.text.now }
+    ensures line { result ≡ wrong_line true (separated form.entry.separator) text.now form.entry.text.now }
 {
     let rows = without_mark(form.text);
     match misquoted_place(true, form.separator, rows) {
-        Some(place) => Some(line_at(text, form.text, rows, place)),
+        Some(place) => Some(line_at(text, from_place(rows, place))),
         None => None,
     }
 }
@@ -107,7 +117,9 @@ fn line_of_rows(text: &[u8], form: Form<'_>) -> Option<u64>
 /// The line on which the first field begins that does not end as a field in quotes does, counted from 1. `None` if there
 /// is no such field. The form is that of the text.
 pub fn misquoted_line_of(text: &[u8], form: Form<'_>) -> Option<u64>
-    ensures { is_some result ≡ has_wrong_quotes (separated form.entry.separator) form.entry.text.now text.now }
+    requires { IsEnd text.now form.text.now }
+    ensures wrong { is_some result ≡ has_wrong_quotes (separated form.entry.separator) form.entry.text.now text.now }
+    ensures line { result ≡ quotes_line (separated form.entry.separator) form.entry.text.now text.now }
 {
     match line_above(text, form) {
         Some(line) => Some(line),

@@ -19,6 +19,7 @@ use crate::kept::KeptTexts;
 use crate::known::Known;
 use crate::lines::CsvLine;
 use crate::notes::{Notes, has_label};
+use crate::refused::copy_of_line;
 use crate::rows::{ImportRow, RowFields, copy_of, row_of};
 use std::alloc::{AllocError, Global};
 
@@ -249,41 +250,50 @@ fn heading_fault(line: &CsvLine) -> Option<ImportFault>
     }
 }
 
-/// Takes one more line, which is the heading if there is none yet. The answer is the fault that it has, if any.
-fn next_line(alloc: Global, read: &mut LinesRead, line: CsvLine) -> Option<ImportFault>
+/// Takes one more line, which is the heading if there is none yet. The answer is the fault that it has, if any. Error: an
+/// allocation failed for the heading.
+fn next_line(
+    alloc: Global,
+    read: &mut LinesRead,
+    line: &CsvLine,
+) -> Result<Option<ImportFault>, AllocError>
     requires { (lines : List CsvLine) × HaveRows read.old.heading read.old lines }
-    ensures read { (lines : List CsvLine) → HaveRows read.old.heading read.old lines → AreRead result read.new (lines ++ line ∷ []) }
-    ensures heading { (lines : List CsvLine) → IsHeadingOf read.old.heading lines → IsHeadingOf read.new.heading (lines ++ line ∷ []) }
+    ensures read { IfOk result (λ fault. (lines : List CsvLine) → HaveRows read.old.heading read.old lines
+        → AreRead fault read.new (lines ++ line.now ∷ [])) }
+    ensures heading { OnOk result ((lines : List CsvLine) → IsHeadingOf read.old.heading lines
+        → IsHeadingOf read.new.heading (lines ++ line.now ∷ [])) }
 {
     match &read.heading {
         None => {
-            let fault = heading_fault(&line);
-            read.heading = Some(Heading::of(line));
-            fault
+            let copy = copy_of_line(line)?;
+            let fault = heading_fault(&copy);
+            read.heading = Some(Heading::of(copy));
+            Ok(fault)
         }
         Some(heading) => {
-            take_kept(
+            let taken = take_kept(
                 alloc,
                 &mut read.rows,
                 &mut read.notes,
                 &mut read.kept,
                 heading,
-                &line,
-            )
-            .err()
+                line,
+            );
+            Ok(taken.err())
         }
     }
 }
 
-/// Takes one more line, unless one before it has a fault.
-pub fn take_line(alloc: Global, read: &mut LinesRead, line: CsvLine)
+/// Takes one more line, unless one before it has a fault. Error: an allocation failed for the heading.
+pub fn take_line(alloc: Global, read: &mut LinesRead, line: &CsvLine) -> Result<(), AllocError>
     requires { (lines : List CsvLine) × StandsFor read.old lines }
-    ensures read { (lines : List CsvLine) → StandsFor read.old lines → StandsFor read.new (lines ++ line ∷ []) }
-    ensures heading { (lines : List CsvLine) → StandsFor read.old lines → IsHeadingOf read.old.heading lines
-        → IsHeadingOf read.new.heading (lines ++ line ∷ []) }
+    ensures read { OnOk result ((lines : List CsvLine) → StandsFor read.old lines → StandsFor read.new (lines ++ line.now ∷ [])) }
+    ensures heading { OnOk result ((lines : List CsvLine) → StandsFor read.old lines → IsHeadingOf read.old.heading lines
+        → IsHeadingOf read.new.heading (lines ++ line.now ∷ [])) }
 {
     if read.fault.is_none() {
-        let fault = next_line(alloc, read, line);
+        let fault = next_line(alloc, read, line)?;
         read.fault = fault;
     }
+    Ok(())
 }

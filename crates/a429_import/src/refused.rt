@@ -1,5 +1,7 @@
 //! The rows of a refused sheet, for a person: those that say something new, and the first ones with a fault. No contract
 //! rests on them.
+ghost use Rattle.std.specs.Prelude.{◌≡◌, IfOk};
+ghost use Rattle.a429_import.specs.LineCounts.{IsEnd};
 
 use crate::columns::Heading;
 use crate::forms::Form;
@@ -57,7 +59,9 @@ pub fn before_line(read: &LinesRead) -> Before {
 }
 
 /// A copy of a line. Error: an allocation failed.
-pub fn copy_of_line(line: &CsvLine) -> Result<CsvLine, AllocError> {
+pub fn copy_of_line(line: &CsvLine) -> Result<CsvLine, AllocError>
+    ensures { IfOk result (λ copy. copy ≡ line.now) }
+{
     Ok(CsvLine {
         number: line.number,
         separator: line.separator,
@@ -169,14 +173,17 @@ pub fn misquoted_rows(alloc: Global) -> RefusedRows {
 }
 
 /// A text with a row of data above its heading. Error: an allocation failed.
-pub fn titled_rows(alloc: Global, text: &[u8], form: Form<'_>) -> Result<RefusedRows, AllocError> {
+pub fn titled_rows(alloc: Global, text: &[u8], form: Form<'_>) -> Result<RefusedRows, AllocError>
+    requires { IsEnd text.now form.text.now }
+{
     let mut refused = RefusedRows::new(alloc);
     let mut rows = rows_of(alloc, form);
     let first = rows.next();
     // One call, instead of a drop of each of its parts.
     std::mem::drop(rows);
     if let Some(row) = first {
-        let titles = line_of(alloc, form, &mut count_before(text, form.text), row)?;
+        let mut count = count_before(text, form.text);
+        let titles = line_of(alloc, text, form, &mut count, row)?;
         refused.titles = Some(titles);
     }
     Ok(refused)

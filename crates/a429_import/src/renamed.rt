@@ -1,6 +1,6 @@
 //! Rows whose texts of groups, sources and receivers become names.
 ghost use Rattle.std.specs.Prelude.{◌≡◌, ◌++◌, ◌∷◌, [], IfOk, List, not, OnOk, unwrap_or};
-ghost use Rattle.std.specs.List.{count_by, position_from};
+ghost use Rattle.std.specs.List.{position_from};
 ghost use Rattle.std.specs.Str.{bytes_eq};
 ghost use Rattle.a429_import.specs.declared.rows.ImportRow.{ImportRow};
 ghost use Rattle.a429_import.specs.ImportReading.{HasRows};
@@ -8,7 +8,7 @@ ghost use Rattle.a429_import.specs.ImportFields.{field_in, utf8_in};
 ghost use Rattle.a429_import.specs.ImportTables.{name_in};
 ghost use Rattle.a429_import.specs.Known.{Knows, KnowsFirsts};
 ghost use Rattle.a429_import.specs.ImportTexts.{texts_view};
-ghost use Rattle.a429_import.specs.Names.{AreTexts, IsIndexed, names_of, texts_of};
+ghost use Rattle.a429_import.specs.Names.{IsIndexed, names_of};
 ghost use Rattle.a429_import.specs.RenamedReading.{AreNames};
 ghost use Rattle.a429_import.specs.Renamed.{all_renamed, base_of, chosen, end_of, is_alone, is_taken, long_name, name_for, names_in, names_of_row, plain_of, plains_of, renamed, source_text, text_of};
 
@@ -18,10 +18,9 @@ use crate::keyed_lines::key_end;
 use crate::known::Known;
 use crate::made_names::{in_room_or, numbered_name, plain_name, put_label_end};
 use crate::named_rows::NamedRows;
+use crate::names::Names;
 use crate::reading::{RowsRead, push_row};
 use crate::rows::{ImportRow, RowFields, TextFields};
-use crate::texts::Texts;
-use a429_text::Text;
 use std::alloc::{AllocError, Global};
 
 /// How many texts of a column are kept apart: as many as a table has sources at most.
@@ -92,64 +91,52 @@ fn base_of(alloc: Global, part: Part, row: &ImportRow) -> Result<Vec<u8>, AllocE
 fn end_of(alloc: Global, part: Part, row: &ImportRow) -> Result<Vec<u8>, AllocError>
     ensures { IfOk result (λ end. end.items ≡ end_of part row.now) }
 {
-    let mut end = Text::new(alloc);
+    let mut end = Vec::new(alloc);
     match part {
-        Part::Sources => put_label_end(&mut end, row.numbers.label, row.numbers.sdi),
+        Part::Sources => put_label_end(&mut end, row.numbers.label, row.numbers.sdi)?,
         Part::Receivers | Part::Groups => {}
     }
-    end.into_bytes()
-}
-
-/// How many of these names are this one.
-fn count_in(names: &Texts, name: &[u8]) -> usize
-    requires { AreTexts names.now }
-    ensures { result ≡ count_by (bytes_eq name.now) (texts_of names.now) }
-{
-    let mut count = 0;
-    for place in 0..names.len() {
-        count += usize::from(name == names.get(place));
-    }
-    count
+    Ok(end)
 }
 
 /// Whether a name is one of these, or of others.
-fn is_taken(names: &Texts, others: &Texts, name: &[u8]) -> bool
-    requires names { AreTexts names.now }
-    requires others { AreTexts others.now }
-    ensures { result ≡ is_taken (texts_of names.now ++ texts_of others.now) name.now }
+fn is_taken(names: &Names, others: &Names, name: &[u8]) -> bool
+    requires names { IsIndexed names.now }
+    requires others { IsIndexed others.now }
+    ensures { result ≡ is_taken (names_of names.now ++ names_of others.now) name.now }
 {
-    0 < count_in(names, name) || 0 < count_in(others, name)
+    0 < names.count(name) || 0 < others.count(name)
 }
 
 /// Whether a name is none of these, and none of others.
-fn is_free(names: &Texts, others: &Texts, name: &[u8]) -> bool
-    requires names { AreTexts names.now }
-    requires others { AreTexts others.now }
-    ensures { result ≡ not (is_taken (texts_of names.now ++ texts_of others.now) name.now) }
+fn is_free(names: &Names, others: &Names, name: &[u8]) -> bool
+    requires names { IsIndexed names.now }
+    requires others { IsIndexed others.now }
+    ensures { result ≡ not (is_taken (names_of names.now ++ names_of others.now) name.now) }
 {
     !is_taken(names, others, name)
 }
 
 /// Whether one text alone has this plain name.
-fn is_alone(plains: &Texts, plain: &[u8]) -> bool
-    requires { AreTexts plains.now }
-    ensures { result ≡ is_alone (texts_of plains.now) plain.now }
+fn is_alone(plains: &Names, plain: &[u8]) -> bool
+    requires { IsIndexed plains.now }
+    ensures { result ≡ is_alone (names_of plains.now) plain.now }
 {
-    !plain.is_empty() && !(1 < count_in(plains, plain))
+    !plain.is_empty() && !(1 < plains.count(plain))
 }
 
 /// The first long name that is none of these, and none of others. Error: an allocation failed.
 #[tactic(auto, unfolding(crate::specs::Renamed::long_name))]
 fn long_name(
     alloc: Global,
-    names: &Texts,
-    others: &Texts,
+    names: &Names,
+    others: &Names,
     base: &[u8],
     end: &[u8],
 ) -> Result<Vec<u8>, AllocError>
-    requires names { AreTexts names.now }
-    requires others { AreTexts others.now }
-    ensures { IfOk result (λ name. name.items ≡ long_name (texts_of names.now ++ texts_of others.now) base.now end.now) }
+    requires names { IsIndexed names.now }
+    requires others { IsIndexed others.now }
+    ensures { IfOk result (λ name. name.items ≡ long_name (names_of names.now ++ names_of others.now) base.now end.now) }
 {
     for number in 0..NUMBERS {
         let name = numbered_name(alloc, base, end, number)?;
@@ -163,15 +150,15 @@ fn long_name(
 /// The long name of a row's receiver, source or group that is none of these, and none of others. Error: an allocation failed.
 fn long_of(
     alloc: Global,
-    names: &Texts,
-    others: &Texts,
+    names: &Names,
+    others: &Names,
     part: Part,
     row: &ImportRow,
 ) -> Result<Vec<u8>, AllocError>
-    requires names { AreTexts names.now }
-    requires others { AreTexts others.now }
+    requires names { IsIndexed names.now }
+    requires others { IsIndexed others.now }
     ensures { IfOk result (λ name. name.items
-        ≡ long_name (texts_of names.now ++ texts_of others.now) (base_of part row.now) (end_of part row.now)) }
+        ≡ long_name (names_of names.now ++ names_of others.now) (base_of part row.now) (end_of part row.now)) }
 {
     let base = base_of(alloc, part, row)?;
     let end = end_of(alloc, part, row)?;
@@ -182,14 +169,14 @@ fn long_of(
 #[tactic(auto, unfolding(crate::specs::Renamed::chosen))]
 fn chosen(
     alloc: Global,
-    plains: &Texts,
-    earlier: &Texts,
+    plains: &Names,
+    earlier: &Names,
     part: Part,
     row: &ImportRow,
 ) -> Result<Vec<u8>, AllocError>
-    requires plains { AreTexts plains.now }
-    requires earlier { AreTexts earlier.now }
-    ensures { IfOk result (λ name. name.items ≡ chosen (texts_of plains.now) (texts_of earlier.now) part row.now) }
+    requires plains { IsIndexed plains.now }
+    requires earlier { IsIndexed earlier.now }
+    ensures { IfOk result (λ name. name.items ≡ chosen (names_of plains.now) (names_of earlier.now) part row.now) }
 {
     if plains.len() > MOST_TEXTS {
         return Vec::from_slice(alloc, name_in(part, row).as_bytes());
@@ -207,13 +194,13 @@ fn chosen(
 /// Adds the plain name of a row's receiver, source or group. Error: an allocation failed.
 fn push_plain(
     alloc: Global,
-    plains: &mut Texts,
+    plains: &mut Names,
     part: Part,
     row: &ImportRow,
 ) -> Result<(), AllocError>
-    requires { AreTexts plains.old }
-    ensures texts { OnOk result (texts_of plains.new ≡ texts_of plains.old ++ plain_of part row.now ∷ []) }
-    ensures are { OnOk result (AreTexts plains.new) }
+    requires { IsIndexed plains.old }
+    ensures texts { OnOk result (names_of plains.new ≡ names_of plains.old ++ plain_of part row.now ∷ []) }
+    ensures are { OnOk result (IsIndexed plains.new) }
 {
     let plain = plain_of(alloc, part, row)?;
     plains.push(&plain)
@@ -225,12 +212,12 @@ fn plains_of(
     part: Part,
     named: &NamedRows,
     rows: &[ImportRow],
-) -> Result<Texts, AllocError>
+) -> Result<Names, AllocError>
     requires { KnowsFirsts part named.now rows.now }
-    ensures texts { IfOk result (λ plains. texts_of plains ≡ plains_of part rows.now) }
-    ensures are { IfOk result AreTexts }
+    ensures texts { IfOk result (λ plains. names_of plains ≡ plains_of part rows.now) }
+    ensures are { IfOk result IsIndexed }
 {
-    let mut plains = Texts::new(alloc);
+    let mut plains = Names::new(alloc, MOST_TEXTS)?;
     for place in 0..named.len() {
         push_plain(alloc, &mut plains, part, &rows[named.first_at(place)])?;
     }
@@ -240,16 +227,16 @@ fn plains_of(
 /// Adds the name of a row's receiver, source or group. Error: an allocation failed.
 fn push_chosen(
     alloc: Global,
-    names: &mut Texts,
-    plains: &Texts,
+    names: &mut Names,
+    plains: &Names,
     part: Part,
     row: &ImportRow,
 ) -> Result<(), AllocError>
-    requires names { AreTexts names.old }
-    requires plains { AreTexts plains.now }
-    ensures texts { OnOk result (texts_of names.new
-        ≡ texts_of names.old ++ chosen (texts_of plains.now) (texts_of names.old) part row.now ∷ []) }
-    ensures are { OnOk result (AreTexts names.new) }
+    requires names { IsIndexed names.old }
+    requires plains { IsIndexed plains.now }
+    ensures texts { OnOk result (names_of names.new
+        ≡ names_of names.old ++ chosen (names_of plains.now) (names_of names.old) part row.now ∷ []) }
+    ensures are { OnOk result (IsIndexed names.new) }
 {
     let name = chosen(alloc, plains, names, part, row)?;
     names.push(&name)
@@ -262,13 +249,13 @@ fn names_in(
     part: Part,
     named: &NamedRows,
     rows: &[ImportRow],
-) -> Result<Texts, AllocError>
+) -> Result<Names, AllocError>
     requires { KnowsFirsts part named.now rows.now }
-    ensures texts { IfOk result (λ names. texts_of names ≡ names_in part rows.now) }
-    ensures are { IfOk result AreTexts }
+    ensures texts { IfOk result (λ names. names_of names ≡ names_in part rows.now) }
+    ensures are { IfOk result IsIndexed }
 {
     let plains = plains_of(alloc, part, named, rows)?;
-    let mut names = Texts::new(alloc);
+    let mut names = Names::new(alloc, MOST_TEXTS)?;
     for place in 0..named.len() {
         push_chosen(
             alloc,
@@ -284,9 +271,9 @@ fn names_in(
 /// The names of all receivers, sources and groups, in the order of their first rows.
 #[derive(Drop)]
 pub struct AllNames {
-    pub receivers: Texts,
-    pub sources: Texts,
-    pub groups: Texts,
+    pub receivers: Names,
+    pub sources: Names,
+    pub groups: Names,
 }
 
 /// The names of all receivers, sources and groups of known rows. Error: an allocation failed.
@@ -315,21 +302,21 @@ fn place_for(part: Part, named: &NamedRows, row: &ImportRow) -> usize
 }
 
 /// The name at a place, as a text.
-fn name_at(names: &Texts, place: usize) -> &str
-    requires { AreTexts names.now }
-    ensures { result.now ≡ unwrap_or (utf8_in (field_in place (texts_of names.now))) [] }
+fn name_at(names: &Names, place: usize) -> &str
+    requires { IsIndexed names.now }
+    ensures { result.now ≡ unwrap_or (utf8_in (field_in place (names_of names.now))) [] }
 {
-    match utf8_in(names.get(place)) {
+    match utf8_in(names.name(place)) {
         Some(name) => name,
         None => "",
     }
 }
 
 /// The name of a row's receiver, source or group.
-fn name_for<'a>(part: Part, named: &NamedRows, names: &'a Texts, row: &ImportRow) -> &'a str
+fn name_for<'a>(part: Part, named: &NamedRows, names: &'a Names, row: &ImportRow) -> &'a str
     requires named { IsIndexed named.now.names }
-    requires names { AreTexts names.now }
-    ensures { (rows : List ImportRow) → KnowsFirsts part named.now rows → texts_of names.now ≡ names_in part rows
+    requires names { IsIndexed names.now }
+    ensures { (rows : List ImportRow) → KnowsFirsts part named.now rows → names_of names.now ≡ names_in part rows
         → result.now ≡ name_for part rows row.now }
 {
     name_at(names, place_for(part, named, row))

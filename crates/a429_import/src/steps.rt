@@ -1,8 +1,9 @@
 //! What a byte of a text ends, and where in a row the next one is, as the library `csv` passes bytes.
-ghost use Rattle.std.specs.Prelude.{◌≡◌};
+ghost use Rattle.std.specs.Prelude.{◌≡◌, true};
 ghost use Rattle.csv.specs.Machine.{in_field, start_field, step};
-ghost use Rattle.a429_import.specs.ImportSteps.{ended_by, state_of};
+ghost use Rattle.a429_import.specs.ImportSteps.{ended_by, ends_row, state_of};
 ghost use Rattle.a429_import.specs.Imports.{separated};
+ghost use Rattle.a429_import.specs.LineCounts.{is_between};
 
 use crate::forms::ends_line;
 
@@ -33,11 +34,22 @@ pub enum Ended {
     Row,
 }
 
+/// Whether a row ended.
+pub fn ends_row(ended: Ended) -> bool
+    ensures { result ≡ ends_row ended }
+{
+    match ended {
+        Ended::Row => true,
+        _ => false,
+    }
+}
+
 /// Passes a byte of a field outside quotes.
 #[inline(always)]
 fn pass_text(separator: u8, byte: u8) -> (Part, Ended)
     ensures part { state_of result.0 ≡ (in_field (separated separator) byte).0 }
     ensures ended { result.1 ≡ ended_by (in_field (separated separator) byte).1 }
+    ensures between { ends_row result.1 ≡ true → is_between (state_of result.0) ≡ true }
 {
     if byte == separator {
         (Part::Field, Ended::Field)
@@ -55,6 +67,7 @@ fn pass_text(separator: u8, byte: u8) -> (Part, Ended)
 fn pass_first(separator: u8, byte: u8) -> (Part, Ended)
     ensures part { state_of result.0 ≡ (start_field (separated separator) byte).0 }
     ensures ended { result.1 ≡ ended_by (start_field (separated separator) byte).1 }
+    ensures between { ends_row result.1 ≡ true → is_between (state_of result.0) ≡ true }
 {
     if byte == b'"' {
         (Part::Quoted, Ended::Nothing)
@@ -68,6 +81,7 @@ fn pass_first(separator: u8, byte: u8) -> (Part, Ended)
 pub fn pass(separator: u8, part: Part, byte: u8) -> (Part, Ended)
     ensures part { state_of result.0 ≡ (step (separated separator) (state_of part) byte).0 }
     ensures ended { result.1 ≡ ended_by (step (separated separator) (state_of part) byte).1 }
+    ensures between { ends_row result.1 ≡ true → is_between (state_of result.0) ≡ true }
 {
     match part {
         Part::Text => pass_text(separator, byte),

@@ -6,7 +6,7 @@ ghost use Rattle.a429_import.specs.declared.lines.CsvLine.{CsvLine};
 ghost use Rattle.a429_import.specs.FilledReading.{IsReadFilled};
 ghost use Rattle.a429_import.specs.ImportForms.{from_heading, separator_in};
 ghost use Rattle.a429_import.specs.ImportMaps.{given_texts};
-ghost use Rattle.a429_import.specs.ImportReading.{HasRead, IsOfNamed};
+ghost use Rattle.a429_import.specs.ImportReading.{IsOfNamed, IsUnread};
 ghost use Rattle.a429_import.specs.Imports.{AreNamedLines, has_text};
 
 use crate::filled_reading::{SheetRead, take_filled_by};
@@ -74,7 +74,7 @@ fn read_rows(
 ) -> Result<(), AllocError>
     requires separator { form.separator ≡ separator_in (given_texts maps.now) text.now }
     requires text { form.text.now ≡ from_heading (given_texts maps.now) text.now }
-    requires before { HasRead form.separator form.text.now (owned_rows_reader rows.old) [] }
+    requires before { IsUnread form.separator form.text.now (owned_rows_reader rows.old) }
     requires left { 0 < owned_rows_left rows.old }
     requires read { IsReadFilled options read.old [] }
     ensures { OnOk result ((all : List CsvLine) × AreNamedLines (given_texts maps.now) text.now all × IsReadFilled options read.new all) }
@@ -82,7 +82,7 @@ fn read_rows(
     let mut count = count_before(text, form.text);
     let mut is_below = false;
     for row in rows {
-        let line = line_of(alloc, form, &mut count, row)?;
+        let line = line_of(alloc, text, form, &mut count, row)?;
         is_below = take_filled(alloc, maps, options, is_below, read, line)?;
     }
     Ok(())

@@ -1,4 +1,4 @@
-use Rattle.std.proofs.Common.{◌≡◌, ◌∙◌, ◌+◌, ◌-◌, ℕ, List, None, Some, ap, arith, cond, drop, length, sym, take}
+use Rattle.std.proofs.Common.{◌≡◌, ◌∙◌, ◌+◌, ℕ, List, None, Some, ap, arith, cond, drop, length, sym, take}
 use Rattle.std.specs.Prelude.{nat_lt}
 use Rattle.a429_import.specs.ImportForms.{after_separator, field_len, names_column, names_in_row}
 use Rattle.a429_import.specs.ImportMaps.{given_texts}

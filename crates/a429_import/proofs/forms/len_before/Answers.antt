@@ -1,4 +1,4 @@
-use Rattle.std.proofs.Common.{◌≡◌, ◌∙◌, ◌+◌, Bool, List, ℕ, ap, arith, cond, drop, refl, suc, sym}
+use Rattle.std.proofs.Common.{◌≡◌, ◌∙◌, ◌+◌, Bool, List, ℕ, ap, arith, cond, drop, suc, sym}
 use Rattle.a429_import.specs.ImportForms.{len_before}
 use Rattle.a429_import.proofs.ImportForms.{len_at, len_passed}
 use Rattle.a429_import.proofs.forms.len_before.Goals as goal

@@ -14,19 +14,20 @@ take_line-requires-in-Some c =
     let known : KeyedBelow c.in-Some.heading.line c.args.read.now c.requires.0 = subst (λ o. HasKeyed o c.args.read.now c.requires.0) c.in-Some.is c.requires.1 in
     (c.in-Some.heading.line ∷ known.keyed, known.stands)
 
-pub returns-in-None : goal.returns-in-None
-returns-in-None c = λ lines known.
+pub returns-in_ok-take_line-in-None : goal.returns-in_ok-take_line-in-None
+returns-in_ok-take_line-in-None c = λ lines known.
     let old : LinesRead = c.args.read.now in
     let new : LinesRead = c.take_line.new.read in
     let none : List CsvLine = [] in
     let nothing = subst (λ o. HasKeyed o old lines) c.in-None.is known in
-    first_keyed new.heading new c.args.line lines nothing.0 (c.take_line.ensures.heading none nothing.1 (subst (λ o. IsHeadingOf o none) (sym c.in-None.is) refl)) (c.take_line.ensures.read none nothing.1)
+    first_keyed new.heading new c.args.line.now lines nothing.0 (c.in_ok-take_line-in-None.ensures.heading none nothing.1 (subst (λ o. IsHeadingOf o none) (sym c.in-None.is) refl)) (c.in_ok-take_line-in-None.ensures.read none nothing.1)
 
-pub returns-in_ok-keyed-in-Some : goal.returns-in_ok-keyed-in-Some
-returns-in_ok-keyed-in-Some c = λ lines known.
+pub returns-in_ok-take_line-in-Some : goal.returns-in_ok-take_line-in-Some
+returns-in_ok-take_line-in-Some c = λ lines known.
     let old : LinesRead = c.args.read.now in
     let new : LinesRead = c.take_line-in-Some.new.read in
     let heading : CsvLine = c.in-Some.heading.line in
+    let keyed : CsvLine = c.write_keyed.new.keyed in
     let b : KeyedBelow heading old lines = subst (λ o. HasKeyed o old lines) c.in-Some.is known in
-    more_keyed new.heading heading c.args.line c.in_ok-keyed-in-Some.keyed old new lines b c.in_ok-keyed-in-Some.ensures
-    (c.take_line-in-Some.ensures.heading (heading ∷ b.keyed) b.stands (subst (λ o. IsHeadingOf o (heading ∷ b.keyed)) (sym c.in-Some.is) (b.keyed, refl))) (c.take_line-in-Some.ensures.read (heading ∷ b.keyed) b.stands)
+    more_keyed new.heading heading c.args.line.now keyed old new lines b c.in_ok-write_keyed-in-Some.ensures
+    (c.in_ok-take_line-in-Some.ensures.heading (heading ∷ b.keyed) b.stands (subst (λ o. IsHeadingOf o (heading ∷ b.keyed)) (sym c.in-Some.is) (b.keyed, refl))) (c.in_ok-take_line-in-Some.ensures.read (heading ∷ b.keyed) b.stands)

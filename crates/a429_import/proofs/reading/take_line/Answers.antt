@@ -7,18 +7,18 @@ pub returns-else-is_none-clause-read : goal.returns-else-is_none-clause-read
 returns-else-is_none-clause-read c = λ lines known.
     let old : LinesRead = c.args.read.now in
     let new : LinesRead = record { heading = old.heading; rows = old.rows; notes = old.notes; kept = old.kept; fault = old.fault } in
-    line_skipped old.fault old new lines c.args.line (search rules) known
+    line_skipped old.fault old new lines c.args.line.now (search rules) known
 
 pub returns-else-is_none-clause-heading : goal.returns-else-is_none-clause-heading
-returns-else-is_none-clause-heading c = λ lines known headed. headed_skipped c.args.read.now.fault c.args.read.now c.args.read.now.heading lines c.args.line (search rules) known headed
+returns-else-is_none-clause-heading c = λ lines known headed. headed_skipped c.args.read.now.fault c.args.read.now c.args.read.now.heading lines c.args.line.now (search rules) known headed
 
-pub next_line-fault-requires : goal.next_line-fault-requires
-next_line-fault-requires c = (c.requires.0, unfaulted c.args.read.now.fault c.args.read.now c.requires.0 c.if-is_none.ensures c.requires.1)
+pub next_line-requires : goal.next_line-requires
+next_line-requires c = (c.requires.0, unfaulted c.args.read.now.fault c.args.read.now c.requires.0 c.if-is_none.ensures c.requires.1)
 
-pub returns-then-is_none-clause-read : goal.returns-then-is_none-clause-read
-returns-then-is_none-clause-read c = λ lines known.
-    fault_kept c.next_line-fault.result c.next_line-fault.new.read (lines ++ c.args.line ∷ [])
-    (c.next_line-fault.ensures.read lines (unfaulted c.args.read.now.fault c.args.read.now lines c.if-is_none.ensures known))
+pub returns-in_ok-fault-clause-read : goal.returns-in_ok-fault-clause-read
+returns-in_ok-fault-clause-read c = λ lines known.
+    fault_kept c.in_ok-fault.fault c.next_line.new.read (lines ++ c.args.line.now ∷ [])
+    (c.in_ok-fault.ensures.read lines (unfaulted c.args.read.now.fault c.args.read.now lines c.if-is_none.ensures known))
 
-pub returns-then-is_none-clause-heading : goal.returns-then-is_none-clause-heading
-returns-then-is_none-clause-heading c = λ lines known headed. c.next_line-fault.ensures.heading lines headed
+pub returns-in_ok-fault-clause-heading : goal.returns-in_ok-fault-clause-heading
+returns-in_ok-fault-clause-heading c = λ lines known headed. c.in_ok-fault.ensures.heading lines headed

@@ -1,9 +1,7 @@
-use Rattle.std.proofs.Common.{◌∙◌, ◌∷◌, ◌++◌, [], Bool, List, Ok, Option, Result, ap, cond, sym, ℕ}
-use Rattle.a429_import.specs.declared.fault.ImportColumn.{ImportColumn}
+use Rattle.std.proofs.Common.{◌∙◌, ◌∷◌, ◌++◌, [], Bool, List, Ok, ap, cond, sym}
 use Rattle.a429_import.specs.declared.rows.ImportRow.{ImportRow}
 use Rattle.a429_import.specs.ImportLimits.{too_many}
-use Rattle.a429_import.specs.ImportReading.{HasRows, IsAdded}
-use Rattle.a429_import.specs.ImportRows.{CsvFault, limited, with_row}
+use Rattle.a429_import.specs.ImportRows.{limited, with_row}
 use Rattle.a429_import.specs.ImportTexts.{row_view}
 use Rattle.a429_import.proofs.ImportReading.{added_as, ok_weaker}
 use Rattle.a429_import.proofs.reading.take_row.Goals as goal

@@ -2,7 +2,7 @@ use Rattle.std.proofs.Common.{◌≤◌, ◌∙◌, ◌++◌, List, ap, arith, l
 use Rattle.std.proofs.lemmas.List.{append-nil, drop_all}
 use Rattle.a429_import.specs.declared.rows.ImportRow.{ImportRow}
 use Rattle.a429_import.specs.ImportTables.{firsts}
-use Rattle.a429_import.specs.Names.{texts_of}
+use Rattle.a429_import.specs.Names.{names_of}
 use Rattle.a429_import.specs.Renamed.{plain_of, plains_of}
 use Rattle.a429_import.proofs.Knowing.{first_is, first_within}
 use Rattle.a429_import.proofs.ChosenNames.{firsts_count, mapped_more}
@@ -10,8 +10,8 @@ use Rattle.a429_import.proofs.renamed.plains_of.Goals as goal
 
 pub loop-place-init : goal.loop-place-init
 loop-place-init c = record {
-  texts = ap (λ xs. xs ++ plains_of c.args.part c.args.rows.now) c.new-plains.ensures.texts;
-  are = c.new-plains.ensures.are;
+  texts = ap (λ xs. xs ++ plains_of c.args.part c.args.rows.now) c.in_ok-plains.ensures.1;
+  are = c.in_ok-plains.ensures.0;
 }
 
 pub offset_bounds-rows-first_at : goal.offset_bounds-rows-first_at
@@ -28,7 +28,7 @@ loop-place-preserved c =
     let row : ImportRow = c.index-rows-first_at.result in
     let first = first_is c.args.part c.args.named.now rows c.loop-place.place c.first_at.result row c.requires (omega arith) c.first_at.ensures c.index-rows-first_at.is in
     record {
-      texts = mapped_more (plain_of c.args.part) (firsts c.args.part rows) c.loop-place.place row (texts_of c.loop-place.plains) (texts_of c.push_plain.new.plains) (plains_of c.args.part rows) first c.loop-place.invariant.texts c.in_ok-push_plain.ensures.texts;
+      texts = mapped_more (plain_of c.args.part) (firsts c.args.part rows) c.loop-place.place row (names_of c.loop-place.plains) (names_of c.push_plain.new.plains) (plains_of c.args.part rows) first c.loop-place.invariant.texts c.in_ok-push_plain.ensures.texts;
       are = c.in_ok-push_plain.ensures.are;
     }
 
@@ -37,4 +37,4 @@ returns-clause-texts c =
     let fs : List ImportRow = firsts c.args.part c.args.rows.now in
     let count = firsts_count c.args.part c.args.named.now c.args.rows.now c.requires in
     let past : length fs ≤ c.loop-place.place = omega (arith, count) in
-    sym (append-nil (texts_of c.loop-place.plains)) ∙ sym (ap (λ (rs : List ImportRow). texts_of c.loop-place.plains ++ map (plain_of c.args.part) rs) (drop_all c.loop-place.place fs past)) ∙ c.loop-place.invariant.texts
+    sym (append-nil (names_of c.loop-place.plains)) ∙ sym (ap (λ (rs : List ImportRow). names_of c.loop-place.plains ++ map (plain_of c.args.part) rs) (drop_all c.loop-place.place fs past)) ∙ c.loop-place.invariant.texts

@@ -1,4 +1,4 @@
-use Rattle.std.proofs.Common.{◌≡◌, ◌∙◌, ℕ, List, Option, ◌∷◌, [], string_bytes, subst, sym}
+use Rattle.std.proofs.Common.{◌∙◌, ℕ, List, Option, ◌∷◌, [], string_bytes, subst, sym}
 use Rattle.std.proofs.lemmas.Result.{on_ok_weaker}
 use Rattle.toml.specs.Data.{Data}
 use Rattle.a429_import.specs.declared.rows.ImportRow.{ImportRow}

@@ -4,7 +4,6 @@ use Rattle.std.proofs.lemmas.Result.{on_ok_weaker}
 use Rattle.toml.specs.View.{table_view}
 use Rattle.a429_import.specs.KeptFields.{lines_kept}
 use Rattle.a429_import.specs.PrintedTables.{alone}
-use Rattle.a429_import.specs.TableTexts.{above_of}
 use Rattle.a429_import.proofs.PrintedTables.{with_table}
 use Rattle.a429_import.proofs.SkippedTexts.{above_skipped}
 use Rattle.a429_import.proofs.tables.put_table.Goals as goal

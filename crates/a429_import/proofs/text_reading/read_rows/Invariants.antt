@@ -11,6 +11,6 @@ abbrev pub invariant-loop-row : goal.invariant-loop-row
 invariant-loop-row l = record {
   turns : 0 < l.row-iterator.left;
   all : List CsvLine;
-  read : HasRead l.form.separator l.form.text.now l.row-iterator.rdr all;
+  read : HasRead l.form.separator l.text l.form.text.now l.row-iterator.rdr l.count all;
   known : IsOfNamed (given_texts l.maps) l.is_below (IsReadFilled l.options l.read) (filter (λ line. has_text (fields_of line.fields)) all);
 }

@@ -8,7 +8,7 @@ invariant-loop-next l = record {
   bound : ℕ;
   within : bound ≤ length (names_of l.self);
   next : l.next ≡ last_below (length l.self.lasts.items) (chain_of (length l.self.lasts.items) l.name) (names_of l.self) bound;
-  found : l.found ≡ found_from (length l.self.lasts.items) l.name (names_of l.self) bound;
+  found : l.found ≡ found_from l.name (names_of l.self) bound;
 }
 
 abbrev pub decreases-loop-next : goal.decreases-loop-next
