@@ -99,6 +99,7 @@ fn own_help(option: OptionName) -> (&'static str, &'static str) {
         OptionName::Quiet => ("", QUIET),
         OptionName::Only => ("GROUP", ONLY),
         OptionName::Keep => ("PLAN", KEEP),
+        OptionName::Plan => ("PLAN", ON_PLAN),
         OptionName::KeepColumns => ("HEADING", KEEP_COLUMNS),
         OptionName::Ignore => ("CHANNEL", IGNORE),
         OptionName::Shift => ("US", SHIFT),
@@ -202,6 +203,10 @@ pub const PLAN: &str = "Plan a station on the fewest buses for its periods, with
 pub const KEEP: &str = "\
 Keep places of this plan text: an output that is in it
 stays where it is, if there is room for all";
+
+pub const ON_PLAN: &str = "\
+Work on this plan text, which `check` accepts, instead
+of planning";
 
 pub const PLAN_END: &str = "\
 Each label recurs at the greatest power of two of slots in its interval. No

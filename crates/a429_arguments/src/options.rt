@@ -42,6 +42,7 @@ pub enum OptionName {
     Quiet,
     Only,
     Keep,
+    Plan,
     KeepColumns,
     Ignore,
     Shift,
@@ -125,7 +126,7 @@ macro_rules! options {
 
 /// The options, in the order of `OptionName`: the name of each without the two hyphens, and what is given with it. The
 /// ranges are those of docs/RULES.md, Limits; that of `--rate` is the bit rate of a line (ARINC 429 Part 1).
-pub static OPTIONS: [(OptionName, &str, OptionKind); 42] = [
+pub static OPTIONS: [(OptionName, &str, OptionKind); 43] = [
     flag!(Csv, "csv"),
     flag!(Json, "json"),
     flag!(Stamp, "stamp"),
@@ -163,6 +164,7 @@ pub static OPTIONS: [(OptionName, &str, OptionKind); 42] = [
     flag!(Quiet, "quiet"),
     text!(Only, "only", Any),
     text!(Keep, "keep", Any),
+    text!(Plan, "plan", Any),
     texts!(KeepColumns, "keep-columns", Any),
     texts!(Ignore, "ignore", Any),
     text!(Shift, "shift", Shift),
@@ -179,13 +181,15 @@ pub const IMPORT_OPTIONS: &[OptionName] = options![Map, Names, Fill, KeepColumns
 
 pub const PLAN_OPTIONS: &[OptionName] = options![Keep, Csv, Json];
 
-pub const ICD_OPTIONS: &[OptionName] = options![Csv, Text, Json, Stamp];
+pub const PLANNED_OPTIONS: &[OptionName] = options![Plan, Csv, Json, Stamp];
 
-pub const DRAW_OPTIONS: &[OptionName] = options![Group, Slots, Width, Html];
+pub const ICD_OPTIONS: &[OptionName] = options![Plan, Csv, Text, Json, Stamp];
 
-pub const SLOTS_OPTIONS: &[OptionName] = options![Group, All, Code, Board, Csv, Json, Stamp];
+pub const DRAW_OPTIONS: &[OptionName] = options![Plan, Group, Slots, Width, Html];
 
-pub const LOAD_OPTIONS: &[OptionName] = options![Limit, Csv, Json, Stamp];
+pub const SLOTS_OPTIONS: &[OptionName] = options![Plan, Group, All, Code, Board, Csv, Json, Stamp];
+
+pub const LOAD_OPTIONS: &[OptionName] = options![Plan, Limit, Csv, Json, Stamp];
 
 pub const DIFF_OPTIONS: &[OptionName] = options![All, Csv, Json, Stamp];
 

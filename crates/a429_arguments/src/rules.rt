@@ -32,7 +32,7 @@ pub enum Rule {
 }
 
 /// The rules, in the order in which they are checked. With a command: the rule is for that command alone.
-pub static RULES: [(Rule, Option<Verb>); 34] = [
+pub static RULES: [(Rule, Option<Verb>); 32] = [
     (
         Rule::OneOf(OptionName::Data, OptionName::Bnr, OptionName::Bcd),
         Some(Verb::Encode),
@@ -68,8 +68,6 @@ pub static RULES: [(Rule, Option<Verb>); 34] = [
     (Rule::Excludes(OptionName::Rows, OptionName::Json), None),
     (Rule::Excludes(OptionName::Stamp, OptionName::Json), None),
     (Rule::Excludes(OptionName::Stamp, OptionName::Code), None),
-    (Rule::Excludes(OptionName::Keep, OptionName::Csv), None),
-    (Rule::Excludes(OptionName::Keep, OptionName::Json), None),
     (Rule::Fits(OptionName::Drift), None),
     (Rule::Excludes(OptionName::Align, OptionName::Shift), None),
     (Rule::Excludes(OptionName::Align, OptionName::Drift), None),
@@ -105,7 +103,6 @@ fn both_message(option: OptionName, other: OptionName) -> &'static str {
     match (option, other) {
         (OptionName::Sent, _) => "'--sent' cannot be used with '--csv', '--json' or '--summary'",
         (OptionName::Stamp, _) => "'--stamp' cannot be used with '--json' or '--c'",
-        (OptionName::Keep, _) => "'--keep' cannot be used with '--csv' or '--json'",
         (OptionName::Align, _) => "'--align' cannot be used with '--shift' or '--drift'",
         (OptionName::Csv, _) => "'--csv' and '--json' cannot be used together",
         (_, OptionName::Board) => "'--c' and '--board' cannot be used together",

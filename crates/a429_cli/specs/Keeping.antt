@@ -1,16 +1,16 @@
 -- The command `plan` with `--keep`: what it writes, and when it is refused (profile: output; docs/RULES.md, Plans that stay).
 use Rattle.std.specs.Prelude.{◌≡◌, ◌⊎◌, ◌∷◌, [], ℕ, List, Option, None, Some, Err}
-use Rattle.a429_arguments.specs.Given.{text_given}
+use Rattle.a429_arguments.specs.Given.{form_of, text_given}
 use Rattle.a429_arguments.specs.Requests.{AskedBytes}
 use Rattle.a429_arguments.specs.declared.options.OptionName.TheVariants as option
 use Rattle.a429_arguments.specs.declared.forms.Verb.TheVariants as verb
+use Rattle.a429_cli.specs.GivenPlans.{keep_refusal, plan_kind}
+use Rattle.a429_cli.specs.PlanRows.{told_plan}
 use Rattle.a429_cli.specs.Plans.{IsNoPlanReply, IsPlanReply}
 use Rattle.a429_console.specs.FileReadings.{AreRead, IsFirstUnread}
 use Rattle.a429_console.specs.Tables.{IsProposedBy, IsTableRefusal}
 use Rattle.a429_console.specs.declared.refusals.CommandRefusal.{CommandRefusal}
 use Rattle.a429_console.specs.declared.refusals.CommandRefusal.TheVariants as refused
-use Rattle.a429_console.specs.declared.refusals.PlanKind.{PlanKind}
-use Rattle.a429_console.specs.declared.refusals.PlanKind.TheVariants as kinds
 use Rattle.a429_cert.specs.Due.{IsDue}
 use Rattle.a429_cert.specs.PlanText.{plan_text_of}
 use Rattle.a429_cert.specs.Verdicts.{verdict}
@@ -19,33 +19,22 @@ use Rattle.a429_cert.specs.declared.verdicts.Verdict.TheVariants.{Fewest}
 use Rattle.a429_equipment.specs.TableRecord.{TableRecord}
 use Rattle.a429_keep.specs.KeptPlans.{IsKept}
 use Rattle.a429_keep.specs.Readings.{reading}
-use Rattle.a429_keep.specs.declared.fault.KeepFault.{KeepFault}
 use Rattle.a429_keep.specs.declared.fault.KeepFault.TheVariants as faults
 use Rattle.a429_keep.specs.declared.fault.KeepReason.{KeepReason}
-use Rattle.a429_keep.specs.declared.fault.KeepReason.TheVariants as reasons
 use Rattle.a429_slots.specs.Proposed.{Proposed}
-
-abbrev pub plan_kind : KeepReason → PlanKind
-plan_kind reasons.Form = kinds.Form
-plan_kind reasons.Rate = kinds.Rate
-plan_kind reasons.Place = kinds.Place
-plan_kind reasons.Shared = kinds.Shared
-
-abbrev pub keep_refusal : KeepFault → CommandRefusal
-keep_refusal (faults.Line line reason) = refused.PlanLine line (plan_kind reason)
-keep_refusal faults.NoMemory = refused.Memory
+use Rattle.a429_text.specs.declared.sheets.SheetForm.{SheetForm}
 
 -- each check of the text answers `fewest`
 abbrev pub IsAccepted : TableRecord → List ℕ → Type 0
 IsAccepted e text = (t : DueTable) → IsDue e t → verdict t text ≡ Fewest
 
--- the text of a plan, which the check accepts; the status is 0
-abbrev pub IsTextOf : Proposed → ℕ → List ℕ → Type 0
-IsTextOf q status text = (text ≡ plan_text_of q.station q.plan) × IsAccepted q.station text × (status ≡ 0)
+-- a plan, whose text the check accepts, as a text or as a sheet; the status is 0
+abbrev pub IsToldPlan : SheetForm → Proposed → ℕ → List ℕ → Type 0
+IsToldPlan form q status text = (text ≡ told_plan form q.station q.plan) × IsAccepted q.station (plan_text_of q.station q.plan) × (status ≡ 0)
 
 -- that of a plan of the table, in which the outputs of the earlier text stay
-abbrev pub IsKeptPlan : List ℕ → List ℕ → ℕ → List ℕ → Type 0
-IsKeptPlan table earlier status text = (q : Proposed) × (kept : Proposed) × IsProposedBy table q × IsKept earlier q kept × IsTextOf kept status text
+abbrev pub IsKeptPlan : SheetForm → List ℕ → List ℕ → ℕ → List ℕ → Type 0
+IsKeptPlan form table earlier status text = (q : Proposed) × (kept : Proposed) × IsProposedBy table q × IsKept earlier q kept × IsToldPlan form kept status text
 
 -- why there is none: the table or its plan, otherwise a line of the earlier text
 abbrev pub IsNoKeptPlan : List ℕ → List ℕ → CommandRefusal → Type 0
@@ -55,9 +44,9 @@ IsNoKeptPlan table earlier refusal =
     × (refusal ≡ refused.PlanLine line (plan_kind reason)))
 
 -- the same of two files
-abbrev pub IsKeptOf : (List ℕ → Option (List ℕ)) → List ℕ → List ℕ → ℕ → List ℕ → Type 0
-IsKeptOf file table earlier status text =
-    (a : List ℕ) × (b : List ℕ) × AreRead file (table ∷ earlier ∷ []) (a ∷ b ∷ []) × IsKeptPlan a b status text
+abbrev pub IsKeptOf : SheetForm → (List ℕ → Option (List ℕ)) → List ℕ → List ℕ → ℕ → List ℕ → Type 0
+IsKeptOf form file table earlier status text =
+    (a : List ℕ) × (b : List ℕ) × AreRead file (table ∷ earlier ∷ []) (a ∷ b ∷ []) × IsKeptPlan form a b status text
 
 abbrev pub IsNoKept : (List ℕ → Option (List ℕ)) → List ℕ → List ℕ → CommandRefusal → Type 0
 IsNoKept file table earlier refusal =
@@ -67,7 +56,7 @@ IsNoKept file table earlier refusal =
 -- the answer of `plan`: with `--keep` that of two files, otherwise the plan of one
 abbrev pub PlannedBy : Option (List ℕ) → (List ℕ → Option (List ℕ)) → AskedBytes → ℕ → List ℕ → Type 0
 PlannedBy None file r = IsPlanReply verb.Plan file r
-PlannedBy (Some earlier) file r = IsKeptOf file r.first earlier
+PlannedBy (Some earlier) file r = IsKeptOf (form_of r.given) file r.first earlier
 
 abbrev pub IsPlanned : (List ℕ → Option (List ℕ)) → AskedBytes → ℕ → List ℕ → Type 0
 IsPlanned file r = PlannedBy (text_given r.given option.Keep) file r

@@ -1,13 +1,12 @@
 -- The commands on the plan of one table: what they write, their status, and when they are refused (profile: output).
-use Rattle.std.specs.Prelude.{◌≡◌, ◌⊎◌, ℕ, List, Bool, true, false, Option, Some, Result, Ok, Err}
+use Rattle.std.specs.Prelude.{◌≡◌, ◌⊎◌, ◌∷◌, [], ℕ, List, Bool, true, false, Option, None, Some, Result, Ok, Err}
 use Rattle.std.specs.declared.alloc.AllocError.{AllocError}
 use Rattle.a429_arguments.specs.Given.{Given, form_of, has_given, number_given, text_given}
 use Rattle.a429_arguments.specs.Requests.{AskedBytes}
 use Rattle.a429_arguments.specs.declared.options.OptionName.TheVariants as option
 use Rattle.a429_arguments.specs.declared.forms.Verb.{Verb}
 use Rattle.a429_arguments.specs.declared.forms.Verb.TheVariants as verb
-use Rattle.a429_console.specs.FileReadings.{IsFileRefusal, readable}
-use Rattle.a429_console.specs.Tables.{IsProposedBy, IsTableRefusal}
+use Rattle.a429_console.specs.FileReadings.{AreRead, IsFileRefusal, IsFirstUnread, readable}
 use Rattle.a429_console.specs.declared.refusals.CommandRefusal.{CommandRefusal}
 use Rattle.a429_console.specs.declared.refusals.CommandRefusal.TheVariants as refused
 use Rattle.a429_documents.specs.Buses.{buses_columns, buses_rows}
@@ -18,6 +17,7 @@ use Rattle.a429_slots.specs.Proposed.{Proposed}
 use Rattle.a429_text.specs.Fields.{Field}
 use Rattle.a429_text.specs.Sheets.{sheet_text}
 use Rattle.a429_cli.specs.Drawings.{HasImage, IsNoGroup, IsUndrawn, picture_of}
+use Rattle.a429_cli.specs.GivenPlans.{IsNoPlanIn, IsPlanIn}
 use Rattle.a429_cli.specs.Loads.{IsLoad, limit_of}
 use Rattle.a429_cli.specs.PlanRows.{told_plan}
 use Rattle.a429_cli.specs.SlotReplies.{HasSlots, slots_form}
@@ -53,22 +53,50 @@ IsNoReplyOnPlan verb.Slots given q = IsNoGroup q.station.groups (text_given give
 IsNoReplyOnPlan verb.Draw given q = IsUndrawn q (text_given given option.Group) (picture_of given)
 IsNoReplyOnPlan _ given q = λ refusal. ⊥
 
--- the same of a table
-abbrev pub IsReplyToTable : Verb → Given → List ℕ → ℕ → List ℕ → Type 0
-IsReplyToTable v given table status text = (q : Proposed) × IsProposedBy table q × IsReplyOnPlan v given table q status text
+-- its status, and the bytes about the plan of a table
+abbrev pub IsReplyToTable : Verb → Given → Option (List ℕ) → List ℕ → ℕ → List ℕ → Type 0
+IsReplyToTable v given plan table status text = (q : Proposed) × IsPlanIn plan table q × IsReplyOnPlan v given table q status text
 
--- why there is nothing: the table, or its plan, or what is asked of the plan
-abbrev pub IsNoReplyToTable : Verb → Given → List ℕ → CommandRefusal → Type 0
-IsNoReplyToTable v given table refusal = IsTableRefusal table refusal ⊎ ((q : Proposed) × IsProposedBy table q × IsNoReplyOnPlan v given q refusal)
+-- why there is nothing: there is no plan, or what is asked of the plan
+abbrev pub IsNoReplyToTable : Verb → Given → Option (List ℕ) → List ℕ → CommandRefusal → Type 0
+IsNoReplyToTable v given plan table refusal =
+    IsNoPlanIn plan table refusal ⊎ ((q : Proposed) × IsPlanIn plan table q × IsNoReplyOnPlan v given q refusal)
 
--- the same of the table in a file, with the line of that if stamps are asked for
-abbrev pub IsPlanReply : Verb → (List ℕ → Option (List ℕ)) → AskedBytes → ℕ → List ℕ → Type 0
-IsPlanReply v file r status text =
-    (table : List ℕ) × (readable (file r.first) ≡ Some table) × IsStamped r.given (stamp_line r.first table) (IsReplyToTable v r.given table) status text
+-- the same of the table in a file with its own plan, with the line of that file if stamps are asked for
+abbrev pub IsOwnReply : Verb → (List ℕ → Option (List ℕ)) → AskedBytes → ℕ → List ℕ → Type 0
+IsOwnReply v file r status text =
+    (table : List ℕ) × (readable (file r.first) ≡ Some table) × IsStamped r.given (stamp_line r.first table) (IsReplyToTable v r.given None table) status text
 
 -- why there is nothing: the file, or its table, or the plan of that, or what is asked of the plan
+abbrev pub IsNoOwnReply : Verb → (List ℕ → Option (List ℕ)) → AskedBytes → CommandRefusal → Type 0
+IsNoOwnReply v file r refusal = IsFileRefusal file r.first refusal ⊎ ((table : List ℕ) × (readable (file r.first) ≡ Some table) × IsNoReplyToTable v r.given None table refusal)
+
+-- with the plan of a text in another file
+abbrev pub IsGivenReply : List ℕ → Verb → (List ℕ → Option (List ℕ)) → AskedBytes → ℕ → List ℕ → Type 0
+IsGivenReply name v file r status text =
+    (table : List ℕ) × (plan : List ℕ) × AreRead file (r.first ∷ name ∷ []) (table ∷ plan ∷ [])
+    × IsStamped r.given (stamp_line r.first table) (IsReplyToTable v r.given (Some plan) table) status text
+
+abbrev pub IsNoGivenReply : List ℕ → Verb → (List ℕ → Option (List ℕ)) → AskedBytes → CommandRefusal → Type 0
+IsNoGivenReply name v file r refusal =
+    IsFirstUnread file (r.first ∷ name ∷ []) refusal
+    ⊎ ((table : List ℕ) × (plan : List ℕ) × AreRead file (r.first ∷ name ∷ []) (table ∷ plan ∷ []) × IsNoReplyToTable v r.given (Some plan) table refusal)
+
+-- the answer: with `--plan` that on this plan, otherwise that on the own one
+abbrev pub PlanReplyBy : Option (List ℕ) → Verb → (List ℕ → Option (List ℕ)) → AskedBytes → ℕ → List ℕ → Type 0
+PlanReplyBy None v file r = IsOwnReply v file r
+PlanReplyBy (Some name) v file r = IsGivenReply name v file r
+
+abbrev pub IsPlanReply : Verb → (List ℕ → Option (List ℕ)) → AskedBytes → ℕ → List ℕ → Type 0
+IsPlanReply v file r = PlanReplyBy (text_given r.given option.Plan) v file r
+
+-- why there is none
+abbrev pub NoPlanReplyBy : Option (List ℕ) → Verb → (List ℕ → Option (List ℕ)) → AskedBytes → CommandRefusal → Type 0
+NoPlanReplyBy None v file r = IsNoOwnReply v file r
+NoPlanReplyBy (Some name) v file r = IsNoGivenReply name v file r
+
 abbrev pub IsNoPlanReply : Verb → (List ℕ → Option (List ℕ)) → AskedBytes → CommandRefusal → Type 0
-IsNoPlanReply v file r refusal = IsFileRefusal file r.first refusal ⊎ ((table : List ℕ) × (readable (file r.first) ≡ Some table) × IsNoReplyToTable v r.given table refusal)
+IsNoPlanReply v file r = NoPlanReplyBy (text_given r.given option.Plan) v file r
 
 -- a reply, or that an allocation for it failed
 abbrev pub or_no_memory : Result Reply AllocError → Result Reply CommandRefusal

@@ -99,7 +99,10 @@ fn plan_or_kept<F: FileReader>(
         → warnings.new.items ≡ warnings.old.items) files.old files.new }
 {
     match asked.text(OptionName::Keep) {
-        Some(earlier) => kept_reply(alloc, files, asked.first, earlier, warnings),
+        Some(earlier) => {
+            let form = asked.form();
+            kept_reply(alloc, files, asked.first, earlier, form, warnings)
+        }
         None => plan_reply(alloc, files, asked),
     }
 }

@@ -2,9 +2,11 @@
 ghost use Rattle.std.specs.Prelude.{◌≡◌, ⊥};
 ghost use Rattle.a429_arguments.specs.Requests.{asked_of};
 ghost use Rattle.a429_console.specs.Readings.{HasRead};
-ghost use Rattle.a429_cli.specs.Keeping.{IsKeptOf, IsKeptPlan, IsNoKept, IsNoKeptPlan, IsTextOf, keep_refusal, plan_kind};
+ghost use Rattle.a429_cli.specs.Keeping.{IsKeptOf, IsKeptPlan, IsNoKept, IsNoKeptPlan, IsToldPlan};
 ghost use Rattle.a429_cli.specs.WholeReplies.{Replies};
 
+use crate::given_plans::keep_refusal;
+use crate::plan_rows::plan_of;
 use crate::replies::reply::Reply;
 use a429_cert::laws::own_text_is_fewest;
 use a429_cert::plan_text;
@@ -12,36 +14,11 @@ use a429_console::files::FileReader;
 use a429_console::files::reading::read_file;
 use a429_console::hints::warnings::{KeptCounts, MovedOutput, StatedPlace, Warning};
 use a429_console::planning::propose;
-use a429_console::refusals::{CommandRefusal, PlanKind, Refused};
-use a429_equipment::Equipment;
-use a429_keep::{Changes, KeepFault, KeepReason, Move, Row, changes_between, keep, read_rows};
+use a429_console::refusals::{CommandRefusal, Refused};
+use a429_keep::{Changes, Move, Row, changes_between, keep, read_rows};
 use a429_slots::{OUTPUTS, Proposal};
+use a429_text::SheetForm;
 use std::alloc::Global;
-
-/// How a reason is named in refusals.
-fn plan_kind(reason: KeepReason) -> PlanKind
-    ensures { result ≡ plan_kind reason }
-{
-    match reason {
-        KeepReason::Form => PlanKind::Form,
-        KeepReason::Rate => PlanKind::Rate,
-        KeepReason::Place => PlanKind::Place,
-        KeepReason::Shared => PlanKind::Shared,
-    }
-}
-
-/// The refusal of an earlier plan text.
-fn keep_refusal(fault: KeepFault) -> CommandRefusal
-    ensures { result ≡ keep_refusal fault }
-{
-    match fault {
-        KeepFault::Line { line, reason } => CommandRefusal::PlanLine {
-            line,
-            kind: plan_kind(reason),
-        },
-        KeepFault::NoMemory => CommandRefusal::Memory,
-    }
-}
 
 /// The place of an output.
 fn stated_place(row: &Row<'_>) -> StatedPlace {
@@ -80,18 +57,20 @@ fn note_changes(alloc: Global, changes: &Changes<'_>, warnings: &mut Vec<Warning
     }
 }
 
-/// Notes what changes from an earlier plan text to another, unless an allocation fails.
+/// Notes what changes from an earlier plan text to a plan, unless an allocation fails.
 fn note_kept(
     alloc: Global,
-    equipment: &Equipment,
+    proposal: &Proposal<OUTPUTS>,
     earlier: &[u8],
-    text: &[u8],
     warnings: &mut Vec<Warning>,
 ) {
-    let Ok(before) = read_rows(alloc, equipment, earlier) else {
+    let Ok(text) = plan_text(alloc, proposal) else {
         return;
     };
-    let Ok(after) = read_rows(alloc, equipment, text) else {
+    let Ok(before) = read_rows(alloc, proposal.equipment(), earlier) else {
+        return;
+    };
+    let Ok(after) = read_rows(alloc, proposal.equipment(), &text) else {
         return;
     };
     if let Ok(changes) = changes_between(alloc, &before, &after) {
@@ -99,23 +78,23 @@ fn note_kept(
     }
 }
 
-/// The text of a plan whose outputs keep the places of an earlier text, with status 0. What moved is noted.
-fn kept_text(
+/// A plan whose outputs keep the places of an earlier text, with status 0. What moved is noted.
+fn told_kept(
     alloc: Global,
     proposal: &Proposal<OUTPUTS>,
     earlier: &[u8],
+    form: SheetForm,
     warnings: &mut Vec<Warning>,
 ) -> Result<Reply, Refused>
-    ensures { Replies (IsTextOf proposal.now) (λ _. ⊥) result }
+    ensures { Replies (IsToldPlan form proposal.now) (λ _. ⊥) result }
 {
     own_text_is_fewest();
-    let equipment = proposal.equipment();
-    equipment.rows_are_sound();
-    let Ok(text) = plan_text(alloc, proposal) else {
-        return Err(Refused::plain(CommandRefusal::Memory));
-    };
-    note_kept(alloc, equipment, earlier, &text, warnings);
-    Ok(Reply::done(text))
+    proposal.equipment().rows_are_sound();
+    note_kept(alloc, proposal, earlier, warnings);
+    match plan_of(alloc, proposal, form) {
+        Ok(reply) => Ok(reply),
+        Err(_) => Err(Refused::plain(CommandRefusal::Memory)),
+    }
 }
 
 /// The plan of a table whose outputs keep the places of an earlier text, and its status. What moved is noted. The table is
@@ -124,13 +103,14 @@ fn kept_plan(
     alloc: Global,
     table: &[u8],
     earlier: &[u8],
+    form: SheetForm,
     warnings: &mut Vec<Warning>,
 ) -> Result<Reply, Refused>
-    ensures { Replies (IsKeptPlan table.now earlier.now) (IsNoKeptPlan table.now earlier.now) result }
+    ensures { Replies (IsKeptPlan form table.now earlier.now) (IsNoKeptPlan table.now earlier.now) result }
 {
     let mut proposal = propose(alloc, table)?;
     match keep(alloc, &mut proposal, earlier) {
-        Ok(()) => kept_text(alloc, &proposal, earlier, warnings),
+        Ok(()) => told_kept(alloc, &proposal, earlier, form, warnings),
         Err(fault) => Err(Refused::plain(keep_refusal(fault))),
     }
 }
@@ -143,12 +123,13 @@ pub fn kept_reply<F: FileReader>(
     files: &mut F,
     table: &str,
     earlier: &str,
+    form: SheetForm,
     warnings: &mut Vec<Warning>,
 ) -> Result<Reply, Refused>
-    ensures { HasRead F.answers (λ file. Replies (IsKeptOf file table.now earlier.now)
+    ensures { HasRead F.answers (λ file. Replies (IsKeptOf form file table.now earlier.now)
         (IsNoKept file table.now earlier.now) result) files.old files.new }
 {
     let table = read_file(alloc, files, table)?;
     let earlier = read_file(alloc, files, earlier)?;
-    kept_plan(alloc, &table, &earlier, warnings)
+    kept_plan(alloc, &table, &earlier, form, warnings)
 }

@@ -1,15 +1,17 @@
-//! A plan as a sheet.
-ghost use Rattle.std.specs.Prelude.{◌≡◌, ◌<◌, ◌∷◌, ◌++◌, [], IfSome, length, map};
+//! A plan as a text or as a sheet.
+ghost use Rattle.std.specs.Prelude.{◌≡◌, ◌<◌, ◌∷◌, ◌++◌, [], IfOk, IfSome, length, map};
 ghost use Rattle.a429_cert.specs.PlanText.{HasSources};
 ghost use Rattle.a429_slots.specs.Tables.{groups_of, outputs_of, source_of};
 ghost use Rattle.a429_text.specs.Fields.{Number};
 ghost use Rattle.a429_text.specs.Sheets.{field_of};
-ghost use Rattle.a429_cli.specs.PlanRows.{group_fields, group_rows, hold_field, listed_fields, plan_columns, plan_row, plan_rows, rows_of_group};
+ghost use Rattle.a429_cli.specs.PlanRows.{group_fields, group_rows, hold_field, listed_fields, plan_columns, plan_row, plan_rows, rows_of_group, told_plan};
 
+use crate::replies::reply::Reply;
+use a429_cert::plan_text;
 use a429_equipment::{Equipment, GroupRow};
 use a429_slots::{GroupPlan, OUTPUTS, OutputId, Proposal, SlotPlace};
-use a429_text::{Cell, Rows, Sheet};
-use std::alloc::Global;
+use a429_text::{Cell, Rows, Sheet, SheetForm};
+use std::alloc::{AllocError, Global};
 
 /// The names of the columns.
 const COLUMNS: &[&str] = &[
@@ -133,4 +135,30 @@ pub fn plan_sheet(alloc: Global, proposal: &Proposal<OUTPUTS>) -> Sheet
         columns: COLUMNS,
         rows,
     }
+}
+
+/// The plan itself, with its bounds: its text, or its sheet with `--csv` or `--json`. Error: an allocation failed.
+fn told_plan(
+    alloc: Global,
+    proposal: &Proposal<OUTPUTS>,
+    form: SheetForm,
+) -> Result<Vec<u8>, AllocError>
+    ensures { IfOk result (λ text. text.items ≡ told_plan form proposal.now.station proposal.now.plan) }
+{
+    match form {
+        SheetForm::Columns => plan_text(alloc, proposal),
+        SheetForm::Csv | SheetForm::Json => plan_sheet(alloc, proposal).render(alloc, form),
+    }
+}
+
+/// The plan itself, with status 0.
+pub fn plan_of(
+    alloc: Global,
+    proposal: &Proposal<OUTPUTS>,
+    form: SheetForm,
+) -> Result<Reply, AllocError>
+    ensures { IfOk result (λ reply. (reply.bytes.items ≡ told_plan form proposal.now.station proposal.now.plan)
+        × (reply.status ≡ 0)) }
+{
+    Ok(Reply::done(told_plan(alloc, proposal, form)?))
 }

@@ -24,6 +24,13 @@ plan_kind_text plan.Form = codes "form"
 plan_kind_text plan.Rate = codes "rate"
 plan_kind_text plan.Place = codes "place"
 plan_kind_text plan.Shared = codes "shared"
+plan_kind_text plan.Group = codes "group"
+plan_kind_text plan.Frame = codes "frame"
+plan_kind_text plan.Buses = codes "buses"
+plan_kind_text plan.Output = codes "output"
+plan_kind_text plan.Period = codes "period"
+plan_kind_text plan.Bound = codes "bound"
+plan_kind_text plan.Hold = codes "hold"
 
 abbrev pub refusal_line : CommandRefusal → List ℕ
 refusal_line (refused.File name) = codes "refused file " ++ string_bytes name

@@ -50,17 +50,31 @@ impl fmt::Display for CsvKind {
     }
 }
 
-/// What is wrong with a line of a plan text whose places must be kept.
+/// What is wrong with a line of a plan text. With `--keep` it is one of the first four.
 #[derive(Clone, Copy, PartialEq, Eq)]
 pub enum PlanKind {
-    /// It is not of the form of a plan text.
+    /// It is not of the form of a plan text; with `--plan`, not of the form due here.
     Form,
     /// It says another bit rate than the table.
     Rate,
-    /// The offset is not below the period.
+    /// The offset is not below the period; with `--plan`, or the bus not below the number of buses.
     Place,
     /// An earlier output of the group has cells of this one.
     Shared,
+    /// The name is not that of the group due.
+    Group,
+    /// The frame is not the greatest period of the group.
+    Frame,
+    /// The number of buses is 0 or above 16.
+    Buses,
+    /// No output of the group has this source, or an earlier line lists it.
+    Output,
+    /// The period is not the grid period of the output.
+    Period,
+    /// A number of the bound is wrong.
+    Bound,
+    /// The hold is not that of the output.
+    Hold,
 }
 
 impl fmt::Display for PlanKind {
@@ -76,6 +90,13 @@ impl fmt::Display for PlanKind {
             PlanKind::Rate => f.write_str("rate"),
             PlanKind::Place => f.write_str("place"),
             PlanKind::Shared => f.write_str("shared"),
+            PlanKind::Group => f.write_str("group"),
+            PlanKind::Frame => f.write_str("frame"),
+            PlanKind::Buses => f.write_str("buses"),
+            PlanKind::Output => f.write_str("output"),
+            PlanKind::Period => f.write_str("period"),
+            PlanKind::Bound => f.write_str("bound"),
+            PlanKind::Hold => f.write_str("hold"),
         }
     }
 }
@@ -114,8 +135,8 @@ pub enum CommandRefusal {
     /// The row at the line of this number, from 1, of a file of comma-separated values is the first with a fault, and this is
     /// wrong with it.
     Csv { line: u64, kind: CsvKind },
-    /// The line of this number, from 1, of a plan text whose places must be kept is the first with a fault, and this is
-    /// wrong with it.
+    /// The line of this number, from 1, of a plan text that was given is the first with a fault, and this is wrong with
+    /// it.
     PlanLine { line: usize, kind: PlanKind },
     /// A thread could not be started or joined.
     Join,

@@ -39,7 +39,15 @@ pub fn tell_moved(output: &MovedOutput, hint: &HintText) {
     hint.end("");
 }
 
-/// Says what is wrong with a line of the plan text whose places must be kept.
+/// The name of the plan text that was given.
+pub fn plan_name<'a>(asked: &Asked<'a>) -> &'a str {
+    match asked.text(OptionName::Plan) {
+        Some(name) => name,
+        None => asked.text(OptionName::Keep).unwrap_or(""),
+    }
+}
+
+/// Says what is wrong with a line of a plan text that was given.
 pub fn tell_plan_line(kind: PlanKind, hint: &HintText) {
     hint.say_line(match kind {
         PlanKind::Form => "this is no line of a plan text; give the output of `a429 plan`",
@@ -48,5 +56,6 @@ pub fn tell_plan_line(kind: PlanKind, hint: &HintText) {
         }
         PlanKind::Place => "the offset must be below the period",
         PlanKind::Shared => "an output above has cells of this one; `a429 check` says which",
+        _ => "this is no plan of the table; `a429 check` says why, and `a429 plan` with --keep makes one of it",
     });
 }

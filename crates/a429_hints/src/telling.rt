@@ -8,7 +8,7 @@ use crate::files::{REFUSED_OUTPUT, UTF_16, nth, tell_trouble};
 use crate::findings::{tell_changes, tell_findings};
 use crate::hint::HintText;
 use crate::imports::{tell_millis_group, tell_notes, tell_rows, tell_short_intervals};
-use crate::keeping::{tell_kept, tell_moved, tell_plan_line};
+use crate::keeping::{tell_kept, tell_moved, plan_name, tell_plan_line};
 use crate::logs::tell_log_line;
 use crate::mistakes::{tell_habits, tell_nearest_word};
 use crate::plans::{tell_all_unfit, tell_fewer_buses, tell_groups, tell_half_period};
@@ -185,7 +185,7 @@ fn tell_plain(asked: &Asked, refusal: &CommandRefusal, hint: &HintText) {
     match refusal {
         CommandRefusal::TooMuch => tell_of_length(asked, hint),
         CommandRefusal::PlanLine { line, kind } => {
-            hint.turn_to(asked.text(OptionName::Keep).unwrap_or(""));
+            hint.turn_to(plan_name(asked));
             hint.turn_to_line(*line);
             tell_plan_line(*kind, hint);
         }

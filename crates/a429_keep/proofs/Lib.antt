@@ -4,3 +4,4 @@ pub mod TextLines
 pub mod Viewed
 pub mod Staying
 pub mod KeptGroups
+pub mod Planned

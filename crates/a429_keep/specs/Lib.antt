@@ -3,6 +3,7 @@ pub mod Changes
 pub mod KeepExamples
 pub mod KeptPlans
 pub mod Keeping
+pub mod Followed
 pub mod Laws
 pub mod Places
 pub mod Placing

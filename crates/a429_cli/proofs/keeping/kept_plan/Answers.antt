@@ -5,7 +5,7 @@ use Rattle.a429_slots.specs.Proposed.{Proposed}
 use Rattle.a429_console.specs.RefusalText.{OrMemory}
 use Rattle.a429_console.specs.Tables.{IsTableRefusal}
 use Rattle.a429_console.proofs.Refused.{failed, matched_both, or_memory_weaker}
-use Rattle.a429_cli.specs.Keeping.{IsKeptPlan, IsNoKeptPlan, IsTextOf}
+use Rattle.a429_cli.specs.Keeping.{IsKeptPlan, IsNoKeptPlan, IsToldPlan}
 use Rattle.a429_cli.proofs.keeping.kept_plan.Goals as goal
 
 pub returns-in_err-proposal : goal.returns-in_err-proposal
@@ -22,8 +22,8 @@ returns-in-Ok c =
     let earlier = c.args.earlier.now in
     let q = c.in_ok-proposal.proposal in
     let kept : Proposed = c.keep.new.proposal in
-    matched_both c.kept_text.result (λ reply. IsTextOf kept reply.status reply.bytes.items) (λ reply. IsKeptPlan table earlier reply.status reply.bytes.items)
+    matched_both c.told_kept.result (λ reply. IsToldPlan c.args.form kept reply.status reply.bytes.items) (λ reply. IsKeptPlan c.args.form table earlier reply.status reply.bytes.items)
     (OrMemory (λ refusal. ⊥)) (OrMemory (IsNoKeptPlan table earlier))
     (λ reply is. (q, kept, c.in_ok-proposal.ensures, c.in-Ok.ensures.kept, is))
     (λ e bad. or_memory_weaker (λ refusal. ⊥) (IsNoKeptPlan table earlier) e (λ none. absurd none) bad)
-    c.kept_text.ensures
+    c.told_kept.ensures

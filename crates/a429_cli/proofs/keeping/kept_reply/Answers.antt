@@ -33,7 +33,7 @@ returns g c =
     let kept = rw (c.deref.ensures.value, c.deref-2.ensures.value) at c.kept_plan.ensures in
     read_then c.in_ok-table.ensures c.in_ok-earlier.ensures (λ file first second.
     let read : AreRead file (c.args.table.now ∷ c.args.earlier.now ∷ []) (a ∷ b ∷ []) = (first, (second, tt)) in
-    matched_both c.kept_plan.result (λ reply. IsKeptPlan a b reply.status reply.bytes.items) (λ reply. IsKeptOf file c.args.table.now c.args.earlier.now reply.status reply.bytes.items)
+    matched_both c.kept_plan.result (λ reply. IsKeptPlan c.args.form a b reply.status reply.bytes.items) (λ reply. IsKeptOf c.args.form file c.args.table.now c.args.earlier.now reply.status reply.bytes.items)
     (OrMemory (IsNoKeptPlan a b)) (OrMemory (IsNoKept file c.args.table.now c.args.earlier.now))
     (λ reply is. (a, b, read, is))
     (λ e bad. or_memory_weaker (IsNoKeptPlan a b) (IsNoKept file c.args.table.now c.args.earlier.now) e (λ one. inr (a, b, read, one)) bad)

@@ -1,36 +1,25 @@
-use Rattle.std.proofs.Common.{◌∙◌, ap, inl, inr, subst, List, ℕ}
-use Rattle.std.specs.Prelude.{Err}
-use Rattle.std.proofs.lemmas.Result.{err_from_is_err_and}
+use Rattle.std.proofs.Common.{◌≡◌, ◌∙◌, List, ap, subst, sym, ℕ}
+use Rattle.std.specs.Prelude.{None, Option, Some, option_map}
 use Rattle.a429_console.proofs.ReadingParts.{read_weaker}
-use Rattle.a429_console.proofs.Refused.{failed, matched_both, or_memory_weaker}
-use Rattle.a429_console.specs.FileReadings.{IsFileRefusal}
-use Rattle.a429_console.specs.RefusalText.{OrMemory}
+use Rattle.a429_arguments.specs.Given.{text_given}
 use Rattle.a429_arguments.specs.Requests.{asked_of}
-use Rattle.a429_cli.specs.Plans.{IsNoPlanReply, IsNoReplyToTable, IsPlanReply, IsReplyToTable}
-use Rattle.a429_cli.specs.Stamping.{IsStamped, stamp_line}
+use Rattle.a429_arguments.specs.declared.options.OptionName.TheVariants as option
+use Rattle.a429_cli.specs.Plans.{NoPlanReplyBy, PlanReplyBy}
 use Rattle.a429_cli.specs.WholeReplies.{Replies}
 use Rattle.a429_cli.proofs.plans.plan_reply.Goals as goal
 
-pub returns-in_err-table : goal.returns-in_err-table
-returns-in_err-table g c =
+pub returns-in-Some : goal.returns-in-Some
+returns-in-Some g c =
     let v = c.args.asked.now.verb in
     let r = asked_of c.args.asked.now in
-    let e = c.in_err-table.field-0.0 in
-    let p = err_from_is_err_and c.from_residual.result c.from_residual.ensures.1 in
-    read_weaker c.in_err-table.ensures (λ file bad. failed c.from_residual.result _ (OrMemory (IsNoPlanReply v file r)) e (p.1 ∙ ap Err p.2)
-    (or_memory_weaker (IsFileRefusal file r.first) (IsNoPlanReply v file r) e (λ one. inl one) bad))
+    let some : text_given r.given option.Plan ≡ Some c.in-Some.name.now = sym c.text.ensures ∙ ap (option_map (λ t. t.now)) c.in-Some.is in
+    read_weaker c.given_reply.ensures (λ file is.
+    subst (λ (o : Option (List ℕ)). Replies (PlanReplyBy o v file r) (NoPlanReplyBy o v file r) c.given_reply.result) (sym some) is)
 
-pub returns : goal.returns
-returns g c =
+pub returns-in-None : goal.returns-in-None
+returns-in-None g c =
     let v = c.args.asked.now.verb in
     let r = asked_of c.args.asked.now in
-    let table = c.in_ok-table.table.items in
-    let done = subst (λ (t : List ℕ). Replies (IsStamped r.given (stamp_line r.first t) (IsReplyToTable v r.given t)) (IsNoReplyToTable v r.given t) c.stamped_reply.result)
-    c.deref.ensures.value c.stamped_reply.ensures in
-    read_weaker c.in_ok-table.ensures (λ file read.
-    matched_both c.stamped_reply.result (λ reply. IsStamped r.given (stamp_line r.first table) (IsReplyToTable v r.given table) reply.status reply.bytes.items)
-    (λ reply. IsPlanReply v file r reply.status reply.bytes.items)
-    (OrMemory (IsNoReplyToTable v r.given table)) (OrMemory (IsNoPlanReply v file r))
-    (λ reply is. (table, read, is))
-    (λ e bad. or_memory_weaker (IsNoReplyToTable v r.given table) (IsNoPlanReply v file r) e (λ one. inr (table, read, one)) bad)
-    done)
+    let none : text_given r.given option.Plan ≡ None = sym c.text.ensures ∙ ap (option_map (λ t. t.now)) c.in-None.is in
+    read_weaker c.own_reply.ensures (λ file is.
+    subst (λ (o : Option (List ℕ)). Replies (PlanReplyBy o v file r) (NoPlanReplyBy o v file r) c.own_reply.result) (sym none) is)

@@ -1,5 +1,5 @@
 use Rattle.std.proofs.Common.{◌∙◌, ap}
-use Rattle.std.specs.Prelude.{Err}
+use Rattle.std.specs.Prelude.{Err, option_map}
 use Rattle.std.proofs.lemmas.Result.{err_from_is_err_and}
 use Rattle.a429_console.proofs.Refused.{failed}
 use Rattle.a429_console.specs.RefusalText.{OrMemory}
@@ -10,12 +10,12 @@ use Rattle.a429_cli.proofs.plans.stamped_reply.Goals as goal
 
 pub returns-in_err-reply : goal.returns-in_err-reply
 returns-in_err-reply c =
-    let none = IsNoReplyToTable c.args.asked.now.verb (asked_of c.args.asked.now).given c.args.table.now in
+    let none = IsNoReplyToTable c.args.asked.now.verb (asked_of c.args.asked.now).given (option_map (λ p. p.now) c.args.plan) c.args.table.now in
     let p = err_from_is_err_and c.from_residual.result c.from_residual.ensures.1 in
     failed c.from_residual.result _ (OrMemory none) c.in_err-reply.field-0.0 (p.1 ∙ ap Err p.2) c.in_err-reply.ensures
 
 pub returns-in_err-stamped : goal.returns-in_err-stamped
 returns-in_err-stamped c =
-    let none = IsNoReplyToTable c.args.asked.now.verb (asked_of c.args.asked.now).given c.args.table.now in
+    let none = IsNoReplyToTable c.args.asked.now.verb (asked_of c.args.asked.now).given (option_map (λ p. p.now) c.args.plan) c.args.table.now in
     let p = err_from_is_err_and c.from_residual-in_err-stamped.result c.from_residual-in_err-stamped.ensures.1 in
     failed c.from_residual-in_err-stamped.result _ (OrMemory none) refused.Memory (p.1 ∙ ap Err p.2) tt

@@ -1,0 +1,97 @@
+//! Plan texts that are given to commands.
+ghost use Rattle.std.specs.Prelude.{◌≡◌, MatchResult, Some, option_map};
+ghost use Rattle.a429_console.specs.RefusalText.{OrMemory};
+ghost use Rattle.a429_cli.specs.GivenPlans.{IsNoPlanIn, IsPlanIn, follow_refusal, keep_refusal, plan_kind, reason_kind};
+
+use a429_cert::Reason;
+use a429_console::planning::propose;
+use a429_console::refusals::{CommandRefusal, PlanKind, Refused};
+use a429_keep::{FollowFault, KeepFault, KeepReason, follow};
+use a429_slots::{OUTPUTS, Proposal};
+use std::alloc::Global;
+
+/// How a reason is named in refusals.
+fn plan_kind(reason: KeepReason) -> PlanKind
+    ensures { result ≡ plan_kind reason }
+{
+    match reason {
+        KeepReason::Form => PlanKind::Form,
+        KeepReason::Rate => PlanKind::Rate,
+        KeepReason::Place => PlanKind::Place,
+        KeepReason::Shared => PlanKind::Shared,
+    }
+}
+
+/// The refusal of an earlier plan text.
+pub fn keep_refusal(fault: KeepFault) -> CommandRefusal
+    ensures { result ≡ keep_refusal fault }
+{
+    match fault {
+        KeepFault::Line { line, reason } => CommandRefusal::PlanLine {
+            line,
+            kind: plan_kind(reason),
+        },
+        KeepFault::NoMemory => CommandRefusal::Memory,
+    }
+}
+
+/// How a reason of the check is named in refusals.
+fn reason_kind(reason: Reason) -> PlanKind
+    ensures { result ≡ reason_kind reason }
+{
+    match reason {
+        Reason::Form => PlanKind::Form,
+        Reason::Rate => PlanKind::Rate,
+        Reason::Group => PlanKind::Group,
+        Reason::Frame => PlanKind::Frame,
+        Reason::Buses => PlanKind::Buses,
+        Reason::Output => PlanKind::Output,
+        Reason::Period => PlanKind::Period,
+        Reason::Place => PlanKind::Place,
+        Reason::Shared => PlanKind::Shared,
+        Reason::Bound => PlanKind::Bound,
+        Reason::Hold => PlanKind::Hold,
+    }
+}
+
+/// The refusal of a plan text on which a command is to work.
+fn follow_refusal(fault: FollowFault) -> CommandRefusal
+    ensures { result ≡ follow_refusal fault }
+{
+    match fault {
+        FollowFault::No(no) => CommandRefusal::PlanLine {
+            line: no.line,
+            kind: reason_kind(no.reason),
+        },
+        FollowFault::Kept(fault) => keep_refusal(fault),
+        FollowFault::NoMemory => CommandRefusal::Memory,
+    }
+}
+
+/// The plan of a table that a text states. Errors, in this order: the table has a fault; it has no plan; a line of the text
+/// is refused. `Memory` if an allocation fails.
+fn followed(alloc: Global, table: &[u8], text: &[u8]) -> Result<Proposal<OUTPUTS>, Refused>
+    ensures { MatchResult result (IsPlanIn (Some text.now) table.now) (OrMemory (IsNoPlanIn (Some text.now) table.now)) }
+{
+    let mut proposal = propose(alloc, table)?;
+    match follow(alloc, &mut proposal, text) {
+        Ok(()) => Ok(proposal),
+        Err(fault) => Err(Refused::plain(follow_refusal(fault))),
+    }
+}
+
+/// The plan of a table: its own, or that of a plan text if one is given. Errors, in this order: the table has a fault; it
+/// has no plan; a line of the text is refused. `Memory` if an allocation fails.
+pub fn plan_in(
+    alloc: Global,
+    table: &[u8],
+    text: Option<&[u8]>,
+) -> Result<Proposal<OUTPUTS>, Refused>
+    ensures { MatchResult result (IsPlanIn (option_map (λ t. t.now) text) table.now)
+        (OrMemory (IsNoPlanIn (option_map (λ t. t.now) text) table.now)) }
+{
+    match text {
+        Some(text) => followed(alloc, table, text),
+        None => propose(alloc, table),
+    }
+}
