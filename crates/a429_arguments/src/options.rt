@@ -47,6 +47,7 @@ pub enum OptionName {
     Shift,
     Drift,
     Align,
+    Table,
 }
 
 /// Which texts an option takes.
@@ -125,7 +126,7 @@ macro_rules! options {
 
 /// The options, in the order of `OptionName`: the name of each without the two hyphens, and what is given with it. The
 /// ranges are those of docs/RULES.md, Limits; that of `--rate` is the bit rate of a line (ARINC 429 Part 1).
-pub static OPTIONS: [(OptionName, &str, OptionKind); 42] = [
+pub static OPTIONS: [(OptionName, &str, OptionKind); 43] = [
     flag!(Csv, "csv"),
     flag!(Json, "json"),
     flag!(Stamp, "stamp"),
@@ -168,6 +169,7 @@ pub static OPTIONS: [(OptionName, &str, OptionKind); 42] = [
     text!(Shift, "shift", Shift),
     text!(Drift, "drift", Drift),
     flag!(Align, "align"),
+    text!(Table, "table", Any),
 ];
 
 /// The options of the commands that have some, in the order in which help lists them.
@@ -194,7 +196,7 @@ pub const SIMULATE_OPTIONS: &[OptionName] = options![
 ];
 
 pub const SURVEY_OPTIONS: &[OptionName] = options![
-    Time, From, Until, Channel, Ignore, Reversed, Rate, Rows, Slack, Csv, Json
+    Table, Time, From, Until, Channel, Ignore, Reversed, Rate, Rows, Slack, Csv, Json
 ];
 
 pub const JUDGE_OPTIONS: &[OptionName] = options![
