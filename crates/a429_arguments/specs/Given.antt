@@ -77,25 +77,22 @@ origin_in text = if bytes_eq text (codes "first") then Some origin.First else op
 abbrev pub last_shift : ℕ
 last_shift = 99999999999999
 
--- by how much times are moved, by a text and what follows its minus, if it begins with one
-abbrev pub shift_by : Text → Option Text → Option Shift
-shift_by text (Some digits) = option_map shift.Earlier (number_up_to last_shift digits)
-shift_by text None = option_map shift.Later (number_up_to last_shift text)
-
-abbrev pub shift_in : Text → Option Shift
-shift_in text = shift_by text (strip_byte 45 text)
-
 -- the most parts in 10^9 by which clocks may drift apart: six digits
 abbrev pub last_drift : ℕ
 last_drift = 999999
 
--- by how much a clock is fast, by a text and what follows its minus, if it begins with one
-abbrev pub drift_by : Text → Option Text → Option Drift
-drift_by text (Some digits) = option_map drift.Slow (number_up_to last_drift digits)
-drift_by text None = option_map drift.Fast (number_up_to last_drift text)
+-- a whole number up to the last one, by a text and what follows its minus, if it begins with one
+abbrev pub signed_by : {T : Type 0} → (ℕ → T) → (ℕ → T) → ℕ → Text → Option Text → Option T
+signed_by minus plus last text (Some digits) = option_map minus (number_up_to last digits)
+signed_by minus plus last text None = option_map plus (number_up_to last text)
 
+-- by how much times are moved, by the text of that
+abbrev pub shift_in : Text → Option Shift
+shift_in text = signed_by shift.Earlier shift.Later last_shift text (strip_byte 45 text)
+
+-- by how much a clock is fast, by the text of that
 abbrev pub drift_in : Text → Option Drift
-drift_in text = drift_by text (strip_byte 45 text)
+drift_in text = signed_by drift.Slow drift.Fast last_drift text (strip_byte 45 text)
 
 -- a text has this form
 abbrev pub fits : TextForm → Text → Bool

@@ -5,7 +5,7 @@ use crate::options::OptionName;
 use crate::recording_help::{
     ALIGN, CHANNEL, DRIFT, EVENTS, FROM, HEARD_LOGS, IGNORE, IMPORT_ROWS, JUDGE, JUDGE_END,
     LAST_TIME, LOG, ONLY, QUIET, RATE, REVERSED, SENT, SHIFT, SIMULATE, SIMULATE_END, SLACK,
-    SUMMARY, SUMMARY_JSON, SURVEY, SURVEY_END, TIME, TOLERANCE, UNTIL,
+    SUMMARY, SUMMARY_JSON, SURVEY, SURVEY_END, SURVEY_TABLE, TIME, TOLERANCE, UNTIL,
 };
 
 /// The help of a command: its first line, and its end, which has an example.
@@ -105,6 +105,7 @@ fn own_help(option: OptionName) -> (&'static str, &'static str) {
         OptionName::Shift => ("US", SHIFT),
         OptionName::Drift => ("PPB", DRIFT),
         OptionName::Align => ("", ALIGN),
+        OptionName::Table => ("TABLE", SURVEY_TABLE),
         _ => ("", ""),
     }
 }
@@ -202,7 +203,7 @@ pub const PLAN: &str = "Plan a station on the fewest buses for its periods, with
 
 pub const KEEP: &str = "\
 Keep places of this plan text: an output that is in it
-stays where it is, if there is room for all";
+stays at its place, if there is room for all";
 
 pub const ON_PLAN: &str = "\
 Work on this plan text, which `check` accepts, instead
@@ -232,7 +233,7 @@ pub const TEXT_LABELS: &str = "With --csv: labels whose zeros a spreadsheet keep
 
 pub const JSON: &str = "As JSON, an array with an object for each row";
 
-pub const STAMP: &str = "First the name and the SHA-256 digest of the table's file";
+pub const STAMP: &str = "First the name and SHA-256 digest of the table's file";
 
 pub const ICD_END: &str = "\
 There is a row for each output:

@@ -48,6 +48,7 @@ pub enum OptionName {
     Shift,
     Drift,
     Align,
+    Table,
 }
 
 /// Which texts an option takes.
@@ -126,7 +127,7 @@ macro_rules! options {
 
 /// The options, in the order of `OptionName`: the name of each without the two hyphens, and what is given with it. The
 /// ranges are those of docs/RULES.md, Limits; that of `--rate` is the bit rate of a line (ARINC 429 Part 1).
-pub static OPTIONS: [(OptionName, &str, OptionKind); 43] = [
+pub static OPTIONS: [(OptionName, &str, OptionKind); 44] = [
     flag!(Csv, "csv"),
     flag!(Json, "json"),
     flag!(Stamp, "stamp"),
@@ -170,6 +171,7 @@ pub static OPTIONS: [(OptionName, &str, OptionKind); 43] = [
     text!(Shift, "shift", Shift),
     text!(Drift, "drift", Drift),
     flag!(Align, "align"),
+    text!(Table, "table", Any),
 ];
 
 /// The options of the commands that have some, in the order in which help lists them.
@@ -198,7 +200,7 @@ pub const SIMULATE_OPTIONS: &[OptionName] = options![
 ];
 
 pub const SURVEY_OPTIONS: &[OptionName] = options![
-    Time, From, Until, Channel, Ignore, Reversed, Rate, Rows, Slack, Csv, Json
+    Table, Time, From, Until, Channel, Ignore, Reversed, Rate, Rows, Slack, Csv, Json
 ];
 
 pub const JUDGE_OPTIONS: &[OptionName] = options![

@@ -12,6 +12,10 @@ pub const SLACK: &str = "\
 Widen the intervals of --rows by PERCENT, 0 to 99
 [default: 25]";
 
+pub const SURVEY_TABLE: &str = "\
+Compare with this equipment table: column `table`,
+rows of missing words; status 1 for findings";
+
 pub const SURVEY_END: &str = "\
 A log has a word on each line. Blanks, commas or semicolons separate its fields,
 and a heading may name its columns. There is a row for each name, label and SDI,
@@ -20,9 +24,16 @@ and a row for each name with all its words:
   least_us, mean_us, greatest_us  the time from one word to the next
   first_us, last_us, last_word    the first time, and the last, with its word
   load                            per cent of the time taken, at the bit rate
+With --table, `ssm_0` to `ssm_3` count words by SSM, and `table` says:
+  expected    its receiver or group has it, and the intervals are right
+  unexpected  its receiver or group has none such, or there is no such name
+  fast, slow  the least interval is below the minimum of the output, or the
+              greatest is above its maximum
+  missing     its receiver or group is in the log, and no such word came
 
-Example:
-  a429 survey examples/displays/log";
+Examples:
+  a429 survey examples/displays/log
+  a429 survey --table examples/displays/table.toml examples/displays/log";
 
 pub const JUDGE: &str = "Judge whether what a box sent is right, by logs of its words";
 
@@ -72,8 +83,8 @@ Take channel or name FROM in a log as the name TO, as
 in --channel 3=adc-1; may be given again";
 
 pub const IGNORE: &str = "\
-Ignore the words of this channel or name of a log; may
-be given again";
+Ignore the words of this channel or name of a log;
+may be given again";
 
 pub const REVERSED: &str = "\
 Bits of the words in a log that are written the other
@@ -100,12 +111,12 @@ Move the times of what the box sent by US, as in
 --shift=-500, to the clock of IN [default: 0]";
 
 pub const DRIFT: &str = "\
-By how much the clock of OUT is fast, in parts in 10^9;
-=-PPB if it is slow [default: 0]";
+By how much the clock of OUT is fast, in parts in
+10^9; =-PPB if it is slow [default: 0]";
 
 pub const ALIGN: &str = "\
-Find --shift and --drift by the words that change, and
-print both";
+Find --shift and --drift by the words that change,
+and print both";
 
 pub const SENT: &str = "Only the words that are sent, as a log for `judge`";
 

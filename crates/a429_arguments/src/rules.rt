@@ -32,7 +32,7 @@ pub enum Rule {
 }
 
 /// The rules, in the order in which they are checked. With a command: the rule is for that command alone.
-pub static RULES: [(Rule, Option<Verb>); 32] = [
+pub static RULES: [(Rule, Option<Verb>); 33] = [
     (
         Rule::OneOf(OptionName::Data, OptionName::Bnr, OptionName::Bcd),
         Some(Verb::Encode),
@@ -71,6 +71,7 @@ pub static RULES: [(Rule, Option<Verb>); 32] = [
     (Rule::Fits(OptionName::Drift), None),
     (Rule::Excludes(OptionName::Align, OptionName::Shift), None),
     (Rule::Excludes(OptionName::Align, OptionName::Drift), None),
+    (Rule::Excludes(OptionName::Table, OptionName::Rows), None),
 ];
 
 /// What is wrong with a text that has not the form of its option, for people.
@@ -103,6 +104,7 @@ fn both_message(option: OptionName, other: OptionName) -> &'static str {
     match (option, other) {
         (OptionName::Sent, _) => "'--sent' cannot be used with '--csv', '--json' or '--summary'",
         (OptionName::Stamp, _) => "'--stamp' cannot be used with '--json' or '--c'",
+        (OptionName::Table, _) => "'--table' and '--rows' cannot be used together",
         (OptionName::Align, _) => "'--align' cannot be used with '--shift' or '--drift'",
         (OptionName::Csv, _) => "'--csv' and '--json' cannot be used together",
         (_, OptionName::Board) => "'--c' and '--board' cannot be used together",

@@ -47,6 +47,7 @@ least_trouble verb.Load status few = omega (arith, few)
 least_trouble verb.Lint status few = omega (arith, few)
 least_trouble verb.Diff status few = omega (arith, few)
 least_trouble verb.Judge status few = omega (arith, few)
+least_trouble verb.Survey status few = omega (arith, few)
 least_trouble _ status few = few
 
 -- what a command gives whose verb is this one

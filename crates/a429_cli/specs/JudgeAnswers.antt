@@ -10,8 +10,8 @@ use Rattle.a429_recordings.specs.LogViews.{same_clock, window_view}
 use Rattle.a429_recordings.specs.declared.logs.views.ClockMove.{ClockMove}
 
 -- 1 if something is found
-abbrev pub judge_status : Bool → ℕ
-judge_status found = if found then 1 else 0
+abbrev pub finding_status : Bool → ℕ
+finding_status found = if found then 1 else 0
 
 -- how the times of what was sent are moved (`--drift`, `--shift`)
 abbrev pub given_clock : Given → ClockMove
@@ -33,7 +33,7 @@ box_names r = record {
 -- the sheet of the files that a request names, with the status that says whether something is found
 abbrev pub IsJudgement : (List ℕ → Option (List ℕ)) → AskedBytes → ℕ → List ℕ → Type 0
 IsJudgement file r status bytes =
-    (clock : Option Alignment) × (found : Bool) × IsJudgedBy file (box_names r) (judge_form r.given) clock found bytes × (status ≡ judge_status found)
+    (clock : Option Alignment) × (found : Bool) × IsJudgedBy file (box_names r) (judge_form r.given) clock found bytes × (status ≡ finding_status found)
 
 -- why there is none
 abbrev pub IsUnjudged : (List ℕ → Option (List ℕ)) → AskedBytes → CommandRefusal → Type 0

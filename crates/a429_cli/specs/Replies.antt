@@ -38,12 +38,13 @@ is_whole verb.Simulate = false
 is_whole verb.Live = false
 is_whole _ = true
 
--- the status of a refusal: `load`, `lint`, `diff` and `judge` keep 1 for what they find (profile: status 0, 1 and 2)
+-- the status of a refusal: `load`, `lint`, `diff`, `survey` and `judge` keep 1 for what they find (profile: status 0, 1 and 2)
 abbrev pub trouble_of : Verb → ℕ
 trouble_of verb.Load = 2
 trouble_of verb.Lint = 2
 trouble_of verb.Diff = 2
 trouble_of verb.Judge = 2
+trouble_of verb.Survey = 2
 trouble_of _ = 1
 
 -- how the rows of `import` are read

@@ -46,7 +46,7 @@ use std::alloc::Global;
 /// Runs a command: `words` are the arguments without the program's name. Answers, refusals and help that is asked for
 /// go to `out`. The text of a usage error, what `hints` says about a refusal, and warnings go to `err`. The status is 0
 /// if the command was done, 1 if it was refused, and 2 after a usage error. The command `live` is a usage error here.
-/// The status of `load`, `lint`, `diff` and `judge` is 1 if something was found, and 2 after a refusal. If the output or
+/// The status of `load`, `lint`, `diff`, `survey` and `judge` is 1 if something was found, and 2 after a refusal. If the output or
 /// `err` fails, the status is 1 and nothing more is written there.
 pub fn command<'a, H: Hints, F: FileReader, O: Output, V: Output>(
     alloc: Global,

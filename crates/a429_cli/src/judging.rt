@@ -6,7 +6,7 @@ ghost use Rattle.a429_console.specs.Readings.{HasRead};
 ghost use Rattle.a429_arguments.specs.Requests.{asked_of};
 ghost use Rattle.a429_recordings.specs.JudgeReplies.{PassesNoBoxLine, names_of};
 ghost use Rattle.a429_recordings.specs.SimulationReplies.{reading_for};
-ghost use Rattle.a429_cli.specs.JudgeAnswers.{IsJudgement, IsUnjudged, box_names, given_clock, judge_status};
+ghost use Rattle.a429_cli.specs.JudgeAnswers.{IsJudgement, IsUnjudged, box_names, given_clock, finding_status};
 ghost use Rattle.a429_cli.specs.WholeReplies.{Replies};
 
 use crate::replies::reply::Reply;
@@ -20,8 +20,8 @@ use a429_recordings::judge::{ClockMove, JudgeForm, JudgeNames, LogView, judge_lo
 use std::alloc::Global;
 
 /// 1 if something was found, otherwise 0.
-fn judge_status(found: bool) -> u8
-    ensures { result ≡ judge_status found }
+pub fn finding_status(found: bool) -> u8
+    ensures { result ≡ finding_status found }
 {
     if found { 1 } else { 0 }
 }
@@ -98,7 +98,7 @@ pub fn judge_reply<F: FileReader>(
             note_asked_clock(asked, judged.alignment, warnings);
             Ok(Reply {
                 bytes: judged.sheet.text,
-                status: judge_status(judged.sheet.found),
+                status: finding_status(judged.sheet.found),
                 found: judged.sheet.rows,
             })
         }

@@ -123,8 +123,8 @@ fn run_words<
 /// Runs the program: does the command that its arguments ask for, `live` too. Answers and refusals go to `out`, the text
 /// of a usage error and hints to `err`; arguments that are not all UTF-8 are a usage error. While a station runs,
 /// `progress` gets reports of its progress. The status is the program's: 0 if the command was done; 1 if it was refused,
-/// if something was found, or if an output failed; 2 after a usage error, and after a refusal of `load`, `lint`, `diff`
-/// or `judge`. It may wait for the threads of a station.
+/// if something was found, or if an output failed; 2 after a usage error, and after a refusal of `load`, `lint`, `diff`,
+/// `survey` or `judge`. It may wait for the threads of a station.
 pub fn run_program<
     R: AllocGlobal + Threads + Wait,
     A: Arguments,

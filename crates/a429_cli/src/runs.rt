@@ -32,7 +32,7 @@ pub fn trouble_of(verb: Verb) -> u8
     ensures most { result ≤ 2 }
 {
     match verb {
-        Verb::Load | Verb::Lint | Verb::Diff | Verb::Judge => 2,
+        Verb::Load | Verb::Lint | Verb::Diff | Verb::Survey | Verb::Judge => 2,
         _ => 1,
     }
 }

@@ -35,6 +35,7 @@ mod reasons;
 mod retries;
 mod rows;
 mod scripts;
+mod surveys;
 mod telling;
 mod twins;
 mod whole_logs;

@@ -13,6 +13,7 @@ use crate::logs::tell_log_line;
 use crate::mistakes::{tell_habits, tell_nearest_word};
 use crate::plans::{tell_all_unfit, tell_fewer_buses, tell_groups, tell_half_period};
 use crate::scripts::{tell_script_line, tell_words_line};
+use crate::surveys::tell_unknown_names;
 use crate::whole_logs::{tell_close_words, tell_passed, tell_too_long};
 use crate::words::{
     tell_data_text, tell_even_word, tell_filter, tell_label_text, tell_line_byte, tell_word_text,
@@ -46,9 +47,13 @@ impl Hints for HintLines {
         alloc: Global,
         asked: &Asked,
         answered: &Answered,
+        warnings: &[Warning],
         err: &mut V,
     ) -> io::Result<()> {
         let hint = HintText::new(alloc);
+        for warning in warnings {
+            tell_warning(asked, warning, &hint);
+        }
         tell_answered(asked, answered, &hint);
         hint.put(err)?;
         err.flush()
@@ -59,21 +64,6 @@ impl Hints for HintLines {
         tell_nearest_word(words, &hint);
         tell_habits(words, &hint);
         hint.put(err)
-    }
-
-    fn tell_warnings<V: Write>(
-        &self,
-        alloc: Global,
-        asked: &Asked,
-        warnings: &[Warning],
-        err: &mut V,
-    ) -> io::Result<()> {
-        let hint = HintText::new(alloc);
-        for warning in warnings {
-            tell_warning(asked, warning, &hint);
-        }
-        hint.put(err)?;
-        err.flush()
     }
 }
 
@@ -103,6 +93,10 @@ fn tell_found(asked: &Asked, found: &Sheet, hint: &HintText) {
         Verb::Diff => {
             hint.turn_to(asked.second);
             tell_changes(&found.rows, hint);
+        }
+        Verb::Survey => {
+            hint.turn_to(asked.first);
+            tell_unknown_names(found, hint);
         }
         _ => {
             hint.turn_to(table_name(asked));
@@ -364,12 +358,12 @@ fn is_of_table(verb: Verb) -> bool {
     }
 }
 
-/// The name of the table; empty if the command has none.
+/// The name of the table: the first argument, or that of `survey --table`. Empty if there is none.
 fn table_name<'a>(asked: &Asked<'a>) -> &'a str {
     if is_of_table(asked.verb) {
         asked.first
     } else {
-        ""
+        asked.text(OptionName::Table).unwrap_or("")
     }
 }
 

@@ -10,6 +10,7 @@ pub mod ShortNames
 pub mod SentCells
 pub mod TrackOrder
 mod CloseRuns
+pub mod ComparedFiles
 pub mod SimulationEnds
 pub mod SimulationPrinted
 pub mod SendFigures

@@ -12,6 +12,7 @@ pub mod SummaryRuns
 pub mod SummaryLaws
 pub mod SimulationReplies
 pub mod Surveys
+pub mod Comparing
 pub mod BoxLogs
 pub mod JudgedPlans
 pub mod JudgeReplies

@@ -10,7 +10,6 @@ use Rattle.a429_logs.specs.declared.reading.Reading.{Reading}
 use Rattle.a429_slots.specs.Proposed.{Proposed}
 use Rattle.a429_console.specs.FileReadings.{AreReadLogs, IsFileRefusal, IsFirstUnreadLog, readable}
 use Rattle.a429_console.specs.Files.{bytes_of}
-use Rattle.a429_arguments.specs.Texts.{texts_of}
 use Rattle.a429_console.specs.Names.{naming_of}
 use Rattle.a429_console.specs.Outputs.{AppendsPending, IsPut, OrNoMemory, memory_refused}
 use Rattle.a429_console.specs.RefusalText.{OrMemory, refusal_line}

@@ -7,6 +7,9 @@ ghost use Rattle.a429_recordings.specs.LogItems.{IsItemFault, PassesNoLine, Pass
 ghost use Rattle.a429_recordings.specs.LogViews.{view_of};
 ghost use Rattle.a429_recordings.specs.Surveys.{IsSurveyAnswer, noted_by, survey_text, text_in};
 
+pub mod compare;
+mod expected;
+
 pub use crate::logs::LogNames;
 use crate::logs::keeping::{KeepFault, WordKeeper, keep_logs};
 use crate::logs::reading_for;

@@ -14,7 +14,7 @@ returns-in-Ok-clause-answer g c =
       c.in-Ok.judged.sheet.found,
       subst (λ (n : BoxFiles (List ℕ)). IsJudgedBy file n (judge_form (asked_of c.args.asked.now).given) c.in-Ok.judged.alignment c.in-Ok.judged.sheet.found c.in-Ok.judged.sheet.text.items) c.names_in.ensures
           (subst (λ (f : JudgeForm). IsJudgedBy file (names_of c.names_in.result) f c.in-Ok.judged.alignment c.in-Ok.judged.sheet.found c.in-Ok.judged.sheet.text.items) c.of-form.ensures is),
-      c.judge_status.ensures,
+      c.finding_status.ensures,
     ))
 
 pub returns-in-Err-clause-answer : goal.returns-in-Err-clause-answer

@@ -1,5 +1,5 @@
-use Rattle.std.proofs.Common.{◌≡◌, ◌∙◌, List, ℕ, ap, inl, sym, subst}
-use Rattle.std.specs.Prelude.{None, Some, option_map}
+use Rattle.std.proofs.Common.{◌≡◌, ◌∙◌, ap, inl, sym, subst}
+use Rattle.std.specs.Prelude.{Some, option_map}
 use Rattle.a429_arguments.specs.Texts.{texts_of}
 use Rattle.a429_console.specs.Names.{Naming, naming_of}
 use Rattle.a429_console.specs.RefusalText.{OrMemory}

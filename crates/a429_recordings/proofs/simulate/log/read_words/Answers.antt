@@ -1,4 +1,4 @@
-use Rattle.std.proofs.Common.{◌≡◌, ◌+◌, ℕ, List, refl}
+use Rattle.std.proofs.Common.{◌≡◌, ◌+◌, ℕ, refl}
 use Rattle.std.specs.Prelude.{Some}
 use Rattle.a429_logs.specs.LogRows.{Stated}
 use Rattle.a429_console.specs.Files.{bytes_of}
