@@ -1,4 +1,4 @@
-use Rattle.std.proofs.Common.{◌≡◌, ◌∙◌, ◌-◌, ◌<◌, ℕ, List, ap, arith, drop, length, sym}
+use Rattle.std.proofs.Common.{◌≡◌, ◌∙◌, ◌-◌, ◌<◌, ℕ, List, ap, arith, length, sym}
 use Rattle.std.proofs.lemmas.List.{length-drop}
 use Rattle.a429_import.proofs.SameLetters.{begins}
 use Rattle.a429_import.proofs.letters.same_letters.Goals as goal
