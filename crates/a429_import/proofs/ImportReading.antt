@@ -1,6 +1,6 @@
 -- What is known of lines, after one more line.
 use Rattle.std.proofs.Common.{◌≡◌, ◌∙◌, ◌+◌, ◌-◌, ℕ, List, [], ◌∷◌, ◌++◌, Option, None, Some, option_map, Result, Ok, Err, Bool, true, false, ap, append-nil, arith, length, refl, subst, sym}
-use Rattle.std.specs.Prelude.{IfOk, OnOk, filter, is_some, unwrap_or, vec_len}
+use Rattle.std.specs.Prelude.{OnOk, filter, is_some, unwrap_or, vec_len}
 use Rattle.std.specs.Result.{result_err}
 use Rattle.csv.specs.Records.{fields_of}
 use Rattle.a429_import.specs.declared.columns.Heading.{Heading}
@@ -181,7 +181,3 @@ added (Some column) read all row is has = λ line. ap (limited line all) (sym is
 pub added_as : (column : Option ImportColumn) (read : RowsRead) (f g : ℕ → Result (List ImportRow) CsvFault) → ((line : ℕ) → f line ≡ g line) → IsAdded column read g → IsAdded column read f
 added_as None read f g same h = (h.0, (λ line. same line ∙ h.1 line), h.2)
 added_as (Some column) read f g same h = λ line. same line ∙ h line
-
-pub ok_weaker : {A E : Type 0} (P Q : A → Type 0) (r : Result A E) → ((a : A) → P a → Q a) → IfOk r P → IfOk r Q
-ok_weaker P Q (Ok a) f h = f a h
-ok_weaker P Q (Err e) f h = tt

@@ -27,6 +27,7 @@ pub mod HeadingFirst
 pub mod WrittenQuotes
 mod ImportMaps
 pub mod Trimmed
+pub mod SameLetters
 pub mod KeyedLines
 pub mod FilledLines
 pub mod ChosenNames

@@ -240,9 +240,6 @@ end_place text end is =
           ap (λ (n : ℕ). drop n text) place ∙ drop_all (length text) text (omega arith) ∙ sym (is.1 ∙ drop_all is.0 text past)
     ]
 
-pub end_within : (text end : List ℕ) → IsEnd text end → length end ≤ length text
-end_within text end is = let long : length end ≡ length text - is.0 = ap length is.1 ∙ length-drop is.0 text in omega (arith, long)
-
 -- a line begins after what comes before it
 pub later_end : (text end : List ℕ) → IsEnd text end → IsEnd text (later_lines end)
 later_end text end is =
@@ -269,10 +266,3 @@ from_heading_end maps text = by (heading_of maps text) refl
     by (Some found) there =
         let line : List ℕ = without_byte_order_mark text in
         heading_end maps 11 text (from_line line) found (end_of_end (count_before (λ b. not (ends_line b)) line) text line (mark_end text)) there
-
--- the line of an end is that of its place
-pub line_at_place : (text : List ℕ) (i : ℕ) → i ≤ length text → line_of text (drop i text) ≡ ends_from false (take i text) + 1
-line_at_place text i within =
-    let long = length-drop i text in
-    let place : length text - length (drop i text) ≡ i = omega (arith, long, within) in
-    ap (λ (n : ℕ). ends_from false (take n text) + 1) place

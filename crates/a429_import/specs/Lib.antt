@@ -1,4 +1,5 @@
 pub mod ImportWords
+pub mod Letters
 pub mod ImportFields
 pub mod ImportIntervals
 pub mod ImportRows

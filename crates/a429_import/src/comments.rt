@@ -6,7 +6,7 @@ ghost use Rattle.std.specs.List.{list_all};
 ghost use Rattle.toml_parser.specs.Lexical.{is_non_eol};
 ghost use Rattle.a429_import.specs.KeptFields.{AreKept, comment_line, comment_of, kept_comments, lines_kept};
 ghost use Rattle.a429_import.specs.Known.{Knows, named_of};
-ghost use Rattle.a429_import.specs.TableTexts.{above_of, before_at, column_comments, made_comment, name_comment, rows_before};
+ghost use Rattle.a429_import.specs.TableTexts.{above_of, before_at, made_comment, name_comment, rows_before};
 
 use crate::fields::utf8_in;
 use crate::firsts::Part;
@@ -186,30 +186,6 @@ fn put_lines(alloc: Global, shown: &mut String, name: &str, lines: &[u8]) -> Res
     Ok(())
 }
 
-/// Writes the comments of the columns that go along, if the row is that of a source. Error: an allocation failed.
-fn put_columns(
-    alloc: Global,
-    shown: &mut String,
-    kept: &KeptTexts,
-    part: Part,
-    before: Option<&ImportRow>,
-    row: &ImportRow,
-) -> Result<(), AllocError>
-    requires { AreKept kept.now }
-    ensures { OnOk result (string_bytes shown.new ≡ string_bytes shown.old
-        ++ column_comments (lines_kept kept.now) part (option_copied before.entry) row.now) }
-{
-    let name = row.texts.source.as_str();
-    match (part, before) {
-        (Part::Sources, Some(before)) => {
-            let source = before.texts.source.as_str().as_bytes();
-            put_lines(alloc, shown, name, kept.text_of(source))
-        }
-        (Part::Sources, None) => put_lines(alloc, shown, name, kept.text_of(name.as_bytes())),
-        _ => Ok(()),
-    }
-}
-
 /// Writes what is above the table of the receiver, the source or the group of a row. Its row before names are made is given,
 /// if names are made. Error: an allocation failed.
 pub fn put_above(
@@ -226,5 +202,13 @@ pub fn put_above(
 {
     shown.push_str("\n")?;
     put_made_of(alloc, shown, part, before, row)?;
-    put_columns(alloc, shown, kept, part, before, row)
+    let name = row.texts.source.as_str();
+    match (part, before) {
+        (Part::Sources, Some(before)) => {
+            let source = before.texts.source.as_str().as_bytes();
+            put_lines(alloc, shown, name, kept.text_of(source))
+        }
+        (Part::Sources, None) => put_lines(alloc, shown, name, kept.text_of(name.as_bytes())),
+        _ => Ok(()),
+    }
 }

@@ -40,6 +40,7 @@ mod keyed_lines;
 mod keyed_reading;
 mod known;
 pub mod laws;
+mod letters;
 mod limits;
 mod lines;
 mod made_names;

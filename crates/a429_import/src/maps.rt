@@ -7,8 +7,8 @@ ghost use Rattle.a429_import.specs.ImportRows.{is_column};
 ghost use Rattle.a429_import.specs.ImportMaps.{AreNamedBy, IsNamedBy, can_keep, column_in, counts, is_about, is_keep, is_met, is_once, keeps, mapped, names_by, given_texts, titled};
 
 use crate::columns::is_column;
+use crate::letters::same_letters;
 use crate::lines::CsvLine;
-use crate::plain::same_heading;
 use a429_text::Text;
 use a429_text::renames::halves;
 use csv::ByteRecord;
@@ -19,7 +19,7 @@ pub fn is_about(field: &[u8], text: &str) -> bool
     ensures { result ≡ is_about field.now text.now }
 {
     match halves(text.as_bytes()) {
-        Some((heading, _)) => same_heading(heading, field),
+        Some((heading, _)) => same_letters(heading, field),
         None => false,
     }
 }

@@ -1,6 +1,7 @@
 //! Words of headings and fields as spreadsheets write them.
-ghost use Rattle.std.specs.Prelude.{◌≡◌, ◌≤◌, false, length};
+ghost use Rattle.std.specs.Prelude.{◌≡◌, ◌≤◌, false, length, ℕ};
 ghost use Rattle.a429_import.specs.ImportWords.{begin_alike, is_blank, is_extra, is_quoted, is_text, plain, same_heading, unquoted, unwrapped, words_of};
+ghost use Rattle.a429_import.specs.Letters.{letters_of};
 
 use crate::forms::from_place;
 
@@ -12,7 +13,7 @@ pub fn is_blank(byte: u8) -> bool
 }
 
 /// A byte of a heading: in any case; an underline and a line break are blanks.
-fn plain(byte: u8) -> u8
+pub fn plain(byte: u8) -> u8
     ensures { result ≡ plain byte }
 {
     if byte == b'_' || is_blank(byte) {
@@ -33,8 +34,9 @@ fn is_extra(text: &[u8]) -> bool
 }
 
 /// A text with one blank for several at its beginning.
-fn without_extra(text: &[u8]) -> &[u8]
+pub fn without_extra(text: &[u8]) -> &[u8]
     ensures words { words_of result.now ≡ words_of text.now }
+    ensures letters { (before : ℕ) → letters_of before result.now ≡ letters_of before text.now }
     ensures none { is_extra result.now ≡ false }
     ensures len { length result.now ≤ length text.now }
 {

@@ -6,8 +6,7 @@ ghost use Rattle.a429_import.specs.declared.lines.CsvLine.{CsvLine};
 ghost use Rattle.a429_import.specs.declared.rows.ImportRow.{ImportRow};
 ghost use Rattle.a429_import.specs.ImportClashes.{Agree};
 ghost use Rattle.a429_import.specs.ImportReading.{AreBelow, AreRead, AreTaken, HasRows, HaveRows, IsAdded, IsHeadingOf, IsTaken, StandsFor, heading_fault};
-ghost use Rattle.a429_import.specs.ImportLimits.{too_many};
-ghost use Rattle.a429_import.specs.ImportRows.{has_label, limited, next_row, with_line, with_row};
+ghost use Rattle.a429_import.specs.ImportRows.{has_label, next_row, with_line, with_row};
 ghost use Rattle.a429_import.specs.ImportTexts.{row_view};
 ghost use Rattle.a429_import.specs.KeptFields.{AreKept, KeepsTexts};
 ghost use Rattle.a429_import.specs.Known.{Knows};
@@ -102,21 +101,6 @@ pub fn push_row(alloc: Global, read: &mut RowsRead, row: &RowFields<'_>) -> Resu
     Ok(())
 }
 
-/// Takes a row that says something new. The answer is the column of which there is then one too many. Error: an allocation
-/// failed.
-fn take_new(
-    alloc: Global,
-    read: &mut RowsRead,
-    row: &RowFields<'_>,
-) -> Result<Option<ImportColumn>, AllocError>
-    requires { (rows : List ImportRow) × HasRows read.old rows }
-    ensures { IfOk result (λ column. (rows : List ImportRow) → HasRows read.old rows
-        → IsAdded column read.new (λ line. limited line (rows ++ row_view row.now ∷ []) (too_many (rows ++ row_view row.now ∷ []) (row_view row.now)))) }
-{
-    push_row(alloc, read, row)?;
-    Ok(read.known.too_many(row))
-}
-
 /// Takes a row, unless it says nothing new. The answer is the column of which there is then one too many. Error: an allocation
 /// failed.
 fn take_row(
@@ -129,10 +113,10 @@ fn take_row(
         → IsAdded column read.new (λ line. with_row line rows (row_view row.now))) }
 {
     if read.known.has_all_of(row) {
-        Ok(None)
-    } else {
-        take_new(alloc, read, row)
+        return Ok(None);
     }
+    push_row(alloc, read, row)?;
+    Ok(read.known.too_many(row))
 }
 
 /// The fault of a row, in a column.

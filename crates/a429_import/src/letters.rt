@@ -1,0 +1,104 @@
+//! Headings in any case, with the letters beyond ASCII that take two bytes.
+ghost use Rattle.std.specs.Prelude.{◌≡◌, ◌<◌, true};
+ghost use Rattle.a429_import.specs.Letters.{begin_alike, first_byte, is_pair, lower_byte, lower_code, pair_code, same_letters};
+
+use crate::forms::from_place;
+use crate::plain::{plain, without_extra};
+
+/// Whether two bytes are a character of UTF-8.
+fn is_pair(lead: u8, tail: u8) -> bool
+    ensures { result ≡ is_pair lead tail }
+{
+    194 <= lead && lead <= 223 && (128 <= tail && tail <= 191)
+}
+
+/// The character of two bytes.
+fn pair_code(lead: u8, tail: u8) -> u32
+    requires { is_pair lead tail ≡ true }
+    ensures code { result ≡ pair_code lead tail }
+    ensures small { result < 2048 }
+{
+    u32::from(lead - 192) * 64 + u32::from(tail - 128)
+}
+
+/// A character in lower case, if that is one character that takes two bytes.
+#[tactic(auto, unfolding(crate::specs::Letters::lower_code))]
+fn lower_of(c: char) -> u32
+    requires { c < 2048 }
+    ensures code { result ≡ lower_code c }
+    ensures small { result < 2048 }
+{
+    let mut lower = c.to_lowercase();
+    let first = lower.next();
+    let second = lower.next();
+    match (first, second) {
+        (Some(lower), None) if 128 <= lower as u32 && lower as u32 <= 2047 => lower as u32,
+        _ => c as u32,
+    }
+}
+
+/// The same by the code of the character.
+fn lower_code(code: u32) -> u32
+    requires { code < 2048 }
+    ensures code { result ≡ lower_code code }
+    ensures small { result < 2048 }
+{
+    match char::from_u32(code) {
+        Some(c) => lower_of(c),
+        None => code,
+    }
+}
+
+/// A byte of a heading in lower case, between the byte before it and the one after it.
+fn lower_byte(before: u8, byte: u8, after: u8) -> u8
+    ensures { result ≡ lower_byte before byte after }
+{
+    if is_pair(byte, after) {
+        192 + (lower_code(pair_code(byte, after)) / 64) as u8
+    } else if is_pair(before, byte) {
+        128 + (lower_code(pair_code(before, byte)) % 64) as u8
+    } else {
+        plain(byte)
+    }
+}
+
+/// The first byte; 0 if there is none.
+fn first_byte(text: &[u8]) -> u8
+    ensures { result ≡ first_byte text.now }
+{
+    match text {
+        [byte, ..] => *byte,
+        [] => 0,
+    }
+}
+
+/// Whether two headings, each after a byte, begin with the same byte in lower case.
+fn begin_alike(left_before: u8, left: &[u8], right_before: u8, right: &[u8]) -> bool
+    ensures { result ≡ begin_alike left_before left.now right_before right.now }
+{
+    match (left, right) {
+        ([a, left @ ..], [b, right @ ..]) => {
+            let a = lower_byte(left_before, *a, first_byte(left));
+            a == lower_byte(right_before, *b, first_byte(right))
+        }
+        _ => false,
+    }
+}
+
+/// Whether two headings are the same: in any case, with one blank for several blanks, underlines and line breaks. Letters
+/// that take two bytes have a case too.
+pub fn same_letters(a: &[u8], b: &[u8]) -> bool
+    ensures { result ≡ same_letters a.now b.now }
+{
+    let mut left = without_extra(a);
+    let mut right = without_extra(b);
+    let mut left_before = 0;
+    let mut right_before = 0;
+    while begin_alike(left_before, left, right_before, right) {
+        left_before = first_byte(left);
+        right_before = first_byte(right);
+        left = without_extra(from_place(left, 1));
+        right = without_extra(from_place(right, 1));
+    }
+    left.is_empty() && right.is_empty()
+}
