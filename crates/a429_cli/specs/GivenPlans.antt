@@ -5,8 +5,8 @@ use Rattle.a429_cert.specs.declared.verdicts.Reason.TheVariants as against
 use Rattle.a429_console.specs.Tables.{IsProposedBy, IsTableRefusal}
 use Rattle.a429_console.specs.declared.refusals.CommandRefusal.{CommandRefusal}
 use Rattle.a429_console.specs.declared.refusals.CommandRefusal.TheVariants as refused
-use Rattle.a429_console.specs.declared.refusals.PlanKind.{PlanKind}
-use Rattle.a429_console.specs.declared.refusals.PlanKind.TheVariants as kinds
+use Rattle.a429_console.specs.declared.refusals.kinds.PlanKind.{PlanKind}
+use Rattle.a429_console.specs.declared.refusals.kinds.PlanKind.TheVariants as kinds
 use Rattle.a429_keep.specs.Followed.{IsFollowFault, IsFollowed}
 use Rattle.a429_keep.specs.declared.fault.KeepFault.{KeepFault}
 use Rattle.a429_keep.specs.declared.fault.KeepFault.TheVariants as faults

@@ -19,8 +19,8 @@ use Rattle.a429_cli.specs.declared.replies.reply.Reply.{Reply}
 use Rattle.a429_console.specs.FileReadings.{IsFileRefusal, readable}
 use Rattle.a429_console.specs.declared.refusals.CommandRefusal.{CommandRefusal}
 use Rattle.a429_console.specs.declared.refusals.CommandRefusal.TheVariants as refused
-use Rattle.a429_console.specs.declared.refusals.CsvKind.{CsvKind}
-use Rattle.a429_console.specs.declared.refusals.CsvKind.TheVariants as csv
+use Rattle.a429_console.specs.declared.refusals.kinds.CsvKind.{CsvKind}
+use Rattle.a429_console.specs.declared.refusals.kinds.CsvKind.TheVariants as csv
 
 -- what is wrong with a row, as a refusal has it
 abbrev pub csv_kind : CsvFaultKind → CsvKind

@@ -5,7 +5,8 @@ ghost use Rattle.a429_cli.specs.GivenPlans.{IsNoPlanIn, IsPlanIn, follow_refusal
 
 use a429_cert::Reason;
 use a429_console::planning::propose;
-use a429_console::refusals::{CommandRefusal, PlanKind, Refused};
+use a429_console::refusals::kinds::PlanKind;
+use a429_console::refusals::{CommandRefusal, Refused};
 use a429_keep::{FollowFault, KeepFault, KeepReason, follow};
 use a429_slots::{OUTPUTS, Proposal};
 use std::alloc::Global;

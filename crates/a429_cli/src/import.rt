@@ -12,8 +12,9 @@ use a429_console::files::FileReader;
 use a429_console::files::reading::read_file;
 use a429_console::hints::warnings::Warning;
 use a429_console::refusals::evidence::Evidence;
+use a429_console::refusals::kinds::CsvKind;
 use a429_console::refusals::rows::{RowEvidence, RowsEvidence};
-use a429_console::refusals::{CommandRefusal, CsvKind, Refused};
+use a429_console::refusals::{CommandRefusal, Refused};
 use a429_import::{
     CsvFaultKind, CsvLine, ImportFault, ImportOptions, Imported, RefusedRows, heading_texts,
     import_or_keep, keep_texts,

@@ -15,6 +15,7 @@ use a429_console::files::reading::read_file;
 use a429_console::hints::warnings::{KeptCounts, MovedOutput, StatedPlace, Warning};
 use a429_console::planning::propose;
 use a429_console::refusals::{CommandRefusal, Refused};
+use a429_equipment::Equipment;
 use a429_keep::{Changes, Move, Row, changes_between, keep, read_rows};
 use a429_slots::{OUTPUTS, Proposal};
 use a429_text::SheetForm;
@@ -57,6 +58,25 @@ fn note_changes(alloc: Global, changes: &Changes<'_>, warnings: &mut Vec<Warning
     }
 }
 
+/// Notes what changes from an earlier plan text to another, unless an allocation fails.
+fn note_texts(
+    alloc: Global,
+    equipment: &Equipment,
+    earlier: &[u8],
+    text: &[u8],
+    warnings: &mut Vec<Warning>,
+) {
+    let Ok(before) = read_rows(alloc, equipment, earlier) else {
+        return;
+    };
+    let Ok(after) = read_rows(alloc, equipment, text) else {
+        return;
+    };
+    if let Ok(changes) = changes_between(alloc, &before, &after) {
+        note_changes(alloc, &changes, warnings);
+    }
+}
+
 /// Notes what changes from an earlier plan text to a plan, unless an allocation fails.
 fn note_kept(
     alloc: Global,
@@ -64,17 +84,8 @@ fn note_kept(
     earlier: &[u8],
     warnings: &mut Vec<Warning>,
 ) {
-    let Ok(text) = plan_text(alloc, proposal) else {
-        return;
-    };
-    let Ok(before) = read_rows(alloc, proposal.equipment(), earlier) else {
-        return;
-    };
-    let Ok(after) = read_rows(alloc, proposal.equipment(), &text) else {
-        return;
-    };
-    if let Ok(changes) = changes_between(alloc, &before, &after) {
-        note_changes(alloc, &changes, warnings);
+    if let Ok(text) = plan_text(alloc, proposal) {
+        note_texts(alloc, proposal.equipment(), earlier, &text, warnings);
     }
 }
 

@@ -6,10 +6,10 @@ use Rattle.a429_console.specs.Outputs.{memory_refused}
 use Rattle.a429_table.specs.Printed.{kind_text, place_text}
 use Rattle.a429_console.specs.declared.refusals.CommandRefusal.{CommandRefusal}
 use Rattle.a429_console.specs.declared.refusals.CommandRefusal.TheVariants as refused
-use Rattle.a429_console.specs.declared.refusals.CsvKind.{CsvKind}
-use Rattle.a429_console.specs.declared.refusals.CsvKind.TheVariants as csv
-use Rattle.a429_console.specs.declared.refusals.PlanKind.{PlanKind}
-use Rattle.a429_console.specs.declared.refusals.PlanKind.TheVariants as plan
+use Rattle.a429_console.specs.declared.refusals.kinds.CsvKind.{CsvKind}
+use Rattle.a429_console.specs.declared.refusals.kinds.CsvKind.TheVariants as csv
+use Rattle.a429_console.specs.declared.refusals.kinds.PlanKind.{PlanKind}
+use Rattle.a429_console.specs.declared.refusals.kinds.PlanKind.TheVariants as plan
 
 -- what is wrong with a row of comma-separated values, by its name in refusals
 abbrev pub csv_kind_text : CsvKind → List ℕ

@@ -8,8 +8,9 @@ use crate::imported::{tell_imported, tell_too_many};
 use crate::retries::{needs_fill, say_command};
 use a429_arguments::options::OptionName;
 use a429_arguments::requests::Asked;
+use a429_console::refusals::CommandRefusal;
+use a429_console::refusals::kinds::CsvKind;
 use a429_console::refusals::rows::{RowEvidence, RowsEvidence};
-use a429_console::refusals::{CommandRefusal, CsvKind};
 use a429_filter::Filter;
 use a429_import::{
     CsvLine, Heading, IMPORT_COLUMNS, ImportColumn, ImportOptions, column_in, form_fault,

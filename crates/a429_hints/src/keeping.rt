@@ -2,7 +2,7 @@
 
 use crate::hint::HintText;
 use a429_console::hints::warnings::{KeptCounts, MovedOutput, StatedPlace};
-use a429_console::refusals::PlanKind;
+use a429_console::refusals::kinds::PlanKind;
 
 /// Says how many outputs stay.
 pub fn tell_kept(counts: KeptCounts, hint: &HintText) {
@@ -56,6 +56,7 @@ pub fn tell_plan_line(kind: PlanKind, hint: &HintText) {
         }
         PlanKind::Place => "the offset must be below the period",
         PlanKind::Shared => "an output above has cells of this one; `a429 check` says which",
-        _ => "this is no plan of the table; `a429 check` says why, and `a429 plan` with --keep makes one of it",
+        _ =>
+            "this is no plan of the table; `a429 check` says why, and `a429 plan` with --keep makes one of it",
     });
 }

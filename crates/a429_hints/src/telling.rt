@@ -8,7 +8,7 @@ use crate::files::{REFUSED_OUTPUT, UTF_16, nth, tell_trouble};
 use crate::findings::{tell_changes, tell_findings};
 use crate::hint::HintText;
 use crate::imports::{tell_millis_group, tell_notes, tell_rows, tell_short_intervals};
-use crate::keeping::{tell_kept, tell_moved, plan_name, tell_plan_line};
+use crate::keeping::{plan_name, tell_kept, tell_moved, tell_plan_line};
 use crate::logs::tell_log_line;
 use crate::mistakes::{tell_habits, tell_nearest_word};
 use crate::plans::{tell_all_unfit, tell_fewer_buses, tell_groups, tell_half_period};

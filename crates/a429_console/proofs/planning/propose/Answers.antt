@@ -18,8 +18,7 @@ returns-in_err-equipment c =
 
 pub returns-in-Ok : goal.returns-in-Ok
 returns-in-Ok c =
-    let planned = c.in-Ok.ensures.planned in
-    (
+    let planned = c.in-Ok.ensures.planned in (
       c.in_ok-equipment.ensures ∙ ap Ok (sym planned.0),
       subst (λ t. IsPlanOf t c.in-Ok.proposal.plan) (sym planned.0) planned.1,
       subst (λ t. HasOwnLayout t c.in-Ok.proposal.plan) (sym planned.0) c.in-Ok.ensures.own,
