@@ -16,7 +16,7 @@ use Rattle.a429_arguments.specs.declared.options.OptionKind.{OptionKind}
 use Rattle.a429_arguments.specs.declared.options.OptionKind.TheVariants as given
 use Rattle.a429_arguments.specs.declared.options.OptionName.{OptionName}
 use Rattle.a429_arguments.specs.declared.options.OptionName.TheVariants as option
-use Rattle.a429_arguments.specs.declared.options.TheConstants.{DIFF_OPTIONS, DRAW_OPTIONS, ENCODE_OPTIONS, FORMS, ICD_OPTIONS, IMPORT_OPTIONS, JUDGE_OPTIONS, LOAD_OPTIONS, OPTIONS, PLAN_OPTIONS, REPLAY_OPTIONS, SHEET_OPTIONS, SIMULATE_OPTIONS, SLOTS_OPTIONS, SURVEY_OPTIONS}
+use Rattle.a429_arguments.specs.declared.options.TheConstants.{DIFF_OPTIONS, DRAW_OPTIONS, ENCODE_OPTIONS, FORMS, ICD_OPTIONS, IMPORT_OPTIONS, JUDGE_OPTIONS, LOAD_OPTIONS, OPTIONS, PLAN_OPTIONS, PLANNED_OPTIONS, REPLAY_OPTIONS, SHEET_OPTIONS, SIMULATE_OPTIONS, SLOTS_OPTIONS, SURVEY_OPTIONS}
 use Rattle.a429_arguments.specs.declared.forms.Verb.{Verb}
 use Rattle.a429_arguments.specs.declared.forms.Verb.TheVariants as verb
 
@@ -97,10 +97,10 @@ options_of verb.Replay = REPLAY_OPTIONS.now
 options_of verb.Word = FORMS.now
 options_of verb.Lines = FORMS.now
 options_of verb.Icd = ICD_OPTIONS.now
-options_of verb.Margin = SHEET_OPTIONS.now
+options_of verb.Margin = PLANNED_OPTIONS.now
 options_of verb.Load = LOAD_OPTIONS.now
 options_of verb.Slots = SLOTS_OPTIONS.now
-options_of verb.Buses = SHEET_OPTIONS.now
+options_of verb.Buses = PLANNED_OPTIONS.now
 options_of verb.Lint = SHEET_OPTIONS.now
 options_of verb.Diff = DIFF_OPTIONS.now
 options_of verb.Draw = DRAW_OPTIONS.now
