@@ -50,12 +50,12 @@ _a429() {
         import) options="--map --names --fill --keep-columns $options" ;;
         plan) options="--keep --csv --json $options" ;;
         check) options="--csv --json $options" ;;
-        icd) options="--csv --text --json --stamp $options" ;;
-        draw) options="--group --slots --width --html $options" ;;
-        slots) options="--group --all --c --board --csv --json --stamp $options" ;;
-        buses) options="--csv --json --stamp $options" ;;
-        load) options="--limit --csv --json --stamp $options" ;;
-        margin) options="--csv --json --stamp $options" ;;
+        icd) options="--plan --csv --text --json --stamp $options" ;;
+        draw) options="--plan --group --slots --width --html $options" ;;
+        slots) options="--plan --group --all --c --board --csv --json --stamp $options" ;;
+        buses) options="--plan --csv --json --stamp $options" ;;
+        load) options="--plan --limit --csv --json --stamp $options" ;;
+        margin) options="--plan --csv --json --stamp $options" ;;
         lint) options="--csv --json --stamp $options" ;;
         diff) options="--all --csv --json --stamp $options" ;;
         replay) options="--quiet --only --csv $options" ;;
@@ -74,7 +74,7 @@ _a429() {
         --sdi | --ssm) COMPREPLY=($(compgen -W "0 1 2 3" -- "$word")); return ;;
         --group | --only) COMPREPLY=($(compgen -W "$(_a429_groups "${COMP_WORDS[2]}")" -- "$word")); return ;;
         # values
-        --map | --keep-columns | --keep | --group | --slots | --width | --limit | --only | --time | --from | --channel | --ignore | --reversed | --until | --table | --rate | --slack | --tolerance | --shift | --drift | --sdi | --ssm | --data | --bnr | --bits | --bcd) COMPREPLY=(); return ;;
+        --map | --keep-columns | --keep | --plan | --group | --slots | --width | --limit | --only | --time | --from | --channel | --ignore | --reversed | --until | --table | --rate | --slack | --tolerance | --shift | --drift | --sdi | --ssm | --data | --bnr | --bits | --bcd) COMPREPLY=(); return ;;
         # end of values
     esac
     case $word in
