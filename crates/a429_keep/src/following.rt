@@ -20,8 +20,8 @@ pub enum FollowFault {
 }
 
 /// Gives the outputs of a proposal's plan the places of a plan text that the check accepts (profile: plan text, in the
-/// version of the equipment table). Errors: `No`, the check refuses the text; `Kept`, as `keep` refuses it; `NoMemory`, an
-/// allocation failed.
+/// version of the equipment table). Errors: `No`, the check refuses the text; `Kept`, its outputs cannot be read; `NoMemory`,
+/// an allocation failed.
 pub fn follow(
     alloc: Global,
     proposal: &mut Proposal<OUTPUTS>,

@@ -1,14 +1,15 @@
 //! Plans that stay: the plan of a table whose outputs keep the places of an earlier plan text, as far as they can (profile:
 //! docs/RULES.md, Plans that stay).
 //!
-//! `keep` makes such a plan of a proposal, on the same buses. `follow` makes the plan of a text that the check accepts. `read_rows` gives the outputs that a plan text lists, and
-//! `changes_between` says what changes from one text to another: how many outputs stay, are new or gone, and which move.
+//! `keep` makes such a plan of a proposal, on the same buses. `follow` makes the plan of a text that the check accepts.
+//! `read_rows` gives the outputs that a plan text lists, and `changes_between` says what changes from one text to another: how
+//! many outputs stay, are new or gone, and which move.
 //!
 //! Errors: a line of the earlier text is refused, or an allocation failed. `KeepFault` has the line and the reason.
 //!
 //! ```text
 //! match keep(alloc, &mut proposal, earlier) {
-//!     Ok(()) => written_plan(alloc, &proposal, earlier, warnings),
+//!     Ok(()) => told_kept(alloc, &proposal, earlier, form, warnings),
 //!     ..
 //! }
 //! ```

@@ -215,8 +215,8 @@ impl<const N: usize> GroupPlan<N> {
 
     /// The output in a cell: on this bus, in this slot counted from the frame's start. Slots past the frame are those
     /// of the frames that follow. `None`: an empty cell, or a bus outside the plan. The second number is how many
-    /// running sums were read to find the output. For n outputs with d binary digits it is at most d, at least d - 1 if
-    /// the cell has an output, and 0 on a bus outside the plan. The call allocates no memory.
+    /// running sums were read to find the output. For n outputs with d binary digits it is at most d, and at least d - 1
+    /// if the cell has an output. On a bus outside the plan it is 0. The call allocates no memory.
     pub fn at_counted(&self, bus: u32, slot: u64) -> (Option<OutputId>, u32)
         ensures cell { result.0 ≡ cell_at self.now bus slot }
         ensures known { IfSome result.0 (λ output. output < length (outputs_of self.now)) }
