@@ -88,8 +88,8 @@ pub fn plan_in(
     table: &[u8],
     text: Option<&[u8]>,
 ) -> Result<Proposal<OUTPUTS>, Refused>
-    ensures { MatchResult result (IsPlanIn (option_map (λ t. t.now) text) table.now)
-        (OrMemory (IsNoPlanIn (option_map (λ t. t.now) text) table.now)) }
+    ensures { MatchResult result (IsPlanIn (option_map (λ t. t.now) text.entry) table.now)
+        (OrMemory (IsNoPlanIn (option_map (λ t. t.now) text.entry) table.now)) }
 {
     match text {
         Some(text) => followed(alloc, table, text),

@@ -1,5 +1,5 @@
 //! The command `plan` with `--keep`: a plan whose outputs keep the places of an earlier plan text.
-ghost use Rattle.std.specs.Prelude.{◌≡◌, ⊥};
+ghost use Rattle.std.specs.Prelude.{◌≡◌};
 ghost use Rattle.a429_arguments.specs.Requests.{asked_of};
 ghost use Rattle.a429_console.specs.Readings.{HasRead};
 ghost use Rattle.a429_cli.specs.Keeping.{IsKeptOf, IsKeptPlan, IsNoKept, IsNoKeptPlan, IsToldPlan};

@@ -134,8 +134,8 @@ fn reply_to_table(
     plan: Option<&[u8]>,
 ) -> Result<Reply, Refused>
     requires { is_on_plan asked.now.verb ≡ true }
-    ensures { Replies (IsReplyToTable asked.now.verb (asked_of asked.now).given (option_map (λ p. p.now) plan) table.now)
-        (IsNoReplyToTable asked.now.verb (asked_of asked.now).given (option_map (λ p. p.now) plan) table.now) result }
+    ensures { Replies (IsReplyToTable asked.now.verb (asked_of asked.now).given (option_map (λ p. p.now) plan.entry) table.now)
+        (IsNoReplyToTable asked.now.verb (asked_of asked.now).given (option_map (λ p. p.now) plan.entry) table.now) result }
 {
     let file = TableFile {
         name: asked.first,
@@ -155,8 +155,8 @@ fn stamped_reply(
 ) -> Result<Reply, Refused>
     requires { is_on_plan asked.now.verb ≡ true }
     ensures { Replies (IsStamped (asked_of asked.now).given (stamp_line (asked_of asked.now).first table.now)
-        (IsReplyToTable asked.now.verb (asked_of asked.now).given (option_map (λ p. p.now) plan) table.now))
-        (IsNoReplyToTable asked.now.verb (asked_of asked.now).given (option_map (λ p. p.now) plan) table.now) result }
+        (IsReplyToTable asked.now.verb (asked_of asked.now).given (option_map (λ p. p.now) plan.entry) table.now))
+        (IsNoReplyToTable asked.now.verb (asked_of asked.now).given (option_map (λ p. p.now) plan.entry) table.now) result }
 {
     let reply = reply_to_table(alloc, asked, table, plan)?;
     let file = TableFile {

@@ -1,6 +1,8 @@
 //! Hints about plans whose outputs stay at their places.
 
 use crate::hint::HintText;
+use a429_arguments::options::OptionName;
+use a429_arguments::requests::Asked;
 use a429_console::hints::warnings::{KeptCounts, MovedOutput, StatedPlace};
 use a429_console::refusals::kinds::PlanKind;
 
@@ -47,16 +49,23 @@ pub fn plan_name<'a>(asked: &Asked<'a>) -> &'a str {
     }
 }
 
-/// Says what is wrong with a line of a plan text that was given.
-pub fn tell_plan_line(kind: PlanKind, hint: &HintText) {
-    hint.say_line(match kind {
-        PlanKind::Form => "this is no line of a plan text; give the output of `a429 plan`",
+/// What is wrong with a line of a plan text whose places are to be kept.
+fn kept_line(kind: PlanKind) -> &'static str {
+    match kind {
         PlanKind::Rate => {
             "the table has another bit rate for this group, so that its slots are other times; plan it without --keep"
         }
         PlanKind::Place => "the offset must be below the period",
         PlanKind::Shared => "an output above has cells of this one; `a429 check` says which",
-        _ =>
-            "this is no plan of the table; `a429 check` says why, and `a429 plan` with --keep makes one of it",
+        _ => "this is no line of a plan text; give the output of `a429 plan`",
+    }
+}
+
+/// Says what is wrong with a line of a plan text that was given.
+pub fn tell_plan_line(asked: &Asked, kind: PlanKind, hint: &HintText) {
+    hint.say_line(if asked.has(OptionName::Plan) {
+        "`a429 check` does not accept this text; `a429 plan` with --keep makes a plan of it"
+    } else {
+        kept_line(kind)
     });
 }

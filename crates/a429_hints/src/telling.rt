@@ -181,7 +181,7 @@ fn tell_plain(asked: &Asked, refusal: &CommandRefusal, hint: &HintText) {
         CommandRefusal::PlanLine { line, kind } => {
             hint.turn_to(plan_name(asked));
             hint.turn_to_line(*line);
-            tell_plan_line(*kind, hint);
+            tell_plan_line(asked, *kind, hint);
         }
         CommandRefusal::Apart => {
             hint.turn_to(asked.third);
