@@ -49,7 +49,7 @@ pub fn plan_name<'a>(asked: &Asked<'a>) -> &'a str {
     }
 }
 
-/// What is wrong with a line of a plan text whose places are to be kept.
+/// What is wrong with a line of the plan text of `--keep`.
 fn kept_line(kind: PlanKind) -> &'static str {
     match kind {
         PlanKind::Rate => {
