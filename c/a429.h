@@ -12,7 +12,8 @@
  * Any other mistake has a status: a call on a closed station, a number that is out of range, a name that the station
  * does not have, a room that is too small.
  *
- * The calls do not write output, keep global data or abort. Only a429_open and a429_publish allocate memory. */
+ * The calls do not write output, keep global data or abort. Only a429_open, a429_open_planned and a429_publish allocate
+ * memory. */
 #ifndef A429_H
 #define A429_H
 
@@ -56,9 +57,10 @@ enum a429_status {
     A429_TABLE = 12,          /* the table has a fault */
     A429_UNFIT = 13,          /* the interval of an output allows no period of slots */
     A429_TOO_MANY_BUSES = 14, /* a group needs more than 16 buses */
-    A429_TOO_LARGE = 15,      /* the table has more than 16 MiB (16,777,216 bytes) */
+    A429_TOO_LARGE = 15,      /* the table, or the plan text, has more than 16 MiB (16,777,216 bytes) */
     A429_NO_ROOM = 16,        /* the text is longer than the room */
-    A429_FIELD = 17           /* a field of a word has too many bits */
+    A429_FIELD = 17,          /* a field of a word has too many bits */
+    A429_PLAN_LINE = 18       /* a line of the plan text is refused */
 };
 
 /* A cell that was sent. */
@@ -92,6 +94,12 @@ typedef struct a429_fields {
  * held before, it is closed then. If the call is refused, only the text of its refusal changes.
  * A429_TOO_LARGE, A429_TABLE, A429_UNFIT, A429_TOO_MANY_BUSES, A429_SLOTS_SPENT, A429_MEMORY. */
 uint32_t a429_open(a429_station *station, const uint8_t *table, size_t table_length, uint64_t first_slot);
+
+/* The same by the plan that a text states, instead of the table's own plan: a text that `a429 plan` or `a429 plan --keep`
+ * prints for this table, or another that `a429 check` accepts. A newer table has its own plan.
+ * A429_TOO_LARGE, A429_TABLE, A429_UNFIT, A429_TOO_MANY_BUSES, A429_PLAN_LINE, A429_SLOTS_SPENT, A429_MEMORY. */
+uint32_t a429_open_planned(a429_station *station, const uint8_t *table, size_t table_length, const uint8_t *plan,
+                           size_t plan_length, uint64_t first_slot);
 
 /* Closes a station, and frees what it holds. If none is held, nothing happens. The text of the last refusal stays. */
 void a429_close(a429_station *station);

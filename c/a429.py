@@ -16,7 +16,7 @@ import os
 from typing import Iterator, List, NamedTuple, Optional
 
 (OK, NO_SUCH, PARITY, FILTERED, NO_SOURCE, COUNT_SPENT, FRAME_END, MID_FRAME, SLOTS_SPENT, STATION_DIFFERS, CLOSED, MEMORY,
- TABLE, UNFIT, TOO_MANY_BUSES, TOO_LARGE, NO_ROOM, FIELD) = range(18)
+ TABLE, UNFIT, TOO_MANY_BUSES, TOO_LARGE, NO_ROOM, FIELD, PLAN_LINE) = range(19)
 
 NAME_ROOM = 16
 REFUSAL_ROOM = 92
@@ -74,6 +74,7 @@ _ROOM = [ctypes.c_void_p, ctypes.c_size_t, ctypes.POINTER(ctypes.c_size_t)]
 _SIZE = ctypes.POINTER(ctypes.c_size_t)
 _CALLS = {
     "open": _TEXT + [ctypes.c_uint64],
+    "open_planned": _TEXT + _TEXT + [ctypes.c_uint64],
     "arrive": [ctypes.c_size_t, ctypes.c_uint32, _SIZE],
     "cell": [ctypes.c_size_t, ctypes.POINTER(_Sent)],
     "frame": [ctypes.c_size_t, ctypes.POINTER(ctypes.c_uint64)],
@@ -142,11 +143,14 @@ def decode(word: int) -> Fields:
 
 
 class Station:
-    """A station in operation. Receivers, groups and sources are numbered from 0 in table order."""
+    """A station in operation, by the table's own plan or by that of a plan text. Receivers, groups and sources are numbered from 0 in table order."""
 
-    def __init__(self, table: bytes, first_slot: int = 0):
+    def __init__(self, table: bytes, first_slot: int = 0, plan: Optional[bytes] = None):
         self._library, self._own = _load(_library_file()), _Station()
-        self._call("open", table, len(table), first_slot)
+        if plan is None:
+            self._call("open", table, len(table), first_slot)
+        else:
+            self._call("open_planned", table, len(table), plan, len(plan), first_slot)
 
     def __enter__(self):
         return self

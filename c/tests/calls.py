@@ -43,6 +43,16 @@ def words():
     check("decode", refusal(a429.decode, 1 << 32), OverflowError)
 
 
+def planned(table):
+    text = (b"plan 2\ngroup displays rate 12500 frame 32 buses 1\noutput airspeed period 32 bus 0 offset 5 hold none\n"
+            b"output altitude period 16 bus 0 offset 3 hold none\nbound 3 > 0 * 32\n")
+    with a429.Station(table, plan=text) as station:
+        check("places", station.places(0), [(0, 3, 16), (0, 5, 32)])
+    check("open_planned", refusal(a429.Station, table, 0, text.replace(b"offset 3", b"offset 16")),
+          (a429.PLAN_LINE, "refused plan line 4 place"))
+    check("open_planned", refusal(a429.Station, table, 0, b""), (a429.PLAN_LINE, "refused plan line 1 form"))
+
+
 def places(table, newer):
     slow, fast = [(0, 0, 16), (0, 8, 32)], [(0, 0, 8), (0, 4, 32)]
     station = a429.Station(table)
@@ -73,5 +83,6 @@ if __name__ == "__main__":
         sys.exit("words: TABLE NEWER")
     words()
     places(*map(read, sys.argv[1:]))
+    planned(read(sys.argv[1]))
     print(f"calls: {checks} checks, {wrong} wrong")
     sys.exit(wrong != 0)

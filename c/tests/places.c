@@ -1,5 +1,5 @@
 /* The places of outputs, by hand from the layout: before and after a newer plan comes into force, of each group, and of
- * numbers that are out of range.
+ * numbers that are out of range; and those of a plan text.
  *
  *     places TABLE NEWER     TABLE: examples/displays/table.toml; NEWER: examples/displays/faster.toml */
 #include "a429.h"
@@ -8,6 +8,7 @@
 
 #include <stdio.h>
 #include <stdlib.h>
+#include <string.h>
 
 static int is_at(a429_station *s, size_t output, uint32_t bus, uint32_t offset, uint32_t period)
 {
@@ -42,6 +43,41 @@ static void cells(a429_station *s, uint8_t label, size_t output)
         CHECK(sent.filled == (sent.bus == place.bus && sent.slot % place.period == place.offset));
 }
 
+/* Another plan of the table, and one whose output on line 4 has no slot in its period. */
+static const char given[] = "plan 2\ngroup displays rate 12500 frame 32 buses 1\n"
+    "output airspeed period 32 bus 0 offset 5 hold none\noutput altitude period 16 bus 0 offset 3 hold none\nbound 3 > 0 * 32\n";
+static const char wrong_place[] = "plan 2\ngroup displays rate 12500 frame 32 buses 1\n"
+    "output airspeed period 32 bus 0 offset 5 hold none\noutput altitude period 16 bus 0 offset 16 hold none\nbound 3 > 0 * 32\n";
+
+static void given_places(a429_station *s)
+{
+    CHECK(is_at(s, 0, 0, 3, 16) && is_at(s, 1, 0, 5, 32) && is_none(s, 0, 2, A429_NO_SUCH));
+}
+
+/* A station that is opened by a plan text, and then has a newer plan, which is the table's own. */
+static void planned(a429_station *s, const uint8_t *table, size_t length)
+{
+    uint8_t room[A429_REFUSAL_ROOM];
+    size_t count = 0;
+    uint64_t plan = 9;
+    void *held;
+    CHECK(a429_open_planned(s, table, length, (const uint8_t *)given, sizeof given - 1, 0) == A429_OK);
+    given_places(s);
+    held = s->held;
+    CHECK(a429_open_planned(s, table, length, (const uint8_t *)wrong_place, sizeof wrong_place - 1, 0) == A429_PLAN_LINE);
+    CHECK(s->held == held && a429_refusal(s, room, sizeof room, &count) == A429_OK);
+    CHECK(count == 25 && !memcmp(room, "refused plan line 4 place", 25));
+    CHECK(a429_open_planned(s, table, 0, (const uint8_t *)given, 0, 0) == A429_TABLE && s->held == held);
+    CHECK(a429_open_planned(s, table, length, (const uint8_t *)given, 0, 0) == A429_PLAN_LINE && s->held == held);
+    given_places(s);
+    cells(s, 0206, 1);
+    CHECK(a429_publish(s, table, length, &plan) == A429_OK && plan == 1);
+    given_places(s);
+    CHECK(a429_frame(s, 0, &plan) == A429_OK && plan == 1);
+    places(s, 16, 8);
+    a429_close(s);
+}
+
 int main(int argc, char **argv)
 {
     static uint8_t table[1 << 16], newer[1 << 16];
@@ -70,6 +106,7 @@ int main(int argc, char **argv)
     places(&s, 16, 8);
     a429_close(&s);
     CHECK(is_none(&s, 0, 0, A429_CLOSED));
+    planned(&s, table, length);
     printf("places: %ld checks, %ld wrong\n", checks, wrong);
     return wrong != 0;
 }

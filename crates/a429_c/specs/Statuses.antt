@@ -7,7 +7,7 @@ use Rattle.a429_console.specs.declared.refusals.CommandRefusal.TheVariants as re
 use Rattle.a429_c.specs.declared.statuses.Status.{Status}
 use Rattle.a429_c.specs.declared.statuses.Status.TheVariants.{NoSuch, Parity, Filtered, NoSource, CountSpent, FrameEnd, MidFrame, SlotsSpent, StationDiffers, Closed, Memory, TooLarge, NoRoom, Field}
 
--- the numbers of the header; 0 is success, 12 to 14 are for tables
+-- the numbers of the header; 0 is success, 12 to 14 are for tables, 18 is for plan texts
 abbrev pub code_of : Status → ℕ
 code_of NoSuch = 1
 code_of Parity = 2
@@ -52,9 +52,10 @@ status_for why.MidFrame = MidFrame
 status_for why.SlotsSpent = SlotsSpent
 status_for why.StationDiffers = StationDiffers
 
--- a fault of the table, an output that no period fits, a group of too many buses; no table is refused for another cause but memory
+-- a fault of the table, an output that no period fits, a group of too many buses, a line of a plan text; there is no other cause but memory
 abbrev pub table_code : CommandRefusal → ℕ
 table_code (refused.Table kind place) = 12
 table_code (refused.Unfit group source) = 13
 table_code (refused.TooManyBuses group needed) = 14
+table_code (refused.PlanLine line kind) = 18
 table_code _ = 11

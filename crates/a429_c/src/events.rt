@@ -1,5 +1,5 @@
 //! Calls that open and close a station, and those that are its events.
-ghost use Rattle.std.specs.Prelude.{◌≡◌, ◌≤◌, None, IfOk, IfErr, OnErr};
+ghost use Rattle.std.specs.Prelude.{◌≡◌, ◌≤◌, None, Some, IfOk, IfErr, OnErr, option_map};
 ghost use Rattle.a429_core.specs.MachineSteps.{cell_asked, frame_asked};
 ghost use Rattle.a429_c.specs.Calls.{arrival_step, asked, cell_of, given_or, moved, plan_of, source_of, status_of, text_in};
 ghost use Rattle.a429_c.specs.Openings.{IsNoPublication, IsOpenIn, HasPublishedTable, IsPublishing, IsRefusedOpening};
@@ -13,6 +13,29 @@ use crate::statuses::Status;
 use crate::tables::{TableRefusal, read_proposal, refuse_table};
 use std::alloc::Global;
 
+/// Opens the station of a table, with the plan of a text if one is given.
+fn open(
+    alloc: Global,
+    station: &mut StationHandle,
+    table: &[u8],
+    plan: Option<&[u8]>,
+    first_slot: u64,
+) -> u32
+    ensures opened { result ≡ 0 → IsOpenIn table.now (option_map (λ p. p.now) plan.entry) first_slot station.new.handle.held }
+    ensures silent { result ≡ 0 → station.new.refusal_text ≡ station.old.refusal_text }
+    ensures kept { 1 ≤ result → station.new.handle.held ≡ station.old.handle.held }
+    ensures refused { 1 ≤ result → IsRefusedOpening table.now (option_map (λ p. p.now) plan.entry) first_slot result
+        (text_in station.new.refusal_text) }
+{
+    match build(alloc, table, plan, first_slot) {
+        Ok(machine) => {
+            station.handle.put(alloc, machine);
+            0
+        }
+        Err(refusal) => refuse_table(alloc, refusal, &mut station.refusal_text),
+    }
+}
+
 /// Opens the station of a table, whose first frames begin at this slot. A station that was held before is closed then.
 /// Errors, in this order: the table has more than 16 MiB; the table has a fault; its plan has a fault; the slots of a
 /// first frame cannot be counted in 64 bits. Memory may run out instead of any of these. On an error the station that
@@ -24,18 +47,30 @@ pub extern "C" fn a429_open(
     table: &[u8],
     first_slot: u64,
 ) -> u32
-    ensures opened { result ≡ 0 → IsOpenIn table.now first_slot station.new.handle.held }
+    ensures opened { result ≡ 0 → IsOpenIn table.now None first_slot station.new.handle.held }
     ensures silent { result ≡ 0 → station.new.refusal_text ≡ station.old.refusal_text }
     ensures kept { 1 ≤ result → station.new.handle.held ≡ station.old.handle.held }
-    ensures refused { 1 ≤ result → IsRefusedOpening table.now first_slot result (text_in station.new.refusal_text) }
+    ensures refused { 1 ≤ result → IsRefusedOpening table.now None first_slot result (text_in station.new.refusal_text) }
 {
-    match build(alloc, table, first_slot) {
-        Ok(machine) => {
-            station.handle.put(alloc, machine);
-            0
-        }
-        Err(refusal) => refuse_table(alloc, refusal, &mut station.refusal_text),
-    }
+    open(alloc, station, table, None, first_slot)
+}
+
+/// Opens the station of a table by the plan that a text states, which `check` accepts. Errors: as `a429_open`; the text has
+/// more than 16 MiB, or a line of it is refused. A fault of the table or of its own plan comes before that of a line.
+#[unsafe(no_mangle)]
+pub extern "C" fn a429_open_planned(
+    alloc: Global,
+    station: &mut StationHandle,
+    table: &[u8],
+    plan: &[u8],
+    first_slot: u64,
+) -> u32
+    ensures opened { result ≡ 0 → IsOpenIn table.now (Some plan.now) first_slot station.new.handle.held }
+    ensures silent { result ≡ 0 → station.new.refusal_text ≡ station.old.refusal_text }
+    ensures kept { 1 ≤ result → station.new.handle.held ≡ station.old.handle.held }
+    ensures refused { 1 ≤ result → IsRefusedOpening table.now (Some plan.now) first_slot result (text_in station.new.refusal_text) }
+{
+    open(alloc, station, table, Some(plan), first_slot)
 }
 
 /// Closes a station. If none is held, nothing happens.
@@ -147,7 +182,7 @@ fn publish(
     ensures refused { IfErr result (IsNoPublication table.now) }
     ensures kept { OnErr result (machine.new ≡ machine.old) }
 {
-    let proposal = read_proposal(alloc, table)?;
+    let proposal = read_proposal(alloc, table, None)?;
     let Ok(tables) = slot_tables_of(alloc, proposal.plan()) else {
         return Err(TableRefusal::Call(Status::Memory));
     };

@@ -155,13 +155,19 @@ pub(crate) fn group_number(rows: &[GroupRow], name: &[u8]) -> Option<usize>
         .position(|row| row.name.as_str().as_bytes() == name)
 }
 
-/// The station of a table's bytes, to which nothing has happened, whose first frames begin at this slot. Error: the
-/// table has more than 16 MiB, it or its plan has a fault, the slots of a first frame cannot be counted, or an allocation
-/// failed.
-pub(crate) fn build(alloc: Global, table: &[u8], first: u64) -> Result<Box<Machine>, TableRefusal>
-    ensures { MatchResult result (λ b. IsHeldFrom table.now first b.value) (IsNoOpening table.now first) }
+/// The station of a table's bytes, to which nothing has happened, whose first frames begin at this slot. Its plan is that
+/// of a plan text if one is given. Error: as `read_proposal`; the slots of a first frame cannot be counted, or an
+/// allocation failed.
+pub(crate) fn build(
+    alloc: Global,
+    table: &[u8],
+    plan: Option<&[u8]>,
+    first: u64,
+) -> Result<Box<Machine>, TableRefusal>
+    ensures { MatchResult result (λ b. IsHeldFrom table.now (option_map (λ p. p.now) plan.entry) first b.value)
+        (IsNoOpening table.now (option_map (λ p. p.now) plan.entry) first) }
 {
-    let proposal = read_proposal(alloc, table)?;
+    let proposal = read_proposal(alloc, table, plan)?;
     let Ok(tables) = slot_tables_of(alloc, proposal.plan()) else {
         return Err(TableRefusal::Call(Status::Memory));
     };

@@ -101,7 +101,7 @@ pub(crate) fn status_for(refusal: Refusal) -> Status
     }
 }
 
-/// The number of the status in C of a table's fault, or of its plan's.
+/// The number of the status in C of a table's fault, of its plan's, or of a plan text's.
 pub(crate) fn table_code(refusal: &CommandRefusal) -> u32
     ensures { result ≡ table_code refusal.now }
 {
@@ -109,6 +109,7 @@ pub(crate) fn table_code(refusal: &CommandRefusal) -> u32
         CommandRefusal::Table(_, _) => 12,
         CommandRefusal::Unfit { .. } => 13,
         CommandRefusal::TooManyBuses { .. } => 14,
+        CommandRefusal::PlanLine { .. } => 18,
         _ => 11,
     }
 }

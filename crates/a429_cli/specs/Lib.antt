@@ -10,7 +10,6 @@ pub mod Drawings
 pub mod SlotReplies
 pub mod SurveyReplies
 pub mod JudgeAnswers
-pub mod GivenPlans
 pub mod Keeping
 pub mod Loads
 pub mod Stamping

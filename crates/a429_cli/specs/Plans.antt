@@ -17,7 +17,7 @@ use Rattle.a429_slots.specs.Proposed.{Proposed}
 use Rattle.a429_text.specs.Fields.{Field}
 use Rattle.a429_text.specs.Sheets.{sheet_text}
 use Rattle.a429_cli.specs.Drawings.{HasImage, IsNoGroup, IsUndrawn, picture_of}
-use Rattle.a429_cli.specs.GivenPlans.{IsNoPlanIn, IsPlanIn}
+use Rattle.a429_given.specs.GivenPlans.{IsNoPlanIn, IsPlanIn}
 use Rattle.a429_cli.specs.Loads.{IsLoad, limit_of}
 use Rattle.a429_cli.specs.PlanRows.{told_plan}
 use Rattle.a429_cli.specs.SlotReplies.{HasSlots, slots_form}

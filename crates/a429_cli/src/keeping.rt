@@ -5,7 +5,6 @@ ghost use Rattle.a429_console.specs.Readings.{HasRead};
 ghost use Rattle.a429_cli.specs.Keeping.{IsKeptOf, IsKeptPlan, IsNoKept, IsNoKeptPlan, IsToldPlan};
 ghost use Rattle.a429_cli.specs.WholeReplies.{Replies};
 
-use crate::given_plans::keep_refusal;
 use crate::plan_rows::plan_of;
 use crate::replies::reply::Reply;
 use a429_cert::laws::own_text_is_fewest;
@@ -16,6 +15,7 @@ use a429_console::hints::warnings::{KeptCounts, MovedOutput, StatedPlace, Warnin
 use a429_console::planning::propose;
 use a429_console::refusals::{CommandRefusal, Refused};
 use a429_equipment::Equipment;
+use a429_given::keep_refusal;
 use a429_keep::{Changes, Move, Row, changes_between, keep, read_rows};
 use a429_slots::{OUTPUTS, Proposal};
 use a429_text::SheetForm;

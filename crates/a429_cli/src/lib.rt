@@ -23,7 +23,6 @@ mod commands;
 mod drawings;
 mod encode;
 mod findings;
-mod given_plans;
 mod import;
 mod judging;
 mod keeping;

@@ -13,7 +13,6 @@ ghost use Rattle.a429_cli.specs.Stamping.{IsStamped, stamp_line};
 ghost use Rattle.a429_cli.specs.WholeReplies.{Replies};
 
 use crate::drawings::{Picture, image_of};
-use crate::given_plans::plan_in;
 use crate::loads::load_of;
 use crate::plan_rows::plan_of;
 use crate::replies::reply::Reply;
@@ -27,6 +26,7 @@ use a429_console::files::reading::read_file;
 use a429_console::planning::with_plan;
 use a429_console::refusals::{CommandRefusal, Refused};
 use a429_documents::{SOURCE, TableFile, buses_sheet, icd_sheet, margin_sheet, render_kept};
+use a429_given::plan_in;
 use a429_slots::{OUTPUTS, Proposal};
 use a429_text::SheetForm;
 use std::alloc::{AllocError, Global};

@@ -3,7 +3,7 @@ use Rattle.std.specs.Prelude.{Err, Option, option_map}
 use Rattle.std.proofs.lemmas.Result.{err_from_is_err_and}
 use Rattle.a429_console.proofs.Refused.{failed, matched_both, or_memory_weaker}
 use Rattle.a429_console.specs.RefusalText.{OrMemory}
-use Rattle.a429_cli.specs.GivenPlans.{IsNoPlanIn}
+use Rattle.a429_given.specs.GivenPlans.{IsNoPlanIn}
 use Rattle.a429_arguments.specs.Requests.{asked_of}
 use Rattle.a429_cli.specs.Plans.{IsNoReplyOnPlan, IsNoReplyToTable, IsReplyOnPlan, IsReplyToTable}
 use Rattle.a429_cli.proofs.plans.reply_to_table.Goals as goal

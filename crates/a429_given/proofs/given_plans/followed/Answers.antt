@@ -4,8 +4,8 @@ use Rattle.std.proofs.lemmas.Result.{err_from_is_err_and}
 use Rattle.a429_console.specs.RefusalText.{OrMemory}
 use Rattle.a429_console.specs.Tables.{IsTableRefusal}
 use Rattle.a429_console.proofs.Refused.{failed, or_memory_weaker}
-use Rattle.a429_cli.specs.GivenPlans.{IsNoPlanIn}
-use Rattle.a429_cli.proofs.given_plans.followed.Goals as goal
+use Rattle.a429_given.specs.GivenPlans.{IsNoPlanIn}
+use Rattle.a429_given.proofs.given_plans.followed.Goals as goal
 
 pub returns-in_err-proposal : goal.returns-in_err-proposal
 returns-in_err-proposal c =

@@ -1,7 +1,7 @@
-//! Plan texts that are given to commands.
+//! The plan that a text states, and why there is none.
 ghost use Rattle.std.specs.Prelude.{◌≡◌, MatchResult, Some, option_map};
 ghost use Rattle.a429_console.specs.RefusalText.{OrMemory};
-ghost use Rattle.a429_cli.specs.GivenPlans.{IsNoPlanIn, IsPlanIn, follow_refusal, keep_refusal, plan_kind, reason_kind};
+ghost use Rattle.a429_given.specs.GivenPlans.{IsNoPlanIn, IsPlanIn, follow_refusal, keep_refusal, plan_kind, reason_kind};
 
 use a429_cert::Reason;
 use a429_console::planning::propose;
