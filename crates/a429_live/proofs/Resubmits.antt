@@ -43,7 +43,7 @@ pub published : (v w : Running) (bytes : List ℕ) (n : ℕ) (old new : List ℕ
 published v w bytes n old new A put =
     let last : w.planner.last.number ≡ n = ap (λ (p : PlanTable). p.number) A.last in (
       codes "published " ++ decimal n ++ 10 ∷ [],
-      inr (inr (record { station = A.of.record_of; plan = A.of.plan }, (A.of.reads, A.of.planned), A.same, ap (λ (m : ℕ). codes "published " ++ decimal m ++ 10 ∷ []) (sym last), last ∙ A.next)),
+      inr (inr (record { station = A.of.record_of; plan = A.of.plan }, (A.of.reads, A.of.planned, A.of.own), A.same, ap (λ (m : ℕ). codes "published " ++ decimal m ++ 10 ∷ []) (sym last), last ∙ A.next)),
       put,
     )
 

@@ -146,7 +146,7 @@ module _ (t : TableRecord) (g : ℕ) (R : SlotTable → Type 0) where
   all_given v w (table ∷ tables) (answer.Published n ∷ answers) here each (u, P, later) all =
       all_given u w tables answers (P.station ∙ here) (λ p has. each p (inr has)) later
       (subst (AllByRecursion Given) (sym P.list) (all_push Given v.planner.list _ all
-      (λ p is. each p (inl (record { station = P.of.record_of; plan = P.of.plan }, (P.of.reads, P.of.planned), subst (λ (x : TableRecord). same_station x P.of.record_of ≡ true) here P.same, is)))))
+      (λ p is. each p (inl (record { station = P.of.record_of; plan = P.of.plan }, (P.of.reads, P.of.planned, P.of.own), subst (λ (x : TableRecord). same_station x P.of.record_of ≡ true) here P.same, is)))))
 
 -- ---- a group of a run
 

@@ -12,7 +12,7 @@ use Rattle.a429_table.specs.declared.fault.TableFault.TheVariants as table
 use Rattle.a429_slots.specs.Tables.{PlanTable, frame_of, groups_of}
 use Rattle.a429_slots.specs.Proposed.{Proposed}
 use Rattle.a429_slots.specs.History.{Opening}
-use Rattle.a429_slots.specs.Planned.{IsPlanOf}
+use Rattle.a429_slots.specs.Planned.{HasOwnLayout, IsPlanOf}
 use Rattle.a429_slots.specs.Spacing.{IsOwnPlan}
 use Rattle.a429_slots.specs.Faults.{IsFaultOf}
 use Rattle.a429_slots.specs.declared.planner.PlanFault.{PlanFault}
@@ -93,6 +93,7 @@ pub record IsPlanned (bytes : List ℕ) : Type 0 where
   pub reads : reading bytes ≡ Ok record_of
   pub sound : IsSound record_of
   pub planned : IsPlanOf record_of plan
+  pub own : HasOwnLayout record_of plan
 
 -- it is of the same station, and its plan is the next, under this number
 pub record Publishes (old : Running) (bytes : List ℕ) (number : ℕ) (new : Running) : Type 0 where

@@ -16,6 +16,6 @@ pub returns-clause-planned : goal.returns-clause-planned
 returns-clause-planned c =
     let next = c.in_ok-next.next in
     let plan = c.in_ok-plan.field-0 in
-    let of : IsPlanned c.args.table.now = record { record_of = next; plan = plan; reads = c.in_ok-next.ensures; sound = c.rows_are_sound.ensures; planned = c.in_ok-plan.ensures.planned } in
+    let of : IsPlanned c.args.table.now = record { record_of = next; plan = plan; reads = c.in_ok-next.ensures; sound = c.rows_are_sound.ensures; planned = c.in_ok-plan.ensures.planned; own = c.in_ok-plan.ensures.own } in
     let same : same_station c.args.station.now next ≡ true = search rules in
     (of, same, refl)
