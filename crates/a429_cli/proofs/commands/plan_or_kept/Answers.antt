@@ -25,4 +25,4 @@ returns-in-Some-clause-replied g c =
     let some : text_given r.given option.Keep ≡ Some c.in-Some.earlier.now = sym c.text.ensures ∙ ap (option_map (λ t. t.now)) c.in-Some.is in
     read_weaker c.kept_reply.ensures (λ file is.
     subst (λ (o : Option (List ℕ)). Replies (PlannedBy o file r) (UnplannedBy o file r) c.kept_reply.result) (sym some)
-    (subst (λ (f : SheetForm). Replies (IsKeptOf f file r.first c.in-Some.earlier.now) (IsNoKept file r.first c.in-Some.earlier.now) c.kept_reply.result) c.form.ensures is))
+    (subst (λ (f : SheetForm). Replies (IsKeptOf f file r.first c.in-Some.earlier.now) (IsNoKept file r.first c.in-Some.earlier.now) c.kept_reply.result) c.form-form.ensures is))
