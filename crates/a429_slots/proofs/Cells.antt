@@ -26,7 +26,7 @@ abbrev pub AreApart : SlotTable → Type 0
 AreApart t = (x i j : ℕ) → Holds (stretches_of t) x i → Holds (stretches_of t) x j → i ≡ j
 
 -- an output is in a cell if and only if the cell is of its block
-stands : (t : SlotTable) (o bus slot : ℕ) → HoldsJustItsCells t o → HoldsCell t o bus slot → stands_in bus slot (placed_at t o) ≡ true
+pub stands : (t : SlotTable) (o bus slot : ℕ) → HoldsJustItsCells t o → HoldsCell t o bus slot → stands_in bus slot (placed_at t o) ≡ true
 stands t o bus slot just holds =
     let x : Placed = placed_at t o in
     let (row, at) = (just.cells bus slot).0 holds in

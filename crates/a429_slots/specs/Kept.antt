@@ -13,10 +13,13 @@ begin_of t o = (placed_at t o).place.bus * frame_of t + reversed t.frame (placed
 abbrev pub end_of : SlotTable → ℕ → ℕ
 end_of t o = begin_of t o + share_of t o
 
+-- the place of a cell among all
+abbrev pub place_of_cell : SlotTable → ℕ → ℕ → ℕ
+place_of_cell t bus slot = bus * frame_of t + reversed t.frame (slot % frame_of t)
+
 -- the place of the cell is in the block
 abbrev pub HoldsCell : SlotTable → ℕ → ℕ → ℕ → Type 0
-HoldsCell t o bus slot =
-    (begin_of t o ≤ bus * frame_of t + reversed t.frame (slot % frame_of t)) × (bus * frame_of t + reversed t.frame (slot % frame_of t) < end_of t o)
+HoldsCell t o bus slot = (begin_of t o ≤ place_of_cell t bus slot) × (place_of_cell t bus slot < end_of t o)
 
 -- how far each of these ends is from the one before it, the first from s
 abbrev pub steps_from : ℕ → List ℕ → List ℕ

@@ -7,8 +7,8 @@ use Rattle.a429_grid.specs.Reversal.{reversed}
 use Rattle.a429_pack.specs.Sums.{Holds}
 use Rattle.a429_slots.specs.declared.group_plan.GroupPlan.TheInside.{Inside}
 use Rattle.a429_slots.specs.Columns.{AreColumns, table_in}
-use Rattle.a429_slots.specs.Tables.{SlotTable, cell_at, frame_of, outputs_of, placed_at, stands_in}
-use Rattle.a429_slots.specs.Kept.{IsTable, stretches_of}
+use Rattle.a429_slots.specs.Tables.{SlotTable, cell_at, frame_of, order_of, outputs_of, placed_at, stands_in}
+use Rattle.a429_slots.specs.Kept.{IsTable, place_of_cell, stretches_of}
 use Rattle.std.specs.Bool.{then_some}
 use Rattle.a429_word.proofs.Lists.{clash}
 use Rattle.a429_slots.proofs.Cells.{HasEach, cell_found, cell_empty, cell_outside, held_by}
@@ -97,7 +97,19 @@ known g c =
     omega (arith, read g c, each.below c.in-Some.place (omega (arith, below g c, length-table c.self.inside)))
 
 pub has_cell-there-requires : goal.has_cell-there-requires
-has_cell-there-requires g c = (assumption, subst (λ (u : SlotTable). c.new-output.result < length (outputs_of u)) c.self.view_is (known g c))
+has_cell-there-requires g c =
+    let t : SlotTable = table_in c.self.inside in
+    let held : Holds c.self.inside.sums c.place_of_cell.result c.in-Some.place =
+    held_at c.self.inside.sums c.place_of_cell.result c.in-Some.place c.find_counted-found.result.0 c.in-Some.is c.find_counted-found.ensures.found in
+    let at : Holds (stretches_of t) (place_of_cell t c.args.bus c.args.slot) c.in-Some.place =
+    subst (λ (x : ℕ). Holds (stretches_of t) x c.in-Some.place) c.place_of_cell.ensures
+    (subst (λ (ds : List ℕ). Holds ds c.place_of_cell.result c.in-Some.place) (stretches c.self.inside c.self.invariant) held) in (
+      assumption,
+      (subst (λ (u : SlotTable). c.new-output.result < length (outputs_of u)) c.self.view_is (known g c), (
+        subst (λ (u : SlotTable). get_or (order_of u) c.in-Some.place 0 ≡ c.new-output.result) c.self.view_is (sym (read g c)),
+        subst (λ (u : SlotTable). Holds (stretches_of u) (place_of_cell u c.args.bus c.args.slot) c.in-Some.place) c.self.view_is at,
+      )),
+    )
 
 -- it is in the cell, or none is
 found_or_none : (t : SlotTable) (bus slot o : ℕ) (there : Bool) → there ≡ stands_in bus slot (placed_at t o) → (stands_in bus slot (placed_at t o) ≡ true → cell_at t bus slot ≡ Some o)
