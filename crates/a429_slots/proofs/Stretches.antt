@@ -126,9 +126,11 @@ module _ (t : SlotTable) (follow : BlocksFollow t) (long : length t.order ≡ le
   stretch_is_block full k bus slot (below, low, high) =
       let demands : (j : ℕ) → j < length t.order → get_or (demands_of t) j 0 ≡ share_of t (get_or t.order j 0) = λ j inside. get_or-map (share_of t) t.order j 0 0 inside in
       let many : length (demands_of t) ≡ length t.order = length-map t.order (share_of t) in
-      let few : AreAtMost (demands_of t) (stretches_of t) =
-      (many ∙ sym (length-stretches t), λ j inside.
-      omega (arith, demands j (omega (arith, inside, many)), stretch_begin j (omega (arith, inside, many, long)), stretch_end j (omega (arith, inside, many, long)))) in
+      let few : AreAtMost (demands_of t) (stretches_of t) = (
+        many ∙ sym (length-stretches t),
+        λ j inside.
+            omega (arith, demands j (omega (arith, inside, many)), stretch_begin j (omega (arith, inside, many, long)), stretch_end j (omega (arith, inside, many, long))),
+      ) in
       let inside : k < length t.order = omega (arith, below, length-stretches t) in
       let same : get_or (demands_of t) k 0 ≡ get_or (stretches_of t) k 0 = same_at (demands_of t) (stretches_of t) few full k (omega (arith, inside, many)) in
       let share : share_of t (get_or t.order k 0) ≡ get_or (stretches_of t) k 0 = omega (arith, demands k inside, same) in

@@ -105,10 +105,13 @@ has_cell-there-requires g c =
     subst (λ (x : ℕ). Holds (stretches_of t) x c.in-Some.place) c.place_of_cell.ensures
     (subst (λ (ds : List ℕ). Holds ds c.place_of_cell.result c.in-Some.place) (stretches c.self.inside c.self.invariant) held) in (
       assumption,
-      (subst (λ (u : SlotTable). c.new-output.result < length (outputs_of u)) c.self.view_is (known g c), (
-        subst (λ (u : SlotTable). get_or (order_of u) c.in-Some.place 0 ≡ c.new-output.result) c.self.view_is (sym (read g c)),
-        subst (λ (u : SlotTable). Holds (stretches_of u) (place_of_cell u c.args.bus c.args.slot) c.in-Some.place) c.self.view_is at,
-      )),
+      (
+        subst (λ (u : SlotTable). c.new-output.result < length (outputs_of u)) c.self.view_is (known g c),
+        (
+          subst (λ (u : SlotTable). get_or (order_of u) c.in-Some.place 0 ≡ c.new-output.result) c.self.view_is (sym (read g c)),
+          subst (λ (u : SlotTable). Holds (stretches_of u) (place_of_cell u c.args.bus c.args.slot) c.in-Some.place) c.self.view_is at,
+        ),
+      ),
     )
 
 -- it is in the cell, or none is
