@@ -57,11 +57,12 @@ _a429() {
         load) options="--plan --limit --csv --json --stamp $options" ;;
         margin) options="--plan --csv --json --stamp $options" ;;
         lint) options="--csv --json --stamp $options" ;;
-        diff) options="--all --csv --json --stamp $options" ;;
-        replay) options="--quiet --only --csv $options" ;;
-        simulate) options="--time --from --channel --ignore --reversed --until --sent --summary --csv --json $options" ;;
-        survey) options="--table --time --from --until --channel --ignore --reversed --rate --rows --slack --csv --json $options" ;;
-        judge) options="--in --tolerance --events --time --from --until --align --shift --drift --channel --ignore --reversed --csv --json $options" ;;
+        diff) options="--plan --other-plan --all --csv --json --stamp $options" ;;
+        replay) options="--plan --quiet --only --csv $options" ;;
+        simulate) options="--plan --time --tick --dates --from --map --channel --ignore --reversed --until --sent --summary --csv --json $options" ;;
+        live) options="--plan $options" ;;
+        survey) options="--table --time --tick --dates --from --until --map --channel --ignore --reversed --rate --rows --slack --csv --json $options" ;;
+        judge) options="--plan --in --tolerance --events --time --tick --dates --from --until --align --shift --drift --map --channel --ignore --reversed --csv --json $options" ;;
         word) options="--csv --json $options" ;;
         encode) options="--sdi --ssm --data --bnr --bits --bcd --csv --json $options" ;;
         lines) options="--csv --json $options" ;;
@@ -74,7 +75,7 @@ _a429() {
         --sdi | --ssm) COMPREPLY=($(compgen -W "0 1 2 3" -- "$word")); return ;;
         --group | --only) COMPREPLY=($(compgen -W "$(_a429_groups "${COMP_WORDS[2]}")" -- "$word")); return ;;
         # values
-        --map | --keep-columns | --keep | --plan | --group | --slots | --width | --limit | --only | --time | --from | --channel | --ignore | --reversed | --until | --table | --rate | --slack | --tolerance | --shift | --drift | --sdi | --ssm | --data | --bnr | --bits | --bcd) COMPREPLY=(); return ;;
+        --map | --keep-columns | --keep | --plan | --group | --slots | --width | --limit | --other-plan | --only | --time | --tick | --dates | --from | --channel | --ignore | --reversed | --until | --table | --rate | --slack | --tolerance | --shift | --drift | --sdi | --ssm | --data | --bnr | --bits | --bcd) COMPREPLY=(); return ;;
         # end of values
     esac
     case $word in

@@ -61,7 +61,7 @@ FORMS = [
     ("a date and a blank", [], "Time,Ch,Word\n2024-01-02 10:00:00.000000,1,60000085\n2024-01-02 10:00:00.000360,1,e48d14c1\n", two(MORNING, MORNING + 360)),
     ("a quoted date between blanks", [], 'Time Ch Word\n"2024-01-02 10:00:00" 1 60000085\n"2024-01-02 10:00:00.00036" 1 e48d14c1\n', two(MORNING, MORNING + 360)),
     ("year first, with slashes", [], "Time;Ch;Word\n2024/01/02 10:00:00;1;60000085\n2024/01/02 10:00:00,00036;1;e48d14c1\n", two(MORNING, MORNING + 360)),
-    ("day first, and no row that shows it", [], "Time;Ch;Word\n02/01/2024 10:00:00;1;60000085\n02/01/2024 10:00:00.00036;1;e48d14c1\n", two(MORNING, MORNING + 360)),
+    ("day first, and no row that shows it", ["--dates", "dmy"], "Time;Ch;Word\n02/01/2024 10:00:00;1;60000085\n02/01/2024 10:00:00.00036;1;e48d14c1\n", two(MORNING, MORNING + 360)),
     ("day first, as a row shows", [], "Time;Ch;Word\n13/01/2024 10:00:00;1;60000085\n13/01/2024 10:00:00.00036;1;e48d14c1\n", two(MORNING + 11 * DAY, MORNING + 11 * DAY + 360)),
     ("the name of the month", [], "Time;Ch;Word\n2-Jan-2024 10:00:00;1;60000085\n2-Jan-2024 10:00:00.00036;1;e48d14c1\n", two(MORNING, MORNING + 360)),
     ("seconds with an exponent", [], "Time (s),Ch,Word\n0.00e+00,1,60000085\n3.60e-04,1,e48d14c1\n", two(0, 360)),
@@ -70,6 +70,6 @@ FORMS = [
     ("words reversed", ["--reversed", "word"], f"0 1 {int(f'{FIRST:032b}'[::-1], 2):08x}\n360 1 {int(f'{SECOND:032b}'[::-1], 2):08x}\n", two(0, 360)),
     ("a byte order mark, and a comma for a point", ["--time", "ms"], "\ufefftime;ch;word\r\n0,000;1;60000085\r\n0,360;1;e48d14c1\r\n", two(0, 360)),
     ("a channel by its number", ["--channel", "3=adc"], "time,ch,word\n0,3,60000085\n360,3,e48d14c1\n", two(0, 360, "adc")),
-    ("a heading in another language", ["--map", "Zeit=time"], "Zeit;Kanal;Wort\n0;1;60000085\n360;1;e48d14c1\n", two(0, 360)),
+    ("a heading in another language", ["--map", "Zeit=time", "--map", "Kanal=channel", "--map", "Wort=word"], "Zeit;Kanal;Wort\n0;1;60000085\n360;1;e48d14c1\n", two(0, 360)),
     ("lines of a system log", [], "Jan  2 10:00:00 box a429[12]: rx1 60000085\nJan  2 10:00:01 box a429[12]: rx1 e48d14c1\n", two(0, SECONDS, "rx1")),
 ]

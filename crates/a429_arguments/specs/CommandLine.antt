@@ -16,7 +16,7 @@ use Rattle.a429_arguments.specs.declared.options.OptionKind.{OptionKind}
 use Rattle.a429_arguments.specs.declared.options.OptionKind.TheVariants as given
 use Rattle.a429_arguments.specs.declared.options.OptionName.{OptionName}
 use Rattle.a429_arguments.specs.declared.options.OptionName.TheVariants as option
-use Rattle.a429_arguments.specs.declared.options.TheConstants.{DIFF_OPTIONS, DRAW_OPTIONS, ENCODE_OPTIONS, FORMS, ICD_OPTIONS, IMPORT_OPTIONS, JUDGE_OPTIONS, LOAD_OPTIONS, OPTIONS, PLAN_OPTIONS, PLANNED_OPTIONS, REPLAY_OPTIONS, SHEET_OPTIONS, SIMULATE_OPTIONS, SLOTS_OPTIONS, SURVEY_OPTIONS}
+use Rattle.a429_arguments.specs.declared.options.TheConstants.{DIFF_OPTIONS, DRAW_OPTIONS, ENCODE_OPTIONS, FORMS, ICD_OPTIONS, IMPORT_OPTIONS, JUDGE_OPTIONS, LIVE_OPTIONS, LOAD_OPTIONS, OPTIONS, PLAN_OPTIONS, PLANNED_OPTIONS, REPLAY_OPTIONS, SHEET_OPTIONS, SIMULATE_OPTIONS, SLOTS_OPTIONS, SURVEY_OPTIONS}
 use Rattle.a429_arguments.specs.declared.forms.Verb.{Verb}
 use Rattle.a429_arguments.specs.declared.forms.Verb.TheVariants as verb
 
@@ -107,7 +107,7 @@ options_of verb.Draw = DRAW_OPTIONS.now
 options_of verb.Simulate = SIMULATE_OPTIONS.now
 options_of verb.Survey = SURVEY_OPTIONS.now
 options_of verb.Judge = JUDGE_OPTIONS.now
-options_of _ = []
+options_of verb.Live = LIVE_OPTIONS.now
 
 -- what a command is given: one to three names, perhaps a number up to the most, perhaps as many names as one likes, and options
 pub record CommandRow : Type 0 where

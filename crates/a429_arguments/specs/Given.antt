@@ -18,8 +18,11 @@ use Rattle.a429_arguments.specs.declared.times.LogOrigin.{LogOrigin}
 use Rattle.a429_arguments.specs.declared.times.LogOrigin.TheVariants as origin
 use Rattle.a429_arguments.specs.declared.times.Shift.{Shift}
 use Rattle.a429_arguments.specs.declared.times.Shift.TheVariants as shift
+use Rattle.a429_logs.specs.LogDates.{or_second}
 use Rattle.a429_logs.specs.declared.times.TimeUnit.{TimeUnit}
 use Rattle.a429_logs.specs.declared.times.TimeUnit.TheVariants as unit
+use Rattle.a429_logs.specs.declared.written.DateOrder.{DateOrder}
+use Rattle.a429_logs.specs.declared.written.DateOrder.TheVariants as dates
 use Rattle.a429_logs.specs.declared.words.BitOrder.{BitOrder}
 use Rattle.a429_logs.specs.declared.words.BitOrder.TheVariants as order
 use Rattle.a429_text.specs.Renames.{is_rename}
@@ -65,6 +68,11 @@ order_in text =
     if bytes_eq text (codes "label") then Some order.LabelReversed
     else (if bytes_eq text (codes "word") then Some order.WordReversed else None)
 
+-- the order of days and months that a text states
+abbrev pub dates_in : Text → Option DateOrder
+dates_in text =
+    if bytes_eq text (codes "dmy") then Some dates.DayFirst else (if bytes_eq text (codes "mdy") then Some dates.MonthFirst else None)
+
 -- the last microsecond from which times can be counted: eighteen digits
 abbrev pub last_origin : ℕ
 last_origin = 999999999999999999
@@ -101,6 +109,7 @@ fits form.Width text = bytes_eq text (codes "64") || (bytes_eq text (codes "128"
 fits form.Unit text = is_some (unit_in text)
 fits form.Origin text = is_some (origin_in text)
 fits form.Order text = bytes_eq text (codes "label") || bytes_eq text (codes "word")
+fits form.Dates text = is_some (dates_in text)
 fits form.Rename text = is_rename text
 fits form.Tolerance text = is_tolerance text
 fits form.Shift text = is_some (shift_in text)
@@ -112,9 +121,17 @@ fits form.Drift text = is_some (drift_in text)
 abbrev pub form_of : Given → SheetForm
 form_of given = if has_given given option.Csv then sheet.Csv else (if has_given given option.Json then sheet.Json else sheet.Columns)
 
--- the unit of the times in a log, if one is given
+-- the unit of the times in a log that is given by its name
+abbrev pub named_unit : Given → Option TimeUnit
+named_unit given = option_and_then unit_in (text_given given option.Time)
+
+-- the unit of the times in a log, if one is given: ticks of this number of nanoseconds, or one with a name
 abbrev pub unit_of : Given → Option TimeUnit
-unit_of given = option_and_then unit_in (text_given given option.Time)
+unit_of given = or_second (option_map unit.Ticks (number_given given option.Tick)) (named_unit given)
+
+-- the order of days and months in dates, if one is given
+abbrev pub dates_of : Given → Option DateOrder
+dates_of given = option_and_then dates_in (text_given given option.Dates)
 
 -- the order in which the bits of words in a log are written
 abbrev pub order_of : Given → BitOrder

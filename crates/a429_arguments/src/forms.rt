@@ -7,8 +7,8 @@ ghost use Rattle.a429_arguments.specs.CommandLine.{IsRow, form_row, row_of, verb
 use crate::argument_help::NameHelp;
 use crate::options::{
     DIFF_OPTIONS, DRAW_OPTIONS, ENCODE_OPTIONS, FORMS, ICD_OPTIONS, IMPORT_OPTIONS, JUDGE_OPTIONS,
-    LOAD_OPTIONS, OptionName, PLAN_OPTIONS, PLANNED_OPTIONS, REPLAY_OPTIONS, SHEET_OPTIONS,
-    SIMULATE_OPTIONS, SLOTS_OPTIONS, SURVEY_OPTIONS,
+    LIVE_OPTIONS, LOAD_OPTIONS, OptionName, PLAN_OPTIONS, PLANNED_OPTIONS, REPLAY_OPTIONS,
+    SHEET_OPTIONS, SIMULATE_OPTIONS, SLOTS_OPTIONS, SURVEY_OPTIONS,
 };
 
 /// A command of the program.
@@ -187,6 +187,7 @@ static COMMANDS: [CommandForm; 19] = [
         second: Some(name!("WORDS", NameHelp::Words)),
         number: Some(FRAME_COUNT),
         more: Some(name!("FURTHER", NameHelp::Resubmitted)),
+        options: LIVE_OPTIONS,
         ..OF_TABLE
     },
     CommandForm {

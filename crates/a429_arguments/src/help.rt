@@ -2,10 +2,11 @@
 
 use crate::forms::Verb;
 use crate::options::OptionName;
+use crate::plan_help::{KEEP, ON_PLAN, OTHER_PLAN};
 use crate::recording_help::{
-    ALIGN, CHANNEL, DRIFT, EVENTS, FROM, HEARD_LOGS, IGNORE, IMPORT_ROWS, JUDGE, JUDGE_END,
-    LAST_TIME, LOG, ONLY, QUIET, RATE, REVERSED, SENT, SHIFT, SIMULATE, SIMULATE_END, SLACK,
-    SUMMARY, SUMMARY_JSON, SURVEY, SURVEY_END, SURVEY_TABLE, TIME, TOLERANCE, UNTIL,
+    ALIGN, CHANNEL, DATES, DRIFT, EVENTS, FROM, HEARD_LOGS, IGNORE, IMPORT_ROWS, JUDGE, JUDGE_END,
+    LAST_TIME, LOG, LOG_MAP, ONLY, QUIET, RATE, REVERSED, SENT, SHIFT, SIMULATE, SIMULATE_END,
+    SLACK, SUMMARY, SUMMARY_JSON, SURVEY, SURVEY_END, SURVEY_TABLE, TICK, TIME, TOLERANCE, UNTIL,
 };
 
 /// The help of a command: its first line, and its end, which has an example.
@@ -57,7 +58,8 @@ pub fn option_help(verb: Verb, option: OptionName) -> OptionHelp {
         OptionName::Json => ("", JSON),
         OptionName::Stamp => ("", STAMP),
         OptionName::Text => ("", TEXT_LABELS),
-        OptionName::Map => ("HEADING=COLUMN", MAP),
+        OptionName::Map if verb == Verb::Import => ("HEADING=COLUMN", MAP),
+        OptionName::Map => ("FROM=TO", LOG_MAP),
         OptionName::Names => ("", NAMES),
         OptionName::Fill => ("", FILL),
         OptionName::All => ("", ALL),
@@ -106,6 +108,9 @@ fn own_help(option: OptionName) -> (&'static str, &'static str) {
         OptionName::Drift => ("PPB", DRIFT),
         OptionName::Align => ("", ALIGN),
         OptionName::Table => ("TABLE", SURVEY_TABLE),
+        OptionName::OtherPlan => ("PLAN", OTHER_PLAN),
+        OptionName::Tick => ("NS", TICK),
+        OptionName::Dates => ("ORDER", DATES),
         _ => ("", ""),
     }
 }
@@ -200,14 +205,6 @@ Examples:
   a429 import rows.csv --map \"Min (ms)=min_ms\" > table.toml";
 
 pub const PLAN: &str = "Plan a station on the fewest buses for its periods, with their bound";
-
-pub const KEEP: &str = "\
-Keep places of this plan text: an output that is in it
-stays at its place, if there is room for all";
-
-pub const ON_PLAN: &str = "\
-Work on this plan text, which `check` accepts, instead
-of planning";
 
 pub const PLAN_END: &str = "\
 Each label recurs at the greatest power of two of slots in its interval. No
@@ -339,7 +336,9 @@ pub const DIFF: &str = "Print what changes when one table replaces another";
 
 pub const OTHER: &str = "Equipment table that replaces TABLE (TOML)";
 
-pub const ALL: &str = "A row for each output that only moves, instead of their number";
+pub const ALL: &str = "\
+A row for each output that only moves, instead of
+their number";
 
 pub const DIFF_END: &str = "\
 There is a row for each thing that changes, with all that changes of it, and the

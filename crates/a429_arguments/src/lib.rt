@@ -19,6 +19,7 @@ mod help;
 pub mod laws;
 pub mod memory;
 pub mod options;
+mod plan_help;
 mod program_help;
 mod recording_help;
 pub mod requests;

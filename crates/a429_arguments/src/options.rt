@@ -49,6 +49,9 @@ pub enum OptionName {
     Drift,
     Align,
     Table,
+    OtherPlan,
+    Tick,
+    Dates,
 }
 
 /// Which texts an option takes.
@@ -64,6 +67,8 @@ pub enum TextForm {
     Origin,
     /// Which bits of a log are written the other way round: those of the `label`, or all of the `word`.
     Order,
+    /// Which number of a date is first: that of the day (`dmy`) or that of the month (`mdy`).
+    Dates,
     /// FROM=TO.
     Rename,
     /// US or GROUP=US.
@@ -127,7 +132,7 @@ macro_rules! options {
 
 /// The options, in the order of `OptionName`: the name of each without the two hyphens, and what is given with it. The
 /// ranges are those of docs/RULES.md, Limits; that of `--rate` is the bit rate of a line (ARINC 429 Part 1).
-pub static OPTIONS: [(OptionName, &str, OptionKind); 44] = [
+pub static OPTIONS: [(OptionName, &str, OptionKind); 47] = [
     flag!(Csv, "csv"),
     flag!(Json, "json"),
     flag!(Stamp, "stamp"),
@@ -172,6 +177,9 @@ pub static OPTIONS: [(OptionName, &str, OptionKind); 44] = [
     text!(Drift, "drift", Drift),
     flag!(Align, "align"),
     text!(Table, "table", Any),
+    text!(OtherPlan, "other-plan", Any),
+    number!(Tick, "tick", 1, 1_000_000_000),
+    text!(Dates, "dates", Dates),
 ];
 
 /// The options of the commands that have some, in the order in which help lists them.
@@ -193,24 +201,27 @@ pub const SLOTS_OPTIONS: &[OptionName] = options![Plan, Group, All, Code, Board,
 
 pub const LOAD_OPTIONS: &[OptionName] = options![Plan, Limit, Csv, Json, Stamp];
 
-pub const DIFF_OPTIONS: &[OptionName] = options![All, Csv, Json, Stamp];
+pub const DIFF_OPTIONS: &[OptionName] = options![Plan, OtherPlan, All, Csv, Json, Stamp];
 
 pub const SIMULATE_OPTIONS: &[OptionName] = options![
-    Time, From, Channel, Ignore, Reversed, Until, Sent, Summary, Csv, Json
+    Plan, Time, Tick, Dates, From, Map, Channel, Ignore, Reversed, Until, Sent, Summary, Csv, Json
 ];
 
 pub const SURVEY_OPTIONS: &[OptionName] = options![
-    Table, Time, From, Until, Channel, Ignore, Reversed, Rate, Rows, Slack, Csv, Json
+    Table, Time, Tick, Dates, From, Until, Map, Channel, Ignore, Reversed, Rate, Rows, Slack, Csv,
+    Json
 ];
 
 pub const JUDGE_OPTIONS: &[OptionName] = options![
-    In, Tolerance, Events, Time, From, Until, Align, Shift, Drift, Channel, Ignore, Reversed, Csv,
-    Json
+    Plan, In, Tolerance, Events, Time, Tick, Dates, From, Until, Align, Shift, Drift, Map, Channel,
+    Ignore, Reversed, Csv, Json
 ];
 
 pub const ENCODE_OPTIONS: &[OptionName] = options![Sdi, Ssm, Data, Bnr, Bits, Bcd, Csv, Json];
 
-pub const REPLAY_OPTIONS: &[OptionName] = options![Quiet, Only, Csv];
+pub const REPLAY_OPTIONS: &[OptionName] = options![Plan, Quiet, Only, Csv];
+
+pub const LIVE_OPTIONS: &[OptionName] = options![Plan];
 
 impl OptionName {
     /// The name without the two hyphens.

@@ -74,6 +74,18 @@ pub const TIME: &str = "\
 Unit of times in the log, us, ms, s or ns, unless
 they are times of day or dates [default: us]";
 
+pub const LOG_MAP: &str = "\
+Take a heading FROM of a log as column TO, such as
+--map Zeit=time; may be given again";
+
+pub const TICK: &str = "\
+Times are hexadecimal counts, each of NS nanoseconds,
+1 to 1000000000";
+
+pub const DATES: &str = "\
+Order of a date such as 02/01/2026: dmy or mdy
+[default: as an earlier row of the log shows]";
+
 pub const FROM: &str = "\
 Count times from the first word (first), or from this
 time in us; ignore words before it [default: 0]";

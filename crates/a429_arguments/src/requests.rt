@@ -3,7 +3,7 @@ ghost use Rattle.std.specs.Prelude.{◌≡◌, ◌<◌, ◌^◌, ℕ, List, Opti
 ghost use Rattle.clap.specs.Words.{HasKind, Text, found_of, one_of, rows_of, subcommand_rows_of};
 ghost use Rattle.a429_arguments.specs.CommandLine.{IsRow, is_flag, name_id, number_id};
 ghost use Rattle.a429_arguments.specs.Texts.{texts_of};
-ghost use Rattle.a429_arguments.specs.Given.{form_of, has_given, long_number_given, number_given, drift_of, order_of, origin_of, shift_of, text_given, unit_of, values_of};
+ghost use Rattle.a429_arguments.specs.Given.{form_of, has_given, long_number_given, number_given, dates_of, drift_of, named_unit, order_of, origin_of, shift_of, text_given, unit_of, values_of};
 ghost use Rattle.a429_arguments.specs.Requests.{AskedBytes, IsRead, asked_of};
 ghost use Rattle.a429_arguments.specs.RequestRows.{AreGivenTexts, AsksFor, IsAskedBy, IsFound, IsGivenNumber, IsGivenText};
 ghost use Rattle.a429_arguments.specs.Numbers.{number_of, number_up_to};
@@ -13,9 +13,11 @@ use crate::command_line::{build_command, words_error};
 use crate::forms::{CommandForm, NameForm, NumberForm, Verb, command_named};
 use crate::options::OptionName;
 use crate::rules::fault_of;
-use crate::times::{Drift, LogOrigin, Shift, drift_in, order_in, origin_in, shift_in, unit_in};
+use crate::times::{
+    Drift, LogOrigin, Shift, dates_in, drift_in, order_in, origin_in, shift_in, unit_in,
+};
 use crate::values::{has, text_given};
-use a429_logs::{BitOrder, TimeUnit};
+use a429_logs::{BitOrder, DateOrder, TimeUnit};
 use a429_text::SheetForm;
 use clap::error::ErrorKind;
 use clap::{ArgMatches, Error};
@@ -93,12 +95,32 @@ impl<'a> Asked<'a> {
         }
     }
 
-    /// The unit of the times in a log, if `--time` gives one.
-    pub fn unit(&self) -> Option<TimeUnit>
-        ensures { result ≡ unit_of (asked_of self.now).given }
+    /// The unit that `--time` gives, if it is given.
+    fn named_unit(&self) -> Option<TimeUnit>
+        ensures { result ≡ named_unit (asked_of self.now).given }
     {
         match self.text(OptionName::Time) {
             Some(text) => unit_in(text),
+            None => None,
+        }
+    }
+
+    /// The unit of the times in a log, if `--tick` or `--time` gives one.
+    pub fn unit(&self) -> Option<TimeUnit>
+        ensures { result ≡ unit_of (asked_of self.now).given }
+    {
+        match self.number(OptionName::Tick) {
+            Some(nanoseconds) => Some(TimeUnit::Ticks(nanoseconds)),
+            None => self.named_unit(),
+        }
+    }
+
+    /// The order of days and months in dates, if `--dates` gives one.
+    pub fn dates(&self) -> Option<DateOrder>
+        ensures { result ≡ dates_of (asked_of self.now).given }
+    {
+        match self.text(OptionName::Dates) {
+            Some(text) => dates_in(text),
             None => None,
         }
     }

@@ -8,7 +8,7 @@ ghost use Rattle.a429_arguments.specs.Rules.{are_refused, breaks_by, fits_option
 
 use crate::forms::Verb;
 use crate::options::{OptionKind, OptionName, TextForm};
-use crate::times::{drift_in, origin_in, shift_in, unit_in};
+use crate::times::{dates_in, drift_in, origin_in, shift_in, unit_in};
 use crate::tolerances::{is_general_twice, is_tolerance};
 use crate::values::has;
 use a429_text::renames::{has_one_from_twice, is_rename};
@@ -32,7 +32,7 @@ pub enum Rule {
 }
 
 /// The rules, in the order in which they are checked. With a command: the rule is for that command alone.
-pub static RULES: [(Rule, Option<Verb>); 33] = [
+pub static RULES: [(Rule, Option<Verb>); 35] = [
     (
         Rule::OneOf(OptionName::Data, OptionName::Bnr, OptionName::Bcd),
         Some(Verb::Encode),
@@ -72,6 +72,8 @@ pub static RULES: [(Rule, Option<Verb>); 33] = [
     (Rule::Excludes(OptionName::Align, OptionName::Shift), None),
     (Rule::Excludes(OptionName::Align, OptionName::Drift), None),
     (Rule::Excludes(OptionName::Table, OptionName::Rows), None),
+    (Rule::Excludes(OptionName::Tick, OptionName::Time), None),
+    (Rule::Fits(OptionName::Dates), None),
 ];
 
 /// What is wrong with a text that has not the form of its option, for people.
@@ -89,6 +91,7 @@ fn form_message(option: OptionName) -> &'static str {
         OptionName::Width => "'--width <N>' must be 64, 128 or 256",
         OptionName::Time => "'--time <UNIT>' takes us, ms, s or ns",
         OptionName::Reversed => "'--reversed <BITS>' takes label or word",
+        OptionName::Dates => "'--dates <ORDER>' takes dmy or mdy",
         OptionName::Shift => {
             "'--shift <US>' takes a number of at most 14 digits, such as 500, or =-500 for the other way"
         }
@@ -105,6 +108,7 @@ fn both_message(option: OptionName, other: OptionName) -> &'static str {
         (OptionName::Sent, _) => "'--sent' cannot be used with '--csv', '--json' or '--summary'",
         (OptionName::Stamp, _) => "'--stamp' cannot be used with '--json' or '--c'",
         (OptionName::Table, _) => "'--table' and '--rows' cannot be used together",
+        (OptionName::Tick, _) => "'--tick' and '--time' cannot be used together",
         (OptionName::Align, _) => "'--align' cannot be used with '--shift' or '--drift'",
         (OptionName::Csv, _) => "'--csv' and '--json' cannot be used together",
         (_, OptionName::Board) => "'--c' and '--board' cannot be used together",
@@ -140,6 +144,7 @@ fn fits(form: TextForm, text: &str) -> bool
         TextForm::Unit => unit_in(text).is_some(),
         TextForm::Origin => origin_in(text).is_some(),
         TextForm::Order => text == "label" || text == "word",
+        TextForm::Dates => dates_in(text).is_some(),
         TextForm::Rename => is_rename(text),
         TextForm::Tolerance => is_tolerance(text),
         TextForm::Shift => shift_in(text).is_some(),

@@ -1,11 +1,11 @@
-//! The options for how a log is read: the unit of times, from when on they are counted, by how much they are moved, and the
-//! order of bits.
+//! The options for how a log is read: the unit of times, the order of dates, from when on times are counted, by how much they are
+//! moved, and the order of bits.
 ghost use Rattle.std.specs.Prelude.{◌≡◌, option_map};
 ghost use Rattle.clap.specs.Lexer.{strip_byte};
-ghost use Rattle.a429_arguments.specs.Given.{drift_in, last_drift, last_origin, last_shift, order_in, origin_in, shift_in, unit_in};
+ghost use Rattle.a429_arguments.specs.Given.{dates_in, drift_in, last_drift, last_origin, last_shift, order_in, origin_in, shift_in, unit_in};
 ghost use Rattle.a429_arguments.specs.Numbers.{number_up_to};
 
-use a429_logs::{BitOrder, TimeUnit};
+use a429_logs::{BitOrder, DateOrder, TimeUnit};
 
 /// The last microsecond from which times may be counted: eighteen digits (profile).
 const LAST_ORIGIN: u64 = 999_999_999_999_999_999;
@@ -64,6 +64,19 @@ pub fn order_in(text: &str) -> Option<BitOrder>
         Some(BitOrder::LabelReversed)
     } else if text == "word" {
         Some(BitOrder::WordReversed)
+    } else {
+        None
+    }
+}
+
+/// The order of days and months that a text states. `None` if it is neither `dmy` nor `mdy`.
+pub fn dates_in(text: &str) -> Option<DateOrder>
+    ensures { result ≡ dates_in text.now }
+{
+    if text == "dmy" {
+        Some(DateOrder::DayFirst)
+    } else if text == "mdy" {
+        Some(DateOrder::MonthFirst)
     } else {
         None
     }

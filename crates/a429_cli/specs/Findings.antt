@@ -1,5 +1,5 @@
 -- The commands that look for something, `lint` and `diff`: what they write, and their status (profile: output).
-use Rattle.std.specs.Prelude.{◌≡◌, ◌==◌, ◌∷◌, ◌++◌, [], ◌⊎◌, ℕ, Bool, List, Option, Result, Ok, Some, if◌then◌else◌, length, map}
+use Rattle.std.specs.Prelude.{◌≡◌, ◌==◌, ◌++◌, ◌⊎◌, ℕ, Bool, List, Option, Result, Ok, Some, if◌then◌else◌, length, map}
 use Rattle.a429_text.specs.Fields.{Field}
 use Rattle.a429_text.specs.Sheets.{sheet_text}
 use Rattle.a429_text.specs.declared.sheets.Sheet.{Sheet}
@@ -9,10 +9,12 @@ use Rattle.a429_table.specs.Reading.{reading}
 use Rattle.a429_slots.specs.Proposed.{Proposed}
 use Rattle.a429_documents.specs.Diff.{diff_columns, diff_rows}
 use Rattle.a429_documents.specs.Lint.{AreFindings, lint_columns}
-use Rattle.a429_console.specs.FileReadings.{AreRead, IsFileRefusal, IsFirstUnread, readable}
-use Rattle.a429_console.specs.Tables.{IsProposedBy, IsTableFault, IsTableRefusal}
+use Rattle.a429_console.specs.FileReadings.{IsFileRefusal, readable}
+use Rattle.a429_console.specs.Tables.{IsTableFault}
+use Rattle.a429_given.specs.GivenPlans.{IsGivenPlan, IsNoGivenPlan}
+use Rattle.a429_given.specs.GivenTables.{IsTableRead, IsTableUnread, TableTexts, named_table}
 use Rattle.a429_console.specs.declared.refusals.CommandRefusal.{CommandRefusal}
-use Rattle.a429_arguments.specs.Given.{form_of, has_given}
+use Rattle.a429_arguments.specs.Given.{form_of, has_given, text_given}
 use Rattle.a429_arguments.specs.Requests.{AskedBytes}
 use Rattle.a429_arguments.specs.declared.options.OptionName.TheVariants as option
 use Rattle.a429_cli.specs.Stamping.{IsStamped, stamp_line}
@@ -50,26 +52,38 @@ IsNoLint file name refusal = IsFileRefusal file name refusal ⊎ ((table : List 
 -- ---- diff
 
 -- what is written of what changes from the plan of a table to that of another, all of it or not, and the status
-abbrev pub IsDiffBetween : Bool → SheetForm → List ℕ → List ℕ → ℕ → List ℕ → Type 0
+abbrev pub IsDiffBetween : Bool → SheetForm → TableTexts → TableTexts → ℕ → List ℕ → Type 0
 IsDiffBetween all form table other status bytes =
-    (a : Proposed) × (b : Proposed) × IsProposedBy table a × IsProposedBy other b × IsFound form diff_columns (diff_rows a b all) status bytes
+    (a : Proposed) × (b : Proposed) × IsGivenPlan table a × IsGivenPlan other b × IsFound form diff_columns (diff_rows a b all) status bytes
 
 -- why there is nothing: the first table or its plan, otherwise the second or its plan
-abbrev pub IsNoDiffBetween : List ℕ → List ℕ → CommandRefusal → Type 0
-IsNoDiffBetween table other refusal = IsTableRefusal table refusal ⊎ ((a : Proposed) × IsProposedBy table a × IsTableRefusal other refusal)
+abbrev pub IsNoDiffBetween : TableTexts → TableTexts → CommandRefusal → Type 0
+IsNoDiffBetween table other refusal = IsNoGivenPlan table refusal ⊎ ((a : Proposed) × IsGivenPlan table a × IsNoGivenPlan other refusal)
+
+-- the table that a request names second, with the plan of `--other-plan`
+abbrev pub other_table : AskedBytes → TableTexts
+other_table r = record { table = r.second; plan = text_given r.given option.OtherPlan }
+
+-- the bytes of the files of both
+abbrev pub AreTablesRead : (List ℕ → Option (List ℕ)) → AskedBytes → TableTexts → TableTexts → Type 0
+AreTablesRead file r a b = IsTableRead file (named_table r) a × IsTableRead file (other_table r) b
+
+-- of these files the first that cannot be read
+abbrev pub AreTablesUnread : (List ℕ → Option (List ℕ)) → AskedBytes → CommandRefusal → Type 0
+AreTablesUnread file r refusal =
+    IsTableUnread file (named_table r) refusal ⊎ ((a : TableTexts) × IsTableRead file (named_table r) a × IsTableUnread file (other_table r) refusal)
 
 -- the same of the tables in two files
 abbrev pub IsDiffOf : (List ℕ → Option (List ℕ)) → AskedBytes → ℕ → List ℕ → Type 0
 IsDiffOf file r status bytes =
-    (a : List ℕ) × (b : List ℕ) × AreRead file (r.first ∷ r.second ∷ []) (a ∷ b ∷ [])
-    × IsStamped r.given (stamp_line r.first a ++ stamp_line r.second b) (IsDiffBetween (has_given r.given option.All) (form_of r.given) a b) status bytes
+    (a : TableTexts) × (b : TableTexts) × AreTablesRead file r a b
+    × IsStamped r.given (stamp_line r.first a.table ++ stamp_line r.second b.table) (IsDiffBetween (has_given r.given option.All) (form_of r.given) a b) status bytes
 
 -- why there is nothing: a file, otherwise a table
-abbrev pub IsNoDiff : (List ℕ → Option (List ℕ)) → List ℕ → List ℕ → CommandRefusal → Type 0
-IsNoDiff file name other refusal =
-    IsFirstUnread file (name ∷ other ∷ []) refusal
-    ⊎ ((a : List ℕ) × (b : List ℕ) × AreRead file (name ∷ other ∷ []) (a ∷ b ∷ []) × IsNoDiffBetween a b refusal)
+abbrev pub IsNoDiff : (List ℕ → Option (List ℕ)) → AskedBytes → CommandRefusal → Type 0
+IsNoDiff file r refusal =
+    AreTablesUnread file r refusal ⊎ ((a : TableTexts) × (b : TableTexts) × AreTablesRead file r a b × IsNoDiffBetween a b refusal)
 
 -- the answer of `diff` on two files, or why there is none
 abbrev pub AnswersDiff : (List ℕ → Option (List ℕ)) → AskedBytes → Result Reply CommandRefusal → Type 0
-AnswersDiff file r result = Replies (IsDiffOf file r) (IsNoDiff file r.first r.second) result
+AnswersDiff file r result = Replies (IsDiffOf file r) (IsNoDiff file r) result

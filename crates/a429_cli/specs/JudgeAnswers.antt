@@ -5,7 +5,11 @@ use Rattle.a429_arguments.specs.Requests.{AskedBytes}
 use Rattle.a429_arguments.specs.declared.options.OptionName.TheVariants as option
 use Rattle.a429_align.specs.declared.search.Alignment.{Alignment}
 use Rattle.a429_console.specs.declared.refusals.CommandRefusal.{CommandRefusal}
-use Rattle.a429_recordings.specs.JudgeReplies.{BoxFiles, IsJudgedBy, IsUnjudgedBy, judge_form}
+use Rattle.a429_given.specs.GivenTables.{named_table}
+use Rattle.a429_logs.specs.declared.reading.Reading.{Reading}
+use Rattle.a429_recordings.specs.JudgeReplies.{BoxFiles, IsJudgeForm, IsJudgedBy, IsUnjudgedBy, PassesNoBoxLine}
+use Rattle.a429_recordings.specs.SimulationReplies.{IsReadingFor}
+use Rattle.a429_recordings.specs.declared.judge.JudgeForm.{JudgeForm}
 use Rattle.a429_recordings.specs.LogViews.{same_clock, window_view}
 use Rattle.a429_recordings.specs.declared.logs.views.ClockMove.{ClockMove}
 
@@ -21,7 +25,7 @@ given_clock given = record { drift = drift_of given; shift = shift_of given }
 -- that is given; whether its clock is looked for (`--align`); and the values of `--tolerance`
 abbrev pub box_names : AskedBytes → BoxFiles (List ℕ)
 box_names r = record {
-  table = r.first;
+  table = named_table r;
   heard = r.second ∷ r.given option.In;
   sent = r.third ∷ r.more;
   heard_view = window_view r.given same_clock;
@@ -30,11 +34,16 @@ box_names r = record {
   tolerances = r.given option.Tolerance;
 }
 
--- the sheet of the files that a request names, with the status that says whether something is found
+-- no line of the logs of a request is passed over as they are read, other than those that every log may have
+abbrev pub PassesNoAskedBoxLine : (List ℕ → Option (List ℕ)) → AskedBytes → Type 0
+PassesNoAskedBoxLine file r = (reading : Reading) → IsReadingFor r.given reading → PassesNoBoxLine file (box_names r) reading
+
+-- the sheet of the files that a request names, in the form that it asks for, with the status that says whether something is found
 abbrev pub IsJudgement : (List ℕ → Option (List ℕ)) → AskedBytes → ℕ → List ℕ → Type 0
 IsJudgement file r status bytes =
-    (clock : Option Alignment) × (found : Bool) × IsJudgedBy file (box_names r) (judge_form r.given) clock found bytes × (status ≡ finding_status found)
+    (form : JudgeForm) × (clock : Option Alignment) × (found : Bool) × IsJudgeForm r.given form
+    × IsJudgedBy file (box_names r) form clock found bytes × (status ≡ finding_status found)
 
 -- why there is none
 abbrev pub IsUnjudged : (List ℕ → Option (List ℕ)) → AskedBytes → CommandRefusal → Type 0
-IsUnjudged file r refusal = IsUnjudgedBy file (box_names r) (judge_form r.given) refusal
+IsUnjudged file r refusal = (form : JudgeForm) × IsJudgeForm r.given form × IsUnjudgedBy file (box_names r) form refusal

@@ -1,12 +1,11 @@
 -- The commands on the plan of one table: what they write, their status, and when they are refused (profile: output).
-use Rattle.std.specs.Prelude.{◌≡◌, ◌⊎◌, ◌∷◌, [], ℕ, List, Bool, true, false, Option, None, Some, Result, Ok, Err}
+use Rattle.std.specs.Prelude.{◌≡◌, ◌⊎◌, ℕ, List, Bool, true, false, Option, Result, Ok, Err}
 use Rattle.std.specs.declared.alloc.AllocError.{AllocError}
 use Rattle.a429_arguments.specs.Given.{Given, form_of, has_given, number_given, text_given}
 use Rattle.a429_arguments.specs.Requests.{AskedBytes}
 use Rattle.a429_arguments.specs.declared.options.OptionName.TheVariants as option
 use Rattle.a429_arguments.specs.declared.forms.Verb.{Verb}
 use Rattle.a429_arguments.specs.declared.forms.Verb.TheVariants as verb
-use Rattle.a429_console.specs.FileReadings.{AreRead, IsFileRefusal, IsFirstUnread, readable}
 use Rattle.a429_console.specs.declared.refusals.CommandRefusal.{CommandRefusal}
 use Rattle.a429_console.specs.declared.refusals.CommandRefusal.TheVariants as refused
 use Rattle.a429_documents.specs.Buses.{buses_columns, buses_rows}
@@ -17,7 +16,8 @@ use Rattle.a429_slots.specs.Proposed.{Proposed}
 use Rattle.a429_text.specs.Fields.{Field}
 use Rattle.a429_text.specs.Sheets.{sheet_text}
 use Rattle.a429_cli.specs.Drawings.{HasImage, IsNoGroup, IsUndrawn, picture_of}
-use Rattle.a429_given.specs.GivenPlans.{IsNoPlanIn, IsPlanIn}
+use Rattle.a429_given.specs.GivenPlans.{IsGivenPlan, IsNoGivenPlan}
+use Rattle.a429_given.specs.GivenTables.{IsTableRead, IsTableUnread, TableTexts, named_table}
 use Rattle.a429_cli.specs.Loads.{IsLoad, limit_of}
 use Rattle.a429_cli.specs.PlanRows.{told_plan}
 use Rattle.a429_cli.specs.SlotReplies.{HasSlots, slots_form}
@@ -54,49 +54,22 @@ IsNoReplyOnPlan verb.Draw given q = IsUndrawn q (text_given given option.Group) 
 IsNoReplyOnPlan _ given q = λ refusal. ⊥
 
 -- its status, and the bytes about the plan of a table
-abbrev pub IsReplyToTable : Verb → Given → Option (List ℕ) → List ℕ → ℕ → List ℕ → Type 0
-IsReplyToTable v given plan table status text = (q : Proposed) × IsPlanIn plan table q × IsReplyOnPlan v given table q status text
+abbrev pub IsReplyToTable : Verb → Given → TableTexts → ℕ → List ℕ → Type 0
+IsReplyToTable v given i status text = (q : Proposed) × IsGivenPlan i q × IsReplyOnPlan v given i.table q status text
 
 -- why there is nothing: there is no plan, or what is asked of the plan
-abbrev pub IsNoReplyToTable : Verb → Given → Option (List ℕ) → List ℕ → CommandRefusal → Type 0
-IsNoReplyToTable v given plan table refusal =
-    IsNoPlanIn plan table refusal ⊎ ((q : Proposed) × IsPlanIn plan table q × IsNoReplyOnPlan v given q refusal)
+abbrev pub IsNoReplyToTable : Verb → Given → TableTexts → CommandRefusal → Type 0
+IsNoReplyToTable v given i refusal = IsNoGivenPlan i refusal ⊎ ((q : Proposed) × IsGivenPlan i q × IsNoReplyOnPlan v given q refusal)
 
--- the same of the table in a file with its own plan, with the line of that file if stamps are asked for
-abbrev pub IsOwnReply : Verb → (List ℕ → Option (List ℕ)) → AskedBytes → ℕ → List ℕ → Type 0
-IsOwnReply v file r status text =
-    (table : List ℕ) × (readable (file r.first) ≡ Some table) × IsStamped r.given (stamp_line r.first table) (IsReplyToTable v r.given None table) status text
-
--- why there is nothing: the file, or its table, or the plan of that, or what is asked of the plan
-abbrev pub IsNoOwnReply : Verb → (List ℕ → Option (List ℕ)) → AskedBytes → CommandRefusal → Type 0
-IsNoOwnReply v file r refusal = IsFileRefusal file r.first refusal ⊎ ((table : List ℕ) × (readable (file r.first) ≡ Some table) × IsNoReplyToTable v r.given None table refusal)
-
--- with the plan of a text in another file
-abbrev pub IsGivenReply : List ℕ → Verb → (List ℕ → Option (List ℕ)) → AskedBytes → ℕ → List ℕ → Type 0
-IsGivenReply name v file r status text =
-    (table : List ℕ) × (plan : List ℕ) × AreRead file (r.first ∷ name ∷ []) (table ∷ plan ∷ [])
-    × IsStamped r.given (stamp_line r.first table) (IsReplyToTable v r.given (Some plan) table) status text
-
-abbrev pub IsNoGivenReply : List ℕ → Verb → (List ℕ → Option (List ℕ)) → AskedBytes → CommandRefusal → Type 0
-IsNoGivenReply name v file r refusal =
-    IsFirstUnread file (r.first ∷ name ∷ []) refusal
-    ⊎ ((table : List ℕ) × (plan : List ℕ) × AreRead file (r.first ∷ name ∷ []) (table ∷ plan ∷ []) × IsNoReplyToTable v r.given (Some plan) table refusal)
-
--- the answer: with `--plan` that on this plan, otherwise that on the own one
-abbrev pub PlanReplyBy : Option (List ℕ) → Verb → (List ℕ → Option (List ℕ)) → AskedBytes → ℕ → List ℕ → Type 0
-PlanReplyBy None v file r = IsOwnReply v file r
-PlanReplyBy (Some name) v file r = IsGivenReply name v file r
-
+-- the answer about the table in a file, by its own plan or by that of `--plan`, with the line of that file if stamps are asked for
 abbrev pub IsPlanReply : Verb → (List ℕ → Option (List ℕ)) → AskedBytes → ℕ → List ℕ → Type 0
-IsPlanReply v file r = PlanReplyBy (text_given r.given option.Plan) v file r
+IsPlanReply v file r status text =
+    (i : TableTexts) × IsTableRead file (named_table r) i × IsStamped r.given (stamp_line r.first i.table) (IsReplyToTable v r.given i) status text
 
--- why there is none
-abbrev pub NoPlanReplyBy : Option (List ℕ) → Verb → (List ℕ → Option (List ℕ)) → AskedBytes → CommandRefusal → Type 0
-NoPlanReplyBy None v file r = IsNoOwnReply v file r
-NoPlanReplyBy (Some name) v file r = IsNoGivenReply name v file r
-
+-- why there is none: a file, or the table, or its plan, or what is asked of the plan
 abbrev pub IsNoPlanReply : Verb → (List ℕ → Option (List ℕ)) → AskedBytes → CommandRefusal → Type 0
-IsNoPlanReply v file r = NoPlanReplyBy (text_given r.given option.Plan) v file r
+IsNoPlanReply v file r refusal =
+    IsTableUnread file (named_table r) refusal ⊎ ((i : TableTexts) × IsTableRead file (named_table r) i × IsNoReplyToTable v r.given i refusal)
 
 -- a reply, or that an allocation for it failed
 abbrev pub or_no_memory : Result Reply AllocError → Result Reply CommandRefusal

@@ -14,6 +14,7 @@ use Rattle.a429_cli.specs.LineReplies.{IsLinesReply}
 use Rattle.a429_cli.specs.Checks.{IsCheckOf, IsNoCheck}
 use Rattle.a429_cli.specs.Encoding.{IsEncoded, IsNotEncoded, fields_given}
 use Rattle.a429_cli.specs.Keeping.{IsPlanned, IsUnplanned}
+use Rattle.a429_given.specs.GivenTables.{named_table}
 use Rattle.a429_cli.specs.Plans.{IsNoPlanReply, IsPlanReply}
 use Rattle.a429_cli.specs.Findings.{IsDiffOf, IsLinted, IsNoDiff, IsNoLint}
 use Rattle.a429_import.specs.declared.import.ImportOptions.{ImportOptions}
@@ -23,11 +24,10 @@ use Rattle.a429_live.specs.LiveReplies.{IsLiveReply, TakesLive}
 use Rattle.a429_replay.specs.Replaying.{IsReplay, TakesFurther}
 use Rattle.a429_replay.specs.Views.{view_given}
 use Rattle.a429_recordings.specs.LogViews.{whole_view}
-use Rattle.a429_recordings.specs.SimulationReplies.{IsSimulation, SimulatesSpacedWords, reading_for, simulation_form}
-use Rattle.a429_recordings.specs.JudgeReplies.{PassesNoBoxLine}
-use Rattle.a429_recordings.specs.LogItems.{PassesNoLine}
-use Rattle.a429_cli.specs.JudgeAnswers.{IsJudgement, IsUnjudged, box_names}
-use Rattle.a429_cli.specs.SurveyReplies.{IsSurveyed, IsUnsurveyed}
+use Rattle.a429_recordings.specs.SimulationReplies.{IsSimulation, IsSimulationForm, SimulatesSpacedWords}
+use Rattle.a429_recordings.specs.declared.simulate.SimulationForm.{SimulationForm}
+use Rattle.a429_cli.specs.JudgeAnswers.{IsJudgement, IsUnjudged, PassesNoAskedBoxLine}
+use Rattle.a429_cli.specs.SurveyReplies.{IsSurveyed, IsUnsurveyed, PassesNoAskedLine}
 use Rattle.a429_cli.specs.WholeReplies.{IsReplyBy}
 
 -- the command prints nothing before it has its whole answer
@@ -75,17 +75,27 @@ IsNoAnswer verb.Encode file r = IsNotEncoded r.first (fields_given r.given)
 IsNoAnswer verb.Import file r = IsNoImport file (texts_given r.given) (import_options r.given) r.first
 IsNoAnswer verb.Check file r = IsNoCheck file r.first r.second
 IsNoAnswer verb.Lint file r = IsNoLint file r.first
-IsNoAnswer verb.Diff file r = IsNoDiff file r.first r.second
+IsNoAnswer verb.Diff file r = IsNoDiff file r
 IsNoAnswer verb.Survey file r = IsUnsurveyed file r
 IsNoAnswer verb.Judge file r = IsUnjudged file r
 IsNoAnswer verb.Plan file r = IsUnplanned file r
 IsNoAnswer v file r = IsNoPlanReply v file r
 
+-- what `simulate` writes in the form that the options ask for
+abbrev pub IsAskedSimulation : (List ℕ → Option (List ℕ)) → AskedBytes → ℕ → List ℕ → Type 0
+IsAskedSimulation file r status bytes =
+    (form : SimulationForm) × IsSimulationForm r.given form × IsSimulation file (named_table r) (r.second ∷ r.more) (whole_view r.given) form status bytes
+
+-- the words of the log are apart on the buses, in that form
+abbrev pub SimulatesAskedSpacedWords : (List ℕ → Option (List ℕ)) → AskedBytes → Type 0
+SimulatesAskedSpacedWords file r =
+    (form : SimulationForm) → IsSimulationForm r.given form → SimulatesSpacedWords file (named_table r) (r.second ∷ r.more) (whole_view r.given) form
+
 -- the status and the bytes that answer a command, by these files and by what it is given
 abbrev pub IsReplyOf : Verb → (List ℕ → Option (List ℕ)) → AskedBytes → ℕ → List ℕ → Type 0
 IsReplyOf verb.Lines file r = IsLinesReply file (form_of r.given) r.first r.more
-IsReplyOf verb.Replay file r = IsReplay file (view_given r.given) r.first r.second r.more
-IsReplyOf verb.Simulate file r = IsSimulation file r.first (r.second ∷ r.more) (whole_view r.given) (simulation_form r.given)
+IsReplyOf verb.Replay file r = IsReplay file (view_given r.given) (named_table r) r.second r.more
+IsReplyOf verb.Simulate file r = IsAskedSimulation file r
 IsReplyOf verb.Live file r = IsLiveReply file r
 IsReplyOf v file r = IsReplyBy (trouble_of v) (IsAnswerOf v file r) (IsNoAnswer v file r)
 
@@ -95,11 +105,11 @@ IsReplyOf v file r = IsReplyBy (trouble_of v) (IsAnswerOf v file r) (IsNoAnswer 
 abbrev pub HasNoWarning : Verb → (List ℕ → Option (List ℕ)) → AskedBytes → Type 0
 HasNoWarning verb.Import file r = ImportsSilently file (texts_given r.given) (import_options r.given) r.first
 HasNoWarning verb.Plan file r = has_given r.given option.Keep ≡ false
-HasNoWarning verb.Judge file r = (has_given r.given option.Align ≡ false) × PassesNoBoxLine file (box_names r) (reading_for r.given)
-HasNoWarning verb.Survey file r = PassesNoLine file (r.first ∷ r.more) (reading_for r.given)
-HasNoWarning verb.Replay file r = TakesFurther file r.first r.second r.more
+HasNoWarning verb.Judge file r = (has_given r.given option.Align ≡ false) × PassesNoAskedBoxLine file r
+HasNoWarning verb.Survey file r = PassesNoAskedLine file (r.first ∷ r.more) r.given
+HasNoWarning verb.Replay file r = TakesFurther file (named_table r) r.second r.more
 HasNoWarning verb.Simulate file r =
-    PassesNoLine file (r.second ∷ r.more) (reading_for r.given) × SimulatesSpacedWords file r.first (r.second ∷ r.more) (whole_view r.given) (simulation_form r.given)
+    PassesNoAskedLine file (r.second ∷ r.more) r.given × SimulatesAskedSpacedWords file r
 HasNoWarning verb.Live file r = TakesLive file r
 HasNoWarning _ file r = ⊤
 

@@ -11,7 +11,7 @@ ghost use Rattle.a429_console.specs.Tables.{IsUnfitNamed};
 
 use crate::replies::reply::Reply;
 use a429_cert::{NoVerdict, Refusal, Verdict, refusal_of};
-use a429_console::answered::{Found, Objection};
+use a429_console::answered::Found;
 use a429_console::files::FileReader;
 use a429_console::files::reading::read_file;
 use a429_console::planning::read_table;
@@ -19,6 +19,7 @@ use a429_console::refusals::evidence::TableEvidence;
 use a429_console::refusals::tables::unfit;
 use a429_console::refusals::{CommandRefusal, Refused};
 use a429_equipment::Equipment;
+use a429_given::objection_of;
 use a429_text::{Cell, Rows, Sheet, SheetForm};
 use std::alloc::{AllocError, Global};
 use std::io;
@@ -27,17 +28,6 @@ use std::marker::Model;
 
 /// The names of the columns of a verdict.
 const COLUMNS: &[&str] = &["result", "reason", "line"];
-
-/// What is wrong with the line that is refused, for a hint. `None`: no line is refused, or an allocation failed.
-fn objection_of(alloc: Global, refusal: Option<Refusal>) -> Option<Objection> {
-    let refusal = refusal?;
-    let no = refusal.no();
-    Some(Objection {
-        line: no.line,
-        reason: no.reason.text(),
-        expected: format!(in alloc; "{}", refusal.expected()).ok()?,
-    })
-}
 
 /// The refusal of the text of a plan, if it is refused, and the text, for a hint. Clauses see the verdict.
 #[derive(Drop)]

@@ -37,6 +37,7 @@ use a429_console::hints::Hints;
 use a429_console::hints::warnings::Warning;
 use a429_console::output::{Output, OutputFault};
 use a429_console::refusals::Refused;
+use a429_given::TableNames;
 use a429_import::ImportOptions;
 use a429_recordings::simulate::{LogNames, LogView, SimulationForm, simulate};
 use a429_replay::replay::replay;
@@ -206,14 +207,15 @@ fn answer_by_lines<F: FileReader, O: Output>(
         Verb::Lines => tell_lines(alloc, files, first, more, asked.form(), out),
         Verb::Replay => {
             let view = ReplayForm::of(asked);
-            replay(alloc, files, first, second, more, &view, warnings, out)
+            let table = TableNames::of(asked);
+            replay(alloc, files, table, second, more, &view, warnings, out)
         }
         Verb::Simulate => {
             let form = SimulationForm::of(asked);
             simulate(
                 alloc,
                 files,
-                first,
+                TableNames::of(asked),
                 simulated_logs(asked),
                 form,
                 warnings,

@@ -5,9 +5,10 @@ ghost use Rattle.a429_arguments.specs.Requests.{asked_of};
 ghost use Rattle.a429_arguments.specs.declared.options.OptionName.TheVariants as option;
 ghost use Rattle.a429_console.specs.Readings.{HasRead};
 ghost use Rattle.a429_console.specs.RefusalText.{OrMemory};
-ghost use Rattle.a429_console.specs.Tables.{IsProposedBy, IsTableRefusal};
+ghost use Rattle.a429_given.specs.GivenPlans.{IsGivenPlan, IsNoGivenPlan};
+ghost use Rattle.a429_given.specs.GivenTables.{table_names, table_texts};
 ghost use Rattle.a429_documents.specs.Diff.{diff_columns, diff_rows};
-ghost use Rattle.a429_cli.specs.Findings.{AnswersDiff, IsDiffBetween, IsFound, IsLint, IsLinted, IsNoDiffBetween, IsNoLint, found_status, names_of};
+ghost use Rattle.a429_cli.specs.Findings.{AnswersDiff, IsDiffBetween, IsFound, IsLint, IsLinted, IsNoDiffBetween, IsNoLint, found_status, names_of, other_table};
 ghost use Rattle.a429_cli.specs.Stamping.{IsStamped, stamp_line};
 ghost use Rattle.a429_cli.specs.WholeReplies.{Replies};
 
@@ -18,10 +19,11 @@ use a429_arguments::requests::Asked;
 use a429_console::answered::Found;
 use a429_console::files::FileReader;
 use a429_console::files::reading::read_file;
-use a429_console::planning::{propose, read_table};
+use a429_console::planning::read_table;
 use a429_console::refusals::Refused;
 use a429_documents::{TableFile, diff_sheet, lint_sheet};
 use a429_equipment::Equipment;
+use a429_given::{GivenTable, TableNames};
 use a429_slots::{OUTPUTS, Proposal};
 use a429_text::{Rows, Sheet, SheetForm};
 use std::alloc::{AllocError, Global};
@@ -90,11 +92,11 @@ pub fn lint_reply<F: FileReader>(
     Ok(stamped_lint(alloc, asked, &table, &equipment)?)
 }
 
-/// The proposal of the bytes of the second of two tables. Error: the table's fault, otherwise the first fault of its plan.
-fn propose_second(alloc: Global, table: &[u8]) -> Result<Proposal<OUTPUTS>, Refused>
-    ensures { MatchResult result (IsProposedBy table.now) (OrMemory (IsTableRefusal table.now)) }
+/// The plan of the second of two tables. Error: there is none.
+fn propose_second(alloc: Global, table: &GivenTable) -> Result<Proposal<OUTPUTS>, Refused>
+    ensures { MatchResult result (IsGivenPlan (table_texts table.now)) (OrMemory (IsNoGivenPlan (table_texts table.now))) }
 {
-    match propose(alloc, table) {
+    match table.propose(alloc) {
         Ok(proposal) => Ok(proposal),
         Err(refusal) => Err(refusal.of_second_table()),
     }
@@ -119,24 +121,30 @@ fn diff_of(
 /// second table, then its plan.
 fn diff_between(
     alloc: Global,
-    table: &[u8],
-    other: &[u8],
+    table: &GivenTable,
+    other: &GivenTable,
     all: bool,
     form: SheetForm,
 ) -> Result<Reply, Refused>
-    ensures { Replies (IsDiffBetween all form table.now other.now) (IsNoDiffBetween table.now other.now) result }
+    ensures { Replies (IsDiffBetween all form (table_texts table.now) (table_texts other.now))
+        (IsNoDiffBetween (table_texts table.now) (table_texts other.now)) result }
 {
-    let first = propose(alloc, table)?;
+    let first = table.propose(alloc)?;
     let second = propose_second(alloc, other)?;
     Ok(diff_of(alloc, &first, &second, all, form)?)
 }
 
 /// The same, as asked for.
-fn stamped_diff(alloc: Global, asked: &Asked, table: &[u8], other: &[u8]) -> Result<Reply, Refused>
+fn stamped_diff(
+    alloc: Global,
+    asked: &Asked,
+    table: &GivenTable,
+    other: &GivenTable,
+) -> Result<Reply, Refused>
     ensures { Replies (IsStamped (asked_of asked.now).given
-        (stamp_line (asked_of asked.now).first table.now ++ stamp_line (asked_of asked.now).second other.now)
-        (IsDiffBetween (has_given (asked_of asked.now).given option.All) (form_of (asked_of asked.now).given) table.now other.now))
-        (IsNoDiffBetween table.now other.now) result }
+        (stamp_line (asked_of asked.now).first (table_texts table.now).table ++ stamp_line (asked_of asked.now).second (table_texts other.now).table)
+        (IsDiffBetween (has_given (asked_of asked.now).given option.All) (form_of (asked_of asked.now).given)
+        (table_texts table.now) (table_texts other.now))) (IsNoDiffBetween (table_texts table.now) (table_texts other.now)) result }
 {
     let reply = diff_between(
         alloc,
@@ -147,19 +155,30 @@ fn stamped_diff(alloc: Global, asked: &Asked, table: &[u8], other: &[u8]) -> Res
     )?;
     let first = TableFile {
         name: asked.first,
-        bytes: table,
+        bytes: &table.table,
     };
     let second = TableFile {
         name: asked.second,
-        bytes: other,
+        bytes: &other.table,
     };
     Ok(stamped_both(alloc, asked, first, second, reply)?)
 }
 
+/// The second table that a request names, with the plan of `--other-plan`.
+fn other_names<'a>(asked: &Asked<'a>) -> TableNames<'a>
+    ensures { table_names result ≡ other_table (asked_of asked.now) }
+{
+    TableNames {
+        table: asked.second,
+        plan: asked.text(OptionName::OtherPlan),
+    }
+}
+
 /// What changes from the plan of the table in a file to that of the table in another, a row for each thing that differs.
+/// Each plan is the table's own, or that of a plan text if one is given.
 /// With `--all` each output that only changes its place has a row, otherwise one row has their number. The status is 0 if
-/// nothing changes, otherwise 1. Errors, in this order: the first or the second file is refused, or a table has a fault
-/// or no plan. `Memory` if an allocation fails.
+/// nothing changes, otherwise 1. Errors, in this order: a file is refused; a table has a fault or no
+/// plan, or a line of its plan text is refused. `Memory` if an allocation fails.
 pub fn diff_reply<F: FileReader>(
     alloc: Global,
     files: &mut F,
@@ -167,7 +186,7 @@ pub fn diff_reply<F: FileReader>(
 ) -> Result<Reply, Refused>
     ensures { HasRead F.answers (λ file. AnswersDiff file (asked_of asked.now) result) files.old files.new }
 {
-    let table = read_file(alloc, files, asked.first)?;
-    let other = read_file(alloc, files, asked.second)?;
+    let table = GivenTable::read(alloc, files, TableNames::of(asked))?;
+    let other = GivenTable::read(alloc, files, other_names(asked))?;
     stamped_diff(alloc, asked, &table, &other)
 }

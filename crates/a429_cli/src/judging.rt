@@ -4,9 +4,8 @@ ghost use Rattle.a429_arguments.specs.Given.{has_given};
 ghost use Rattle.a429_arguments.specs.declared.options.OptionName.TheVariants.{Align};
 ghost use Rattle.a429_console.specs.Readings.{HasRead};
 ghost use Rattle.a429_arguments.specs.Requests.{asked_of};
-ghost use Rattle.a429_recordings.specs.JudgeReplies.{PassesNoBoxLine, names_of};
-ghost use Rattle.a429_recordings.specs.SimulationReplies.{reading_for};
-ghost use Rattle.a429_cli.specs.JudgeAnswers.{IsJudgement, IsUnjudged, box_names, given_clock, finding_status};
+ghost use Rattle.a429_recordings.specs.JudgeReplies.{names_of};
+ghost use Rattle.a429_cli.specs.JudgeAnswers.{IsJudgement, IsUnjudged, PassesNoAskedBoxLine, box_names, given_clock, finding_status};
 ghost use Rattle.a429_cli.specs.WholeReplies.{Replies};
 
 use crate::replies::reply::Reply;
@@ -16,6 +15,7 @@ use a429_arguments::requests::Asked;
 use a429_console::files::FileReader;
 use a429_console::hints::warnings::{FoundClock, Warning};
 use a429_console::refusals::Refused;
+use a429_given::TableNames;
 use a429_recordings::judge::{ClockMove, JudgeForm, JudgeNames, LogView, judge_logs};
 use std::alloc::Global;
 
@@ -41,7 +41,7 @@ fn names_in<'a>(asked: &'a Asked) -> JudgeNames<'a>
     ensures { names_of result ≡ box_names (asked_of asked.now) }
 {
     JudgeNames {
-        table: asked.first,
+        table: TableNames::of(asked),
         heard: asked.second,
         more_heard: asked.texts(OptionName::In),
         sent: asked.third,
@@ -78,7 +78,7 @@ fn note_asked_clock(asked: &Asked, found: Option<Alignment>, warnings: &mut Vec<
 }
 
 /// Whether what a box sent is right, with status 0 if nothing was found, and otherwise 1. Errors, in this order: a file
-/// is refused; the table has a fault or no plan; a tolerance is refused; a line is faulty; the logs have no time in
+/// is refused; there is no plan; a tolerance is refused; a line is faulty; the logs have no time in
 /// common. `Memory` if an allocation fails. The clock that was looked for is noted, and what is passed over in a log.
 pub fn judge_reply<F: FileReader>(
     alloc: Global,
@@ -89,8 +89,7 @@ pub fn judge_reply<F: FileReader>(
     ensures answer { HasRead F.answers (λ file. Replies (IsJudgement file (asked_of asked.now))
         (IsUnjudged file (asked_of asked.now)) result) files.old files.new }
     ensures silent { HasRead F.answers (λ file. has_given (asked_of asked.now).given Align ≡ false
-        → PassesNoBoxLine file (box_names (asked_of asked.now)) (reading_for (asked_of asked.now).given)
-        → warnings.new.items ≡ warnings.old.items) files.old files.new }
+        → PassesNoAskedBoxLine file (asked_of asked.now) → warnings.new.items ≡ warnings.old.items) files.old files.new }
 {
     let form = JudgeForm::of(asked);
     match judge_logs(alloc, files, names_in(asked), form, warnings) {

@@ -1,5 +1,5 @@
 //! The commands on the plan of one table: `plan`, `icd`, `margin`, `load`, `slots`, `buses` and `draw`.
-ghost use Rattle.std.specs.Prelude.{◌≡◌, List, true, IfOk, option_map};
+ghost use Rattle.std.specs.Prelude.{◌≡◌, List, true, IfOk};
 ghost use Rattle.a429_console.specs.Readings.{HasRead};
 ghost use Rattle.a429_arguments.specs.Requests.{asked_of};
 ghost use Rattle.a429_documents.specs.Buses.{buses_columns, buses_rows};
@@ -8,7 +8,8 @@ ghost use Rattle.a429_documents.specs.KeptColumns.{kept_sheet, kept_texts};
 ghost use Rattle.a429_documents.specs.Margins.{IsMargin, margin_columns};
 ghost use Rattle.a429_text.specs.Fields.{Field};
 ghost use Rattle.a429_text.specs.Sheets.{sheet_text};
-ghost use Rattle.a429_cli.specs.Plans.{IsGivenReply, IsNoGivenReply, IsNoOwnReply, IsNoPlanReply, IsNoReplyOnPlan, IsNoReplyToTable, IsOwnReply, IsPlanReply, IsReplyOnPlan, IsReplyToTable, is_on_plan, or_no_memory};
+ghost use Rattle.a429_given.specs.GivenTables.{table_texts};
+ghost use Rattle.a429_cli.specs.Plans.{IsNoPlanReply, IsNoReplyOnPlan, IsNoReplyToTable, IsPlanReply, IsReplyOnPlan, IsReplyToTable, is_on_plan, or_no_memory};
 ghost use Rattle.a429_cli.specs.Stamping.{IsStamped, stamp_line};
 ghost use Rattle.a429_cli.specs.WholeReplies.{Replies};
 
@@ -22,11 +23,10 @@ use a429_arguments::forms::Verb;
 use a429_arguments::options::OptionName;
 use a429_arguments::requests::Asked;
 use a429_console::files::FileReader;
-use a429_console::files::reading::read_file;
 use a429_console::planning::with_plan;
 use a429_console::refusals::{CommandRefusal, Refused};
 use a429_documents::{SOURCE, TableFile, buses_sheet, icd_sheet, margin_sheet, render_kept};
-use a429_given::plan_in;
+use a429_given::{GivenTable, TableNames};
 use a429_slots::{OUTPUTS, Proposal};
 use a429_text::SheetForm;
 use std::alloc::{AllocError, Global};
@@ -124,74 +124,35 @@ fn reply_on_plan(
     }
 }
 
-/// What a command writes about the plan of a table, its own or that of a text, and its status. Errors, in this order: the
-/// table has a fault; it has no plan; a line of the text is refused; no group has the given name; an image is too high.
-/// `Memory` if an allocation fails.
-fn reply_to_table(
-    alloc: Global,
-    asked: &Asked,
-    table: &[u8],
-    plan: Option<&[u8]>,
-) -> Result<Reply, Refused>
+/// What a command writes about the plan of a table, its own or that of a text, and its status. Errors, in this order: there
+/// is no plan; no group has the given name; an image is too high. `Memory` if an allocation fails.
+fn reply_to_table(alloc: Global, asked: &Asked, table: &GivenTable) -> Result<Reply, Refused>
     requires { is_on_plan asked.now.verb ≡ true }
-    ensures { Replies (IsReplyToTable asked.now.verb (asked_of asked.now).given (option_map (λ p. p.now) plan.entry) table.now)
-        (IsNoReplyToTable asked.now.verb (asked_of asked.now).given (option_map (λ p. p.now) plan.entry) table.now) result }
+    ensures { Replies (IsReplyToTable asked.now.verb (asked_of asked.now).given (table_texts table.now))
+        (IsNoReplyToTable asked.now.verb (asked_of asked.now).given (table_texts table.now)) result }
 {
     let file = TableFile {
         name: asked.first,
-        bytes: table,
+        bytes: &table.table,
     };
-    let proposal = plan_in(alloc, table, plan)?;
+    let proposal = table.propose(alloc)?;
     let reply = reply_on_plan(alloc, asked, file, &proposal);
     with_plan(reply, proposal)
 }
 
 /// The same, with the line of the table's file above it if stamps are asked for.
-fn stamped_reply(
-    alloc: Global,
-    asked: &Asked,
-    table: &[u8],
-    plan: Option<&[u8]>,
-) -> Result<Reply, Refused>
+fn stamped_reply(alloc: Global, asked: &Asked, table: &GivenTable) -> Result<Reply, Refused>
     requires { is_on_plan asked.now.verb ≡ true }
-    ensures { Replies (IsStamped (asked_of asked.now).given (stamp_line (asked_of asked.now).first table.now)
-        (IsReplyToTable asked.now.verb (asked_of asked.now).given (option_map (λ p. p.now) plan.entry) table.now))
-        (IsNoReplyToTable asked.now.verb (asked_of asked.now).given (option_map (λ p. p.now) plan.entry) table.now) result }
+    ensures { Replies (IsStamped (asked_of asked.now).given (stamp_line (asked_of asked.now).first (table_texts table.now).table)
+        (IsReplyToTable asked.now.verb (asked_of asked.now).given (table_texts table.now)))
+        (IsNoReplyToTable asked.now.verb (asked_of asked.now).given (table_texts table.now)) result }
 {
-    let reply = reply_to_table(alloc, asked, table, plan)?;
+    let reply = reply_to_table(alloc, asked, table)?;
     let file = TableFile {
         name: asked.first,
-        bytes: table,
+        bytes: &table.table,
     };
     Ok(stamped(alloc, asked, file, reply)?)
-}
-
-/// What a command writes about the own plan of the table in a file. Errors, in this order: the file is refused; then as
-/// `reply_to_table`.
-fn own_reply<F: FileReader>(alloc: Global, files: &mut F, asked: &Asked) -> Result<Reply, Refused>
-    requires { is_on_plan asked.now.verb ≡ true }
-    ensures { HasRead F.answers (λ file. Replies (IsOwnReply asked.now.verb file (asked_of asked.now))
-        (IsNoOwnReply asked.now.verb file (asked_of asked.now)) result) files.old files.new }
-{
-    let table = read_file(alloc, files, asked.first)?;
-    stamped_reply(alloc, asked, &table, None)
-}
-
-/// What a command writes about the plan that the text in another file states. Errors, in this order: a file is refused;
-/// then as `reply_to_table`.
-fn given_reply<F: FileReader>(
-    alloc: Global,
-    files: &mut F,
-    asked: &Asked,
-    name: &str,
-) -> Result<Reply, Refused>
-    requires { is_on_plan asked.now.verb ≡ true }
-    ensures { HasRead F.answers (λ file. Replies (IsGivenReply name.now asked.now.verb file (asked_of asked.now))
-        (IsNoGivenReply name.now asked.now.verb file (asked_of asked.now)) result) files.old files.new }
-{
-    let table = read_file(alloc, files, asked.first)?;
-    let plan = read_file(alloc, files, name)?;
-    stamped_reply(alloc, asked, &table, Some(&plan))
 }
 
 /// What a command writes about the plan of the table in a file, and its status: the own plan, or that of a plan text if one
@@ -206,8 +167,6 @@ pub fn plan_reply<F: FileReader>(
     ensures { HasRead F.answers (λ file. Replies (IsPlanReply asked.now.verb file (asked_of asked.now))
         (IsNoPlanReply asked.now.verb file (asked_of asked.now)) result) files.old files.new }
 {
-    match asked.text(OptionName::Plan) {
-        Some(name) => given_reply(alloc, files, asked, name),
-        None => own_reply(alloc, files, asked),
-    }
+    let table = GivenTable::read(alloc, files, TableNames::of(asked))?;
+    stamped_reply(alloc, asked, &table)
 }

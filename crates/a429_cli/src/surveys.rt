@@ -2,10 +2,9 @@
 ghost use Rattle.std.specs.Prelude.{◌≡◌, ◌∷◌, None, Some};
 ghost use Rattle.a429_console.specs.Readings.{HasRead};
 ghost use Rattle.a429_arguments.specs.Requests.{asked_of};
-ghost use Rattle.a429_recordings.specs.LogItems.{PassesNoLine, logs_named, view_named};
-ghost use Rattle.a429_recordings.specs.SimulationReplies.{reading_for};
+ghost use Rattle.a429_recordings.specs.LogItems.{logs_named, view_named};
 ghost use Rattle.a429_recordings.specs.LogViews.{same_clock, window_view};
-ghost use Rattle.a429_cli.specs.SurveyReplies.{IsSurveyed, IsUnsurveyed, SurveyedBy, UnsurveyedBy};
+ghost use Rattle.a429_cli.specs.SurveyReplies.{IsSurveyed, IsUnsurveyed, PassesNoAskedLine, SurveyedBy, UnsurveyedBy};
 ghost use Rattle.a429_cli.specs.WholeReplies.{Replies};
 
 use crate::judging::finding_status;
@@ -39,8 +38,8 @@ fn plain_reply<F: FileReader>(
     asked: &Asked,
     warnings: &mut Vec<Warning>,
 ) -> Result<Reply, Refused>
-    ensures silent { HasRead F.answers (λ file. PassesNoLine file ((asked_of asked.now).first ∷ (asked_of asked.now).more)
-        (reading_for (asked_of asked.now).given) → warnings.new.items ≡ warnings.old.items) files.old files.new }
+    ensures silent { HasRead F.answers (λ file. PassesNoAskedLine file ((asked_of asked.now).first ∷ (asked_of asked.now).more)
+        (asked_of asked.now).given → warnings.new.items ≡ warnings.old.items) files.old files.new }
     ensures answer { HasRead F.answers (λ file. Replies (SurveyedBy None file (asked_of asked.now))
         (UnsurveyedBy None file (asked_of asked.now)) result) files.old files.new }
 {
@@ -59,8 +58,8 @@ fn compared_reply<F: FileReader>(
     asked: &Asked,
     warnings: &mut Vec<Warning>,
 ) -> Result<Reply, Refused>
-    ensures silent { HasRead F.answers (λ file. PassesNoLine file ((asked_of asked.now).first ∷ (asked_of asked.now).more)
-        (reading_for (asked_of asked.now).given) → warnings.new.items ≡ warnings.old.items) files.old files.new }
+    ensures silent { HasRead F.answers (λ file. PassesNoAskedLine file ((asked_of asked.now).first ∷ (asked_of asked.now).more)
+        (asked_of asked.now).given → warnings.new.items ≡ warnings.old.items) files.old files.new }
     ensures answer { HasRead F.answers (λ file. Replies (SurveyedBy (Some table.now) file (asked_of asked.now))
         (UnsurveyedBy (Some table.now) file (asked_of asked.now)) result) files.old files.new }
 {
@@ -84,8 +83,8 @@ pub fn survey_reply<F: FileReader>(
     asked: &Asked,
     warnings: &mut Vec<Warning>,
 ) -> Result<Reply, Refused>
-    ensures silent { HasRead F.answers (λ file. PassesNoLine file ((asked_of asked.now).first ∷ (asked_of asked.now).more)
-        (reading_for (asked_of asked.now).given) → warnings.new.items ≡ warnings.old.items) files.old files.new }
+    ensures silent { HasRead F.answers (λ file. PassesNoAskedLine file ((asked_of asked.now).first ∷ (asked_of asked.now).more)
+        (asked_of asked.now).given → warnings.new.items ≡ warnings.old.items) files.old files.new }
     ensures answer { HasRead F.answers (λ file. Replies (IsSurveyed file (asked_of asked.now))
         (IsUnsurveyed file (asked_of asked.now)) result) files.old files.new }
 {

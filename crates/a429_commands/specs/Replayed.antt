@@ -17,7 +17,7 @@ pub record IsPlayedToTheEnd (file : List ℕ → Option (List ℕ)) (table scrip
   pub input : ReplayInput
   pub proposal : Proposed
   pub events : List ScriptEvent
-  pub read : IsInput file table script [] input
+  pub read : IsInput file (record { table = table; plan = None }) script [] input
   pub start : IsStart input proposal events
   pub played : IsPlayed input all_answers proposal events bytes
 

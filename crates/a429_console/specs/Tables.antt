@@ -1,6 +1,5 @@
 -- Tables as a command reads them: the proposal of a table, or why there is none (vocabulary of contracts).
 use Rattle.std.specs.Prelude.{◌≡◌, ℕ, true, List, Result, MatchResult, Ok, Err, string_bytes}
-use Rattle.std.specs.List.{AllByRecursion}
 use Rattle.a429_equipment.specs.TableRecord.{TableRecord}
 use Rattle.a429_equipment.specs.SameStation.{same_station}
 use Rattle.a429_table.specs.Reading.{reading}
@@ -21,10 +20,6 @@ IsProposedBy table q = (reading table ≡ Ok q.station) × IsPlanOf q.station q.
 -- a table whose plan a station takes: it has a plan, and is of that station
 abbrev pub IsTakenBy : TableRecord → List ℕ → Type 0
 IsTakenBy t table = (q : Proposed) × IsProposedBy table q × (same_station t q.station ≡ true)
-
--- the station of a table takes the plans of these tables
-abbrev pub TakesAll : List ℕ → List (List ℕ) → Type 0
-TakesAll table further = (q : Proposed) → IsProposedBy table q → AllByRecursion (IsTakenBy q.station) further
 
 -- the fault of a table
 abbrev pub IsTableFault : List ℕ → CommandRefusal → Type 0

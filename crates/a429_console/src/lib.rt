@@ -7,7 +7,7 @@
 //! libraries does not need it.
 //!
 //! ```text
-//! let proposal = propose(alloc, table)?;
+//! let mut proposal = propose(alloc, table)?;
 //! ```
 #![tactic(auto)]
 

@@ -1,1 +1,2 @@
+pub mod GivenTables
 pub mod GivenPlans

@@ -3,6 +3,8 @@
 use crate::files::{REFUSED_OUTPUT, other_file};
 use crate::hint::HintText;
 use crate::reasons::meaning;
+use a429_arguments::options::OptionName;
+use a429_arguments::requests::Asked;
 use a429_console::answered::Objection;
 use a429_text::cut::{first_line, lines_from};
 
@@ -32,6 +34,26 @@ pub fn tell_objection(text: &[u8], objection: &Objection, hint: &HintText) {
         ),
         reason => tell_value(found, reason, expected, hint),
     }
+}
+
+/// Says what is wrong with a line of the plan text that was given for a table, or for the second of two.
+pub fn tell_plan(
+    asked: &Asked,
+    objection: &Objection,
+    text: &[u8],
+    is_second: bool,
+    hint: &HintText,
+) {
+    let option = if is_second {
+        OptionName::OtherPlan
+    } else {
+        OptionName::Plan
+    };
+    hint.turn_to(asked.text(option).unwrap_or(""));
+    tell_objection(text, objection, hint);
+    hint.say_line(
+        "`a429 plan` with --keep makes a plan in which as many outputs of this text stay as can",
+    );
 }
 
 /// The first line of a text; the empty text if it is not UTF-8.

@@ -1,8 +1,6 @@
 //! Hints about plans whose outputs stay at their places.
 
 use crate::hint::HintText;
-use a429_arguments::options::OptionName;
-use a429_arguments::requests::Asked;
 use a429_console::hints::warnings::{KeptCounts, MovedOutput, StatedPlace};
 use a429_console::refusals::kinds::PlanKind;
 
@@ -41,16 +39,8 @@ pub fn tell_moved(output: &MovedOutput, hint: &HintText) {
     hint.end("");
 }
 
-/// The name of the plan text that was given.
-pub fn plan_name<'a>(asked: &Asked<'a>) -> &'a str {
-    match asked.text(OptionName::Plan) {
-        Some(name) => name,
-        None => asked.text(OptionName::Keep).unwrap_or(""),
-    }
-}
-
 /// What is wrong with a line of the plan text of `--keep`.
-fn kept_line(kind: PlanKind) -> &'static str {
+pub fn kept_line(kind: PlanKind) -> &'static str {
     match kind {
         PlanKind::Rate => {
             "the table has another bit rate for this group, so that its slots are other times; plan it without --keep"
@@ -59,13 +49,4 @@ fn kept_line(kind: PlanKind) -> &'static str {
         PlanKind::Shared => "an output above has cells of this one; `a429 check` says which",
         _ => "this is no line of a plan text; give the output of `a429 plan`",
     }
-}
-
-/// Says what is wrong with a line of a plan text that was given.
-pub fn tell_plan_line(asked: &Asked, kind: PlanKind, hint: &HintText) {
-    hint.say_line(if asked.has(OptionName::Plan) {
-        "`a429 check` does not accept this text; `a429 plan` with --keep makes a plan of it"
-    } else {
-        kept_line(kind)
-    });
 }

@@ -234,6 +234,14 @@ fn names_of(column: Column) -> &'static str {
     }
 }
 
+/// The first name that a column can have.
+fn first_name(column: Column) -> &'static str {
+    let (first, _) = names_of(column)
+        .split_once([',', ' '])
+        .unwrap_or((names_of(column), ""));
+    first
+}
+
 /// Says that a line belongs to another kind of file, by its first field, and answers whether it does.
 fn tell_first_field(line: &LineEvidence, read: &ReadLine<'_>, hint: &HintText) -> bool {
     let first = field(read, 0);
@@ -251,9 +259,10 @@ fn tell_first_field(line: &LineEvidence, read: &ReadLine<'_>, hint: &HintText) -
 /// Says what is wrong with a heading.
 fn tell_heading(fault: HeadingFault, hint: &HintText) {
     match fault {
-        HeadingFault::Lacks(column) => hint.line_one(
-            "the line begins with no digit, so it is read as a heading; it has no column {}",
+        HeadingFault::Lacks(column) => hint.line_two(
+            "the line begins with no digit, so it is read as a heading; it has no column {}; if one of its columns is that, give --map HEADING={}",
             names_of(column),
+            first_name(column),
         ),
         HeadingFault::Repeats(column) => {
             hint.line_one("the heading has more than one column {}", names_of(column));
@@ -269,6 +278,10 @@ fn tell_row(line: &LineEvidence, read: &ReadLine<'_>, fault: RowFault, hint: &Hi
         RowFault::Falls => tell_fall(line, read, hint),
         RowFault::Word => tell_word(read, hint),
         RowFault::Early => hint.say_line("the word comes before the time of --from"),
+        RowFault::DateOrder => hint.line_one(
+            "{?} may begin with the day or with the month, and no row before shows which: give --dates dmy or --dates mdy",
+            field(read, read.places.time),
+        ),
         _ => tell_part(read, fault, hint),
     }
 }
@@ -321,6 +334,12 @@ fn is_decimal(text: &str) -> bool {
 /// Says what is wrong with the form of a time.
 fn tell_time(read: &ReadLine<'_>, hint: &HintText) {
     let time = field(read, read.places.time);
+    if let TimeUnit::Ticks(_) = read.unit {
+        return hint.line_one(
+            "{?} is not a count of --tick: 1 to 16 hexadecimal digits, which may follow 0x, for less than 10^18 us",
+            time,
+        );
+    }
     if is_number(time) && time.len() <= 12 {
         return hint.line_one("{?} has another form than the first time", time);
     }
@@ -334,9 +353,11 @@ fn tell_time(read: &ReadLine<'_>, hint: &HintText) {
     let fault = if time.starts_with('+') || time.starts_with('-') {
         "has a sign; write the time without it"
     } else if time.contains('/') {
-        "is not YYYY/MM/DD HH:MM:SS; a date begins with its year, since 02/01 may be a day of January or of February"
+        "is not YYYY/MM/DD HH:MM:SS or DD/MM/YYYY HH:MM:SS, or has another form than the first time"
     } else if time.contains(':') {
         "is not HH:MM:SS, DDD:HH:MM:SS or YYYY-MM-DDTHH:MM:SS, or has another form than the first time"
+    } else if time.starts_with("0x") || time.starts_with("0X") {
+        "is hexadecimal; if times are counts, give --tick NS, the nanoseconds of each"
     } else if read.unit != TimeUnit::Microseconds {
         "is not a time; a time is a decimal number, such as 12.5"
     } else if is_decimal(time) {

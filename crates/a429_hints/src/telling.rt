@@ -1,6 +1,6 @@
 //! Chooses the hints for what a command read and refused.
 
-use crate::checks::tell_objection;
+use crate::checks::{tell_objection, tell_plan};
 use crate::clocks::{tell_apart, tell_clock, tell_clocks};
 use crate::differences::tell_difference;
 use crate::faults::tell_table_fault;
@@ -8,12 +8,12 @@ use crate::files::{REFUSED_OUTPUT, UTF_16, nth, tell_trouble};
 use crate::findings::{tell_changes, tell_findings};
 use crate::hint::HintText;
 use crate::imports::{tell_millis_group, tell_notes, tell_rows, tell_short_intervals};
-use crate::keeping::{plan_name, tell_kept, tell_moved, tell_plan_line};
+use crate::keeping::{kept_line, tell_kept, tell_moved};
 use crate::logs::tell_log_line;
 use crate::mistakes::{tell_habits, tell_nearest_word};
 use crate::plans::{tell_all_unfit, tell_fewer_buses, tell_groups, tell_half_period};
 use crate::scripts::{tell_script_line, tell_words_line};
-use crate::surveys::tell_unknown_names;
+use crate::surveys::tell_survey;
 use crate::whole_logs::{tell_close_words, tell_passed, tell_too_long};
 use crate::words::{
     tell_data_text, tell_even_word, tell_filter, tell_label_text, tell_line_byte, tell_word_text,
@@ -96,7 +96,7 @@ fn tell_found(asked: &Asked, found: &Sheet, hint: &HintText) {
         }
         Verb::Survey => {
             hint.turn_to(asked.first);
-            tell_unknown_names(found, hint);
+            tell_survey(asked.unit(), found, hint);
         }
         _ => {
             hint.turn_to(table_name(asked));
@@ -166,6 +166,11 @@ fn tell_refusal(asked: &Asked, refused: &Refused, hint: &HintText) {
             tell_of_table(asked, refusal, table, hint);
         }
         Evidence::Proposal(proposal) => tell_of_plan(asked, refusal, proposal.equipment(), hint),
+        Evidence::Plan {
+            objection,
+            text,
+            is_second,
+        } => tell_plan(asked, objection, text, *is_second, hint),
         Evidence::Line(line) => tell_of_line(asked, line, None, hint),
         Evidence::Byte { line, byte } => tell_of_line(asked, line, Some(*byte), hint),
         Evidence::Log { line, log } => tell_of_log(asked, line, log, hint),
@@ -179,9 +184,9 @@ fn tell_plain(asked: &Asked, refusal: &CommandRefusal, hint: &HintText) {
     match refusal {
         CommandRefusal::TooMuch => tell_of_length(asked, hint),
         CommandRefusal::PlanLine { line, kind } => {
-            hint.turn_to(plan_name(asked));
+            hint.turn_to(asked.text(OptionName::Keep).unwrap_or(""));
             hint.turn_to_line(*line);
-            tell_plan_line(asked, *kind, hint);
+            hint.say_line(kept_line(*kind));
         }
         CommandRefusal::Apart => {
             hint.turn_to(asked.third);

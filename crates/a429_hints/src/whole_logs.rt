@@ -23,7 +23,7 @@ pub fn tell_close_words(receiver: &str, unit: Option<TimeUnit>, hint: &HintText)
         TimeUnit::Microseconds => "; if the times are milliseconds, give --time ms",
         TimeUnit::Milliseconds => "; if the times are seconds, give --time s",
         TimeUnit::Nanoseconds => "; if the times are microseconds, give --time us",
-        TimeUnit::Seconds => "",
+        TimeUnit::Seconds | TimeUnit::Ticks(_) => "",
     };
     hint.line_two(
         "more than 100 words in a row come to receiver {} less than 360 us apart, which is too close even for 100 kbit/s{}",

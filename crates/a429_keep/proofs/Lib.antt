@@ -3,5 +3,9 @@ pub mod Halves
 pub mod TextLines
 pub mod Viewed
 pub mod Staying
+pub mod FollowedGroups
+pub mod FoundOutputs
 pub mod KeptGroups
+pub mod NamedOutputs
 pub mod Planned
+pub mod StatedGroups

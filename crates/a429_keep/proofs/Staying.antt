@@ -1,11 +1,11 @@
 -- Outputs that all have a block stay.
-use Rattle.std.proofs.Common.{◌≡◌, ◌∙◌, Bool, true, false, cond, eqb, ℕ, zero, suc, List, [], ◌∷◌, None, Some, ap, length, refl, subst, sym}
-use Rattle.std.specs.Prelude.{◌&&◌, ◌==◌, ◌^◌, Option, if◌then◌else◌, is_none, slice_get}
+use Rattle.std.proofs.Common.{◌≡◌, ◌∙◌, Bool, false, ℕ, zero, suc, List, [], ◌∷◌, ap, length, refl}
+use Rattle.std.specs.Prelude.{◌&&◌, ◌==◌, ◌^◌, if◌then◌else◌, is_none, slice_get}
 use Rattle.std.specs.List.{AllByRecursion}
 use Rattle.std.specs.Option.{option_map_or}
 use Rattle.a429_keep.specs.declared.blocks.Stand.{Stand}
 use Rattle.a429_keep.specs.Laws.{AllStay}
-use Rattle.a429_keep.specs.Placing.{is_waiting, place_all, place_down, place_first, place_one, put_on}
+use Rattle.a429_keep.specs.Placing.{is_waiting, place_down, place_first, place_one, put_on}
 use Rattle.a429_keep.specs.Spots.{spot_on}
 
 none_waits : (cells o : ℕ) (stands : List Stand) → AllByRecursion (λ s. is_none s.start ≡ false) stands → option_map_or (is_waiting cells) (slice_get stands o) false ≡ false

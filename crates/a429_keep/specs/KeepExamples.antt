@@ -1,5 +1,5 @@
 -- Blocks of outputs in a frame of 4 slots (profile: docs/RULES.md, Plans that stay). Its cells are those of the offsets 0, 2, 1, 3.
-use Rattle.std.specs.Prelude.{◌≡◌, ℕ, List, [], ◌∷◌, None, Some, map}
+use Rattle.std.specs.Prelude.{◌≡◌, ℕ, [], ◌∷◌, None, Some, map}
 use Rattle.a429_keep.specs.declared.blocks.Stand.{Stand}
 use Rattle.a429_keep.specs.Places.{block_start}
 use Rattle.a429_keep.specs.Placing.{place_all}

@@ -1,5 +1,5 @@
 -- A plan whose outputs stay, as far as they can (profile: docs/RULES.md, Plans that stay).
-use Rattle.std.specs.Prelude.{◌≡◌, ◌⊎◌, ◌<◌, ◌^◌, ◌&&◌, ℕ, List, Bool, true, false, Some, Ok, Err, length, map, nat_le, nat_lt, slice_get, ⊤}
+use Rattle.std.specs.Prelude.{◌≡◌, ◌⊎◌, ◌<◌, ◌^◌, ◌&&◌, ℕ, List, Bool, false, Some, Ok, Err, length, map, nat_le, nat_lt, slice_get, ⊤}
 use Rattle.std.specs.List.{list_all, range_with_len}
 use Rattle.a429_equipment.specs.TableRecord.{TableRecord}
 use Rattle.a429_equipment.specs.declared.rows.GroupRow.{GroupRow}

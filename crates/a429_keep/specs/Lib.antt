@@ -4,6 +4,7 @@ pub mod KeepExamples
 pub mod KeptPlans
 pub mod Keeping
 pub mod Followed
+pub mod Following
 pub mod Laws
 pub mod Places
 pub mod Placing

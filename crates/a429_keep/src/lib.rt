@@ -26,6 +26,7 @@ mod placing;
 mod reading;
 mod rows;
 mod spots;
+mod stated;
 
 pub use changes::{Changes, Move, changes_between};
 pub use fault::{KeepFault, KeepReason};

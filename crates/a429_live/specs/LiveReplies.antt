@@ -24,7 +24,9 @@ use Rattle.a429_console.specs.declared.output.OutputFault.{OutputFault}
 use Rattle.a429_arguments.specs.Requests.{AskedBytes}
 use Rattle.a429_console.specs.Names.{naming_of}
 use Rattle.a429_console.specs.RefusalText.{OrMemory, refusal_line}
-use Rattle.a429_console.specs.Tables.{IsProposedBy, IsTableRefusal, TakesAll}
+use Rattle.a429_console.specs.Tables.{IsProposedBy, IsTableRefusal}
+use Rattle.a429_given.specs.GivenPlans.{IsGivenPlan, IsNoGivenPlan, TakesAll}
+use Rattle.a429_given.specs.GivenTables.{IsTableRead, IsTableUnread, TableTexts, named_table, table_texts}
 use Rattle.a429_station.specs.Course.{fresh}
 use Rattle.a429_station.specs.Numbered.{AllNumbered}
 use Rattle.a429_station.specs.Resubmitting.{Running}
@@ -41,13 +43,18 @@ use Rattle.a429_console.specs.declared.refusals.CommandRefusal.TheVariants as re
 
 -- the bytes of the files that a run reads
 pub record LiveFiles : Type 0 where
-  pub table : List ℕ
+  pub table : TableTexts
   pub words : List ℕ
   pub further : List (List ℕ)
 
 -- they are those of the files that are asked for, which are all read before any is looked at
 abbrev pub AreLiveFiles : (List ℕ → Option (List ℕ)) → AskedBytes → LiveFiles → Type 0
-AreLiveFiles file r i = AreRead file (r.first ∷ r.second ∷ r.more) (i.table ∷ i.words ∷ i.further)
+AreLiveFiles file r i = IsTableRead file (named_table r) i.table × AreRead file (r.second ∷ r.more) (i.words ∷ i.further)
+
+-- of these files the first that cannot be read
+abbrev pub IsLiveUnread : (List ℕ → Option (List ℕ)) → AskedBytes → CommandRefusal → Type 0
+IsLiveUnread file r refusal =
+    IsTableUnread file (named_table r) refusal ⊎ ((i : TableTexts) × IsTableRead file (named_table r) i × IsFirstUnread file (r.second ∷ r.more) refusal)
 
 -- the station of the table takes the plans of the further ones
 abbrev pub TakesLive : (List ℕ → Option (List ℕ)) → AskedBytes → Type 0
@@ -55,16 +62,16 @@ TakesLive file r = (i : LiveFiles) → AreLiveFiles file r i → TakesAll i.tabl
 
 -- the table has a plan, and the file of words these
 pub record IsLiveStart (i : LiveFiles) (q : Proposed) (arrivals : List Arrival) : Type 0 where
-  pub proposed : IsProposedBy i.table q
+  pub proposed : IsGivenPlan i.table q
   pub arrivals_are : arrivals_of (naming_of q.station) i.words ≡ Ok arrivals
 
 -- of a table with a plan, the file of words has a fault
 abbrev pub IsWordsRefusal : LiveFiles → CommandRefusal → Type 0
-IsWordsRefusal i refusal = (q : Proposed) × IsProposedBy i.table q × IsWordsFault (naming_of q.station) i.words refusal
+IsWordsRefusal i refusal = (q : Proposed) × IsGivenPlan i.table q × IsWordsFault (naming_of q.station) i.words refusal
 
 -- why a run of these bytes does not begin: the table or its plan, or the words
 abbrev pub IsNoLiveStart : LiveFiles → CommandRefusal → Type 0
-IsNoLiveStart i refusal = IsTableRefusal i.table refusal ⊎ IsWordsRefusal i refusal
+IsNoLiveStart i refusal = IsNoGivenPlan i.table refusal ⊎ IsWordsRefusal i refusal
 
 -- a receiver of the station gets more than a million words
 abbrev pub HasTooMuch : TableRecord → List Arrival → Type 0
@@ -95,7 +102,7 @@ refusal_of live.NoMemory = refused.Memory
 -- why there is no report, the first that is true: a file, the bytes, or the run
 abbrev pub IsLiveRefusal : (List ℕ → Option (List ℕ)) → AskedBytes → CommandRefusal → Type 0
 IsLiveRefusal file r refusal =
-    IsFirstUnread file (r.first ∷ r.second ∷ r.more) refusal
+    IsLiveUnread file r refusal
     ⊎ ((i : LiveFiles) × AreLiveFiles file r i × (IsNoLiveStart i refusal ⊎ IsLiveRunFault i r.number refusal))
 
 -- ---- the report
@@ -197,11 +204,11 @@ IsLiveReply file r status bytes =
 -- ---- by the values of the program
 
 abbrev pub files_of : LiveInput → LiveFiles
-files_of i = record { table = i.table.items; words = i.words.items; further = bytes_of i.further.items }
+files_of i = record { table = table_texts i.table; words = i.words.items; further = bytes_of i.further.items }
 
 -- what reading the files gives: their bytes, or the first that cannot be read
 abbrev pub IsLiveReading : (List ℕ → Option (List ℕ)) → AskedBytes → Result LiveInput CommandRefusal → Type 0
-IsLiveReading file r result = MatchResult result (λ i. AreLiveFiles file r (files_of i)) (OrMemory (IsFirstUnread file (r.first ∷ r.second ∷ r.more)))
+IsLiveReading file r result = MatchResult result (λ i. AreLiveFiles file r (files_of i)) (OrMemory (IsLiveUnread file r))
 
 -- a station and its words, from which a run of these bytes starts
 abbrev pub IsPreparedLive : LiveFiles → PreparedRun → Type 0

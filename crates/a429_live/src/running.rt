@@ -23,10 +23,10 @@ use a429_console::files::reading::{read_file, read_files};
 use a429_console::hints::warnings::Warning;
 use a429_console::output::endings::finish;
 use a429_console::output::{Output, OutputFault};
-use a429_console::planning::propose;
 use a429_console::refusals::evidence::Evidence;
 use a429_console::refusals::{CommandRefusal, Refused, refuse};
 use a429_equipment::Equipment;
+use a429_given::{GivenTable, TableNames};
 use a429_replay::Names;
 use a429_slots::laws::plans_are_unique;
 use a429_slots::{OUTPUTS, Plan, Proposal};
@@ -39,7 +39,7 @@ use std::thread::Threads;
 /// The bytes of the files that a run reads.
 #[derive(Drop)]
 struct LiveInput {
-    table: Vec<u8>,
+    table: GivenTable,
     words: Vec<u8>,
     further: Vec<Vec<u8>>,
 }
@@ -59,7 +59,7 @@ fn read_input<F: FileReader>(
 ) -> Result<LiveInput, Refused>
     ensures { HasRead F.answers (λ file. IsLiveReading file (asked_of asked.now) result) files.old files.new }
 {
-    let table = read_file(alloc, files, asked.first)?;
+    let table = GivenTable::read(alloc, files, TableNames::of(asked))?;
     let words = read_file(alloc, files, asked.second)?;
     let further = read_files(alloc, files, &asked.more)?;
     Ok(LiveInput {
@@ -85,7 +85,7 @@ fn read_arrivals(
 fn prepare(alloc: Global, input: &LiveInput) -> Result<PreparedRun, Refused>
     ensures { MatchResult result (IsPreparedLive (files_of input.now)) (OrMemory (IsNoLiveStart (files_of input.now))) }
 {
-    let proposal = propose(alloc, &input.table)?;
+    let proposal = input.table.propose(alloc)?;
     let arrivals = read_arrivals(alloc, proposal.equipment(), &input.words)?;
     Ok(PreparedRun { proposal, arrivals })
 }
@@ -191,8 +191,8 @@ fn run_report<R: Threads + Wait, F: FileReader, P: Progress + Sync>(
     result
 }
 
-/// Runs the station of a table on threads of its own, and prints the report of the run, or one refusal line. The status
-/// is 0, or 1 after a refusal. While the station runs, `progress` gets reports of its progress. Error: the output failed.
+/// Runs the station of a table, by its own plan or that of a plan text, on threads of its own. It prints the report of the
+/// run, or one refusal line. The status is 0, or 1 after a refusal. While the station runs, `progress` gets reports of its progress. Error: the output failed.
 pub fn run_station<R: Threads + Wait, F: FileReader, O: Output, P: Progress + Sync>(
     rt: &R,
     alloc: Global,

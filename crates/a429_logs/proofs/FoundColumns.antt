@@ -4,7 +4,7 @@ use Rattle.std.specs.Prelude.{Option, Some, None, filter_map}
 use Rattle.std.specs.List.{enumerate_from}
 use Rattle.std.proofs.lemmas.List.Sums.{count_by-le-length}
 use Rattle.std.proofs.lemmas.List.Splits.{length-slice_split}
-use Rattle.a429_logs.specs.LogColumns.{found_next, found_with, is_column, noted, places_in, width_from}
+use Rattle.a429_logs.specs.LogColumns.{found_next, found_with, is_column, names_of, noted, places_in, width_from}
 use Rattle.a429_logs.specs.LogFields.{field_in, fields_of, has_quotes, is_mark, parts_of, quoted_field_in, quoted_parts}
 use Rattle.a429_logs.specs.declared.cells.Column.{Column}
 use Rattle.a429_logs.specs.declared.cells.Found.{Found}
@@ -67,3 +67,7 @@ found-end column found place (x ∷ xs) none = absurd (omega (arith, none))
 pub width-end : (width : Width) (fields : List (List ℕ)) → length fields ≡ 0 → width ≡ width_from width fields
 width-end width [] none = refl
 width-end width (x ∷ xs) none = absurd (omega (arith, none))
+
+pub names-none : (texts fields : List (List ℕ)) → length fields ≡ 0 → length (names_of texts fields) ≡ 0
+names-none texts [] none = refl
+names-none texts (x ∷ xs) none = absurd (omega (arith, none))

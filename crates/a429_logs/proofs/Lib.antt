@@ -10,6 +10,9 @@ pub mod NeverFall
 mod PlainRows
 mod FirstMarks
 mod ReadDigits
+mod TickLengths
+mod MovedDigits
+mod DateEnds
 mod Reversals
 mod Parities
 mod Titles

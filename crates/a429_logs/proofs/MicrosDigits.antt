@@ -13,12 +13,12 @@ use Rattle.a429_word.proofs.Numerals.{digit_step, digits_model, value_below}
 use Rattle.a429_logs.specs.LogTimes.{decimals, first_digits, is_whole, micros_digits}
 use Rattle.a429_logs.specs.declared.times.TimeUnit.{TimeUnit}
 
-length-first_digits : (count : ℕ) (f : List ℕ) → length (first_digits count f) ≡ count
+pub length-first_digits : (count : ℕ) (f : List ℕ) → length (first_digits count f) ≡ count
 length-first_digits zero f = refl
 length-first_digits (suc count) [] = ap suc (length-first_digits count [])
 length-first_digits (suc count) (x ∷ xs) = ap suc (length-first_digits count xs)
 
-first_digit : (count : ℕ) (f : List ℕ) (i : ℕ) → i < count → get_or (first_digits count f) i 0 ≡ get_or f i 48
+pub first_digit : (count : ℕ) (f : List ℕ) (i : ℕ) → i < count → get_or (first_digits count f) i 0 ≡ get_or f i 48
 first_digit zero f i within = absurd (omega (arith, within))
 first_digit (suc count) [] zero within = refl
 first_digit (suc count) [] (suc i) within = first_digit count [] i (omega (arith, within))
@@ -28,7 +28,7 @@ first_digit (suc count) (x ∷ xs) (suc i) within = first_digit count xs i (omeg
 both_true : {a b : Bool} → a ≡ true → b ≡ true → (a && b) ≡ true
 both_true e f = rw (e, f) refl
 
-all-first_digits : (count : ℕ) (f : List ℕ) → list_all is_ascii_digit f ≡ true → list_all is_ascii_digit (first_digits count f) ≡ true
+pub all-first_digits : (count : ℕ) (f : List ℕ) → list_all is_ascii_digit f ≡ true → list_all is_ascii_digit (first_digits count f) ≡ true
 all-first_digits zero f all = refl
 all-first_digits (suc count) [] all = all-first_digits count [] all
 all-first_digits (suc count) (x ∷ xs) all =

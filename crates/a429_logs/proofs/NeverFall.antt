@@ -3,10 +3,10 @@ use Rattle.std.proofs.Common.{◌≡◌, ◌-◌, ◌≤◌, ◌∷◌, [], ℕ,
 use Rattle.std.specs.Prelude.{Option, Some, None, Result, Ok, Err, nat_lt}
 use Rattle.std.proofs.lemmas.Bool.Decides.{nat_tests}
 use Rattle.a429_logs.specs.Calendars.{Timed}
-use Rattle.a429_logs.specs.LogColumns.{is_heading, places_of, plain_places}
+use Rattle.a429_logs.specs.LogColumns.{columns_of, is_heading, names_of, plain_places}
 use Rattle.a429_logs.specs.LogFields.{fields_of, mark_in}
 use Rattle.a429_logs.specs.LogRows.{Stated}
-use Rattle.a429_logs.specs.Logs.{LineRead, NoneBefore, WordAt, and_then, base_of, entries_from, entry_then, is_passed_over, log_entries, on_clock, past_then, reading_after, reading_past, series_entries, tail_at, unit_for, read_first, read_line, read_stated, with_calendar, with_clock, with_heading, word_of_row}
+use Rattle.a429_logs.specs.Logs.{LineRead, NoneBefore, WordAt, and_then, base_of, entries_from, entry_then, is_passed_over, log_entries, on_clock, past_then, reading_after, reading_past, series_entries, tail_at, renames_of, unit_for, read_first, read_line, read_stated, with_calendar, with_clock, with_heading, word_of_row}
 use Rattle.a429_logs.specs.declared.columns.HeadingFault.{HeadingFault}
 use Rattle.a429_logs.specs.declared.columns.Places.{Places}
 use Rattle.a429_logs.specs.declared.fields.Mark.{Mark}
@@ -43,8 +43,8 @@ by_heading : (reading : Reading) (mark : Mark) (places : Result Places HeadingFa
 by_heading reading mark (Err why) = refl
 by_heading reading mark (Ok places) = refl
 
-by_first : (reading : Reading) (line : List ℕ) (mark : Mark) (heads : Bool) → is_heading (fields_of mark line) ≡ heads → Keeps reading (read_first reading line mark)
-by_first reading line mark true e = rw e (by_heading reading mark (places_of (fields_of mark line)))
+by_first : (reading : Reading) (line : List ℕ) (mark : Mark) (heads : Bool) → is_heading (unit_for reading.unit None) (names_of (renames_of reading) (fields_of mark line)) ≡ heads → Keeps reading (read_first reading line mark)
+by_first reading line mark true e = rw e (by_heading reading mark (columns_of (renames_of reading) (fields_of mark line)))
 by_first reading line mark false e = rw e (by_row reading (record { mark = mark; unit = unit_for reading.unit None; places = plain_places }) (word_of_row reading line (record { mark = mark; unit = unit_for reading.unit None; places = plain_places })))
 
 by_shape : (reading : Reading) (line : List ℕ) (shape : Option Shape) → Keeps reading (read_stated reading line shape)

@@ -8,11 +8,13 @@ use Rattle.std.proofs.lemmas.Bool.{and_parts, ltb-true}
 use Rattle.std.proofs.lemmas.Bool.Decides.{nat_tests}
 use Rattle.std.proofs.lemmas.Option.{cond_some}
 use Rattle.a429_word.specs.Hexadecimal.{raw_word}
+use Rattle.a429_logs.specs.LateDates.{late_time}
 use Rattle.a429_logs.specs.LogColumns.{plain_places, width_of}
-use Rattle.a429_logs.specs.LogDates.{calendar_time, or_second, written_time}
+use Rattle.a429_logs.specs.LogDates.{calendar_time, or_second}
+use Rattle.a429_logs.specs.LogExponents.{exponent_time}
 use Rattle.a429_logs.specs.LogFields.{field_in, fields_of, has_quotes, parts_of}
-use Rattle.a429_logs.specs.LogRows.{in_micros, row_of, unreversed, whole_word}
-use Rattle.a429_logs.specs.LogTimes.{decimal_digits, is_point, micros, time_by, time_of, whole_time}
+use Rattle.a429_logs.specs.LogRows.{in_micros, row_of, unreversed, whole_word, written_time}
+use Rattle.a429_logs.specs.LogTimes.{decimal_digits, decimal_time, is_point, micros, time_by, time_of, whole_time}
 use Rattle.a429_logs.specs.declared.fields.Mark.TheVariants.{Blank}
 use Rattle.a429_logs.specs.declared.times.TimeUnit.TheVariants.{Microseconds}
 use Rattle.a429_logs.specs.declared.words.BitOrder.{BitOrder}
@@ -66,12 +68,15 @@ whole_plain t time N =
     rw (some, few, N.all) (ap (λ (ds : List ℕ). Some (digits_value 10 ds)) (append-nil t) ∙ ap (λ (k : ℕ). Some k) N.value)
 
 unit_time : (t : List ℕ) (time : ℕ) → IsNumber t time → time_of Microseconds Blank t ≡ Some time
-unfolding time_of
+unfolding decimal_time
 unit_time t time N = ap (time_by Microseconds t) (digits_only t N.all) ∙ whole_plain t time N
 
 plain_time : (t : List ℕ) (time : ℕ) → IsNumber t time → written_time Microseconds Blank t ≡ Some (Micros time)
 unfolding written_time
-plain_time t time N = ap (λ (o : Option ℕ). or_second (option_map Micros o) (calendar_time Blank t)) (unit_time t time N)
+plain_time t time N =
+    ap
+    (λ (o : Option ℕ). or_second (option_map Micros o) (or_second (calendar_time Blank t) (or_second (late_time Blank t) (option_map Micros (exponent_time Microseconds Blank t)))))
+    (unit_time t time N)
 
 -- ---- rows
 

@@ -1,9 +1,13 @@
 pub mod LogFields
+pub mod LogTicks
 pub mod LogTimes
+pub mod LogExponents
 pub mod GregorianCalendar
 pub mod LogDates
 pub mod Calendars
+pub mod KnownTimes
 pub mod LogColumns
+pub mod LateDates
 pub mod LogRows
 pub mod Logs
 pub mod LogsLeft

@@ -1,10 +1,12 @@
 -- The columns of a log with a heading (profile: log).
-use Rattle.std.specs.Prelude.{◌==◌, ◌&&◌, ◌||◌, ◌+◌, ◌∷◌, [], ℕ, Bool, true, false, List, Option, Some, None, Result, Ok, Err, if◌then◌else◌, codes, drop, filter_map, length, map, not, position, take}
+use Rattle.std.specs.Prelude.{◌==◌, ◌&&◌, ◌||◌, ◌+◌, ◌∷◌, [], ℕ, Bool, true, false, List, Option, Some, None, Result, Ok, Err, if◌then◌else◌, codes, drop, filter_map, get_or, length, map, not, position, take}
 use Rattle.std.specs.List.{enumerate_from}
-use Rattle.std.specs.Char.{is_ascii_digit, is_ascii_whitespace, to_ascii_lowercase}
+use Rattle.std.specs.Char.{is_ascii_whitespace, to_ascii_lowercase}
 use Rattle.std.specs.Option.{option_map_or}
 use Rattle.std.specs.Str.{bytes_eq}
+use Rattle.a429_text.specs.Renames.{renamed}
 use Rattle.a429_logs.specs.LogFields.{fields_of, trimmed}
+use Rattle.a429_logs.specs.LogTimes.{can_be_time}
 use Rattle.a429_logs.specs.declared.cells.Column.{Column}
 use Rattle.a429_logs.specs.declared.cells.Column.TheVariants.{Time, TimeIn, Name, Word, Hex, Octal, Binary, Decimal, Label, HexLabel, DecimalLabel, Sdi, Ssm, Parity}
 use Rattle.a429_logs.specs.declared.columns.Base.{Base}
@@ -21,7 +23,7 @@ use Rattle.a429_logs.specs.declared.columns.Width.{Width}
 use Rattle.a429_logs.specs.declared.columns.WordPlaces.{WordPlaces}
 use Rattle.a429_logs.specs.declared.columns.WordPlaces.TheVariants.{Whole, Parts}
 use Rattle.a429_logs.specs.declared.times.TimeUnit.{TimeUnit}
-use Rattle.a429_logs.specs.declared.times.TimeUnit.TheVariants.{Nanoseconds, Microseconds, Milliseconds, Seconds}
+use Rattle.a429_logs.specs.declared.times.TimeUnit.TheVariants.{Nanoseconds, Microseconds, Milliseconds, Seconds, Ticks}
 
 -- the name of a column, in any case
 abbrev pub is_named : List ℕ → List ℕ → Bool
@@ -81,6 +83,7 @@ is_unit_note Milliseconds note =
     is_named (codes "ms") note || is_named (codes "msec") note || is_named (codes "milliseconds") note
 is_unit_note Seconds note =
     is_named (codes "s") note || is_named (codes "sec") note || is_named (codes "seconds") note
+is_unit_note (Ticks nanoseconds) note = false
 
 abbrev pub is_time_note : List ℕ → Bool
 is_time_note note =
@@ -141,10 +144,9 @@ is_column_by Parity name note = is_named (codes "parity") name && is_parity_note
 abbrev pub is_column : Column → List ℕ → Bool
 is_column column cell = is_column_by column (name_in cell) (note_in cell)
 
--- a heading begins with no digit, which the time of a word does
-abbrev pub is_heading : List (List ℕ) → Bool
-is_heading ((c ∷ cs) ∷ fields) = if is_ascii_digit c then false else true
-is_heading _ = true
+-- a heading does not begin as the time of a word does
+abbrev pub is_heading : TimeUnit → List (List ℕ) → Bool
+is_heading unit fields = not (can_be_time unit (get_or fields 0 []))
 
 -- the place of a column, if it is there
 abbrev pub place_if : Column → ℕ × List ℕ → Option ℕ
@@ -261,11 +263,19 @@ width_from width (field ∷ fields) = width_from (wider width field) fields
 unfoldable pub width_of : List (List ℕ) → Width
 width_of fields = width_from (record { all = 0; bare = 0 }) fields
 
--- the columns of a heading, or the first fault of it
-unfoldable pub places_of : List (List ℕ) → Result Places HeadingFault
-places_of heading =
+-- the columns of a heading of this width, or the first fault of it
+unfoldable pub places_of : Width → List (List ℕ) → Result Places HeadingFault
+places_of width heading =
     and_then (place_of heading Time) (λ time. and_then (place_of heading Name) (λ name. and_then (word_places heading) (λ word.
-    Ok (record { width = width_of heading; unit = unit_in heading; time = time; name = name; word = word }))))
+    Ok (record { width = width; unit = unit_in heading; time = time; name = name; word = word }))))
+
+-- a field of a heading that one of these texts FROM=TO has as FROM counts as TO
+abbrev pub names_of : List (List ℕ) → List (List ℕ) → List (List ℕ)
+names_of texts fields = map (renamed texts) fields
+
+-- the columns of a heading with these fields, by such texts; or the first fault of it
+abbrev pub columns_of : List (List ℕ) → List (List ℕ) → Result Places HeadingFault
+columns_of texts fields = places_of (width_of fields) (names_of texts fields)
 
 -- A row has as many fields as the heading. An empty field at the end, in a heading or in a row, may be left out.
 abbrev pub fits : Places → Width → Bool
@@ -277,9 +287,9 @@ plain_places = record { width = record { all = 3; bare = 3 }; unit = None; time 
 
 -- ---- steps
 
--- the fields of a heading
+-- what the fields of a heading count as
 abbrev pub names_in : Heading → List (List ℕ)
-names_in h = fields_of h.mark h.line.now
+names_in h = names_of (map (λ text. text.now) h.renames.now) (fields_of h.mark h.line.now)
 
 -- found so far, and at these places besides
 abbrev pub found_with : Found → List ℕ → Found

@@ -1,16 +1,15 @@
 -- Times of day, times of the year and dates in a log (profile: log).
-use Rattle.std.specs.Prelude.{◌==◌, ◌&&◌, ◌||◌, ◌+◌, ◌-◌, ◌*◌, ◌∷◌, [], ℕ, Bool, List, Option, Some, None, drop, get_or, if◌then◌else◌, length, nat_le, option_map, position, take, unwrap_or}
+use Rattle.std.specs.Prelude.{◌==◌, ◌||◌, ◌+◌, ◌-◌, ◌*◌, ◌∷◌, [], ℕ, Bool, List, Option, Some, None, drop, get_or, if◌then◌else◌, length, option_map, position, take, unwrap_or}
 use Rattle.a429_logs.specs.GregorianCalendar.{days_before, is_leap, month_length}
 use Rattle.a429_logs.specs.LogFields.{parts_of}
-use Rattle.a429_logs.specs.LogTimes.{decimal_digits, is_point, time_of}
+use Rattle.a429_logs.specs.LogTimes.{decimal_digits, decimal_time, is_point, two_digits, within}
 use Rattle.a429_logs.specs.declared.fields.Mark.{Mark}
 use Rattle.a429_logs.specs.declared.fields.Mark.TheVariants.{Colon, Dash, Slash}
-use Rattle.a429_logs.specs.declared.times.TimeUnit.{TimeUnit}
 use Rattle.a429_logs.specs.declared.times.TimeUnit.TheVariants.{Seconds}
 use Rattle.a429_logs.specs.declared.written.Date.{Date}
 use Rattle.a429_logs.specs.declared.written.ThreeParts.{ThreeParts}
 use Rattle.a429_logs.specs.declared.written.WrittenTime.{WrittenTime}
-use Rattle.a429_logs.specs.declared.written.WrittenTime.TheVariants.{Micros, OfDay, OfYear, OfDate}
+use Rattle.a429_logs.specs.declared.written.WrittenTime.TheVariants.{OfDay, OfYear, OfDate}
 
 -- what follows if there is a value
 abbrev pub if_some : {A B : Type 0} → Option A → (A → Option B) → Option B
@@ -23,10 +22,6 @@ or_second None second = second
 or_second (Some a) second = Some a
 
 -- ---- numbers
-
-abbrev pub within : ℕ → ℕ → Option ℕ → Option ℕ
-within least most None = None
-within least most (Some n) = if nat_le least n && nat_le n most then Some n else None
 
 -- a number of this many decimal digits, from the least to the most
 abbrev pub digits_within : ℕ → ℕ → ℕ → List ℕ → Option ℕ
@@ -56,12 +51,12 @@ of_day = 86400000000
 
 -- an hour has one digit or two
 abbrev pub hour_of : List ℕ → Option ℕ
-hour_of text = if nat_le (length text) 2 then within 0 23 (decimal_digits text) else None
+hour_of text = two_digits 23 text
 
 -- seconds have two digits, and decimals after them; no minute has more than 60 of them
 abbrev pub seconds_of : Mark → List ℕ → Option ℕ
 seconds_of mark text =
-    if unwrap_or (position (is_point mark) text) (length text) == 2 then within 0 59999999 (time_of Seconds mark text) else None
+    if unwrap_or (position (is_point mark) text) (length text) == 2 then within 0 59999999 (decimal_time Seconds mark text) else None
 
 abbrev pub time_of_day : Mark → Three → Option ℕ
 time_of_day mark t =
@@ -116,7 +111,3 @@ calendar_by mark text (Some k) = dated_time mark (take k text) (drop (k + 1) tex
 
 unfoldable pub calendar_time : Mark → List ℕ → Option WrittenTime
 calendar_time mark text = calendar_by mark text (position is_date_end text)
-
--- the time that a text writes: digits in the unit of the log, or a time by a calendar
-unfoldable pub written_time : TimeUnit → Mark → List ℕ → Option WrittenTime
-written_time unit mark text = or_second (option_map Micros (time_of unit mark text)) (calendar_time mark text)

@@ -5,7 +5,7 @@ use Rattle.std.specs.Option.{option_map_or}
 use Rattle.std.specs.Char.{is_ascii_whitespace}
 use Rattle.a429_logs.specs.declared.fields.Fields.{Fields}
 use Rattle.a429_logs.specs.declared.fields.Mark.{Mark}
-use Rattle.a429_logs.specs.declared.fields.Mark.TheVariants.{LineFeed, Blank, Comma, Semicolon, Colon, Dash, Slash}
+use Rattle.a429_logs.specs.declared.fields.Mark.TheVariants.{LineFeed, Blank, Comma, Semicolon, Colon, Dash, Slash, Point}
 use Rattle.a429_logs.specs.declared.fields.LineParts.{LineParts}
 use Rattle.a429_logs.specs.declared.fields.LineParts.TheVariants.{Plain, Quoted}
 use Rattle.a429_logs.specs.declared.fields.Parts.{Parts}
@@ -20,6 +20,7 @@ is_mark Semicolon b = b == 59
 is_mark Colon b = b == 58
 is_mark Dash b = b == 45
 is_mark Slash b = b == 47
+is_mark Point b = b == 46
 
 -- without the blanks at both ends
 unfoldable pub trimmed : List ℕ → List ℕ

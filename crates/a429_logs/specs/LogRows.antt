@@ -2,9 +2,12 @@
 use Rattle.std.specs.Prelude.{◌==◌, ◌&&◌, ◌||◌, ◌+◌, ◌-◌, ◌*◌, ◌/◌, ◌^◌, ◌∷◌, [], ℕ, Bool, true, false, List, Option, Some, None, Result, Ok, Err, if◌then◌else◌, codes, get_or, length, nat_le, nat_lt, option_map}
 use Rattle.a429_word.specs.Bits.{has_odd_parity, reversed_from}
 use Rattle.a429_word.specs.Hexadecimal.{hex_onto, raw_word}
+use Rattle.a429_logs.specs.LateDates.{late_time}
 use Rattle.a429_logs.specs.LogColumns.{and_then, fits, is_named, width_of}
-use Rattle.a429_logs.specs.LogDates.{if_some, or_second, written_time}
-use Rattle.a429_logs.specs.LogTimes.{decimal_digits}
+use Rattle.a429_logs.specs.LogDates.{calendar_time, if_some, or_second}
+use Rattle.a429_logs.specs.LogExponents.{exponent_time}
+use Rattle.a429_logs.specs.LogTicks.{without_prefix}
+use Rattle.a429_logs.specs.LogTimes.{decimal_digits, time_of}
 use Rattle.a429_logs.specs.declared.columns.Base.{Base}
 use Rattle.a429_logs.specs.declared.columns.Base.TheVariants.{Two, Eight, Ten, Sixteen}
 use Rattle.a429_logs.specs.declared.columns.PartsPlaces.{PartsPlaces}
@@ -26,11 +29,6 @@ use Rattle.a429_logs.specs.declared.words.BitOrder.{BitOrder}
 use Rattle.a429_logs.specs.declared.words.BitOrder.TheVariants.{AsWritten, LabelReversed, WordReversed}
 
 -- ---- words
-
--- hexadecimal digits may come after `0x`
-abbrev pub without_prefix : List ℕ → List ℕ
-without_prefix (a ∷ b ∷ digits) = if a == 48 && (b == 120 || b == 88) then digits else a ∷ b ∷ digits
-without_prefix text = text
 
 -- eight hexadecimal digits
 unfoldable pub whole_word : List ℕ → Option ℕ
@@ -186,6 +184,13 @@ parts_word places fields =
 abbrev pub word_in : BitOrder → WordPlaces → List (List ℕ) → Result ℕ RowFault
 word_in order (Whole place) fields = or_fault fault.Word (written_word order (field_at place fields))
 word_in order (Parts places) fields = parts_word places fields
+
+-- The time that a text writes: digits in the unit of the log, a time by a calendar with the year first or none, one with the year last,
+-- or a number with an exponent. No text has two of these forms.
+unfoldable pub written_time : TimeUnit → Mark → List ℕ → Option WrittenTime
+written_time unit mark text =
+    or_second (option_map Micros (time_of unit mark text))
+    (or_second (calendar_time mark text) (or_second (late_time mark text) (option_map Micros (exponent_time unit mark text))))
 
 abbrev pub row_in : TimeUnit → BitOrder → Mark → Places → List (List ℕ) → Result Written RowFault
 row_in unit order mark places fields =

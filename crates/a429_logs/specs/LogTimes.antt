@@ -1,24 +1,33 @@
 -- The time of a word in a log, in microseconds (profile: log).
-use Rattle.std.specs.Prelude.{◌==◌, ◌&&◌, ◌||◌, ◌+◌, ◌/◌, ◌++◌, ◌∷◌, [], ℕ, Bool, true, false, List, Option, Some, None, if◌then◌else◌, drop, length, nat_le, nat_lt, position, suc, take, zero}
+use Rattle.std.specs.Prelude.{◌==◌, ◌&&◌, ◌||◌, ◌+◌, ◌/◌, ◌++◌, ◌∷◌, [], ℕ, Bool, true, false, List, Option, Some, None, if◌then◌else◌, drop, is_some, length, nat_le, nat_lt, position, suc, take, zero}
 use Rattle.std.specs.List.{list_all}
 use Rattle.std.specs.Char.{is_ascii_digit}
 use Rattle.std.specs.Str.Parse.{digits_value}
+use Rattle.a429_logs.specs.LogTicks.{tick_count, tick_time}
 use Rattle.a429_logs.specs.declared.fields.Mark.{Mark}
 use Rattle.a429_logs.specs.declared.fields.Mark.TheVariants.{Semicolon}
 use Rattle.a429_logs.specs.declared.times.TimeUnit.{TimeUnit}
-use Rattle.a429_logs.specs.declared.times.TimeUnit.TheVariants.{Nanoseconds, Microseconds, Milliseconds, Seconds}
+use Rattle.a429_logs.specs.declared.times.TimeUnit.TheVariants.{Nanoseconds, Microseconds, Milliseconds, Seconds, Ticks}
 
 -- decimal digits, of which there are at most eighteen
 abbrev pub decimal_digits : List ℕ → Option ℕ
 decimal_digits text =
     if (nat_lt 0 (length text) && nat_le (length text) 18) && list_all is_ascii_digit text then Some (digits_value 10 text) else None
 
+-- a number from the least to the most
+abbrev pub within : ℕ → ℕ → Option ℕ → Option ℕ
+within least most None = None
+within least most (Some n) = if nat_le least n && nat_le n most then Some n else None
+
+-- a number of one digit or two, up to the most
+abbrev pub two_digits : ℕ → List ℕ → Option ℕ
+two_digits most text = if nat_le (length text) 2 then within 0 most (decimal_digits text) else None
+
 -- how many decimals of a unit are microseconds
 abbrev pub decimals : TimeUnit → ℕ
-decimals Nanoseconds = 0
-decimals Microseconds = 0
 decimals Milliseconds = 3
 decimals Seconds = 6
+decimals _ = 0
 
 -- what separates whole units from decimals: a point, and between semicolons a comma too
 abbrev pub is_point : Mark → ℕ → Bool
@@ -29,9 +38,10 @@ is_point _ b = b == 46
 abbrev pub is_whole : TimeUnit → List ℕ → Bool
 is_whole unit whole = (nat_lt 0 (length whole) && nat_le (length whole + decimals unit) 18) && list_all is_ascii_digit whole
 
--- microseconds are whole
+-- microseconds are whole, and so are ticks
 abbrev pub has_fractions : TimeUnit → Bool
 has_fractions Microseconds = false
+has_fractions (Ticks nanoseconds) = false
 has_fractions _ = true
 
 -- decimal digits, of which there is at least one, below a unit that is not the microsecond
@@ -66,6 +76,23 @@ abbrev pub time_by : TimeUnit → List ℕ → Option ℕ → Option ℕ
 time_by unit text None = whole_time unit text
 time_by unit text (Some k) = parted_time unit (take k text) (drop (k + 1) text)
 
+-- the microseconds that a decimal number of a unit states
+unfoldable pub decimal_time : TimeUnit → Mark → List ℕ → Option ℕ
+decimal_time unit mark text = time_by unit text (position (is_point mark) text)
+
 -- the microseconds that a text states in a unit
-unfoldable pub time_of : TimeUnit → Mark → List ℕ → Option ℕ
-time_of unit mark text = time_by unit text (position (is_point mark) text)
+abbrev pub time_of : TimeUnit → Mark → List ℕ → Option ℕ
+time_of (Ticks nanoseconds) mark text = tick_time nanoseconds text
+time_of unit mark text = decimal_time unit mark text
+
+-- ---- what can be a time
+
+-- a text has a digit first
+abbrev pub begins_with_digit : List ℕ → Bool
+begins_with_digit [] = false
+begins_with_digit (c ∷ cs) = is_ascii_digit c
+
+-- a time begins with a digit; a count of ticks may begin with a letter
+abbrev pub can_be_time : TimeUnit → List ℕ → Bool
+can_be_time (Ticks nanoseconds) field = begins_with_digit field || is_some (tick_count field)
+can_be_time _ field = begins_with_digit field

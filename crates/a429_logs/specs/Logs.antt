@@ -1,11 +1,11 @@
 -- Logs of words, as recorders write them (profile: log): what their lines state, in order, up to the first fault.
-use Rattle.std.specs.Prelude.{◌==◌, ◌&&◌, ◌||◌, ◌+◌, ◌-◌, ◌≤◌, ◌∷◌, [], ⊤, ℕ, Bool, true, false, List, Option, Some, None, Result, Ok, Err, if◌then◌else◌, is_ok, nat_lt, not, unwrap_or}
-use Rattle.std.specs.Char.{is_ascii_digit}
+use Rattle.std.specs.Prelude.{◌==◌, ◌&&◌, ◌||◌, ◌+◌, ◌-◌, ◌≤◌, ◌∷◌, [], ⊤, ℕ, Bool, true, false, List, Option, Some, None, Result, Ok, Err, if◌then◌else◌, is_ok, map, nat_lt, not, unwrap_or}
 use Rattle.std.specs.List.{enumerate_from}
 use Rattle.a429_logs.specs.Calendars.{Timed, timed_row}
-use Rattle.a429_logs.specs.LogColumns.{is_heading, places_of, plain_places, width_of}
+use Rattle.a429_logs.specs.LogColumns.{columns_of, is_heading, names_of, plain_places, width_of}
 use Rattle.a429_logs.specs.LogFields.{fields_of, mark_in, parts_of, trimmed, without_byte_order_mark}
 use Rattle.a429_logs.specs.LogRows.{Stated, field_at, row_of, stated_by}
+use Rattle.a429_logs.specs.LogTimes.{can_be_time}
 use Rattle.a429_logs.specs.declared.clocks.Clock.{Clock}
 use Rattle.a429_logs.specs.declared.columns.HeadingFault.{HeadingFault}
 use Rattle.a429_logs.specs.declared.columns.Places.{Places}
@@ -83,10 +83,14 @@ with_calendar reading shape (Ok timed) = with_clock reading shape timed (on_cloc
 -- the word of a row in a form
 abbrev pub word_of_row : Reading → List ℕ → Shape → Result Timed RowFault
 word_of_row reading line shape =
-    timed_row reading.calendar (row_of shape.unit reading.order shape.mark shape.places (fields_of shape.mark line))
+    timed_row reading.dates reading.calendar (row_of shape.unit reading.order shape.mark shape.places (fields_of shape.mark line))
 
 abbrev pub read_row : Reading → List ℕ → Shape → LineRead
 read_row reading line shape = with_calendar reading shape (word_of_row reading line shape)
+
+-- the texts FROM=TO by which fields of headings are renamed
+abbrev pub renames_of : Reading → List (List ℕ)
+renames_of reading = map (λ text. text.now) reading.renames.now
 
 -- the unit of times: the one that is given, otherwise that of the heading, otherwise the microsecond
 abbrev pub unit_for : Option TimeUnit → Option TimeUnit → TimeUnit
@@ -104,7 +108,8 @@ with_heading reading mark (Ok places) =
 -- the first line that is not passed over is a heading or a row, and its marks are those of all lines
 abbrev pub read_first : Reading → List ℕ → Mark → LineRead
 read_first reading line mark =
-    if is_heading (fields_of mark line) then with_heading reading mark (places_of (fields_of mark line))
+    if is_heading (unit_for reading.unit None) (names_of (renames_of reading) (fields_of mark line))
+    then with_heading reading mark (columns_of (renames_of reading) (fields_of mark line))
     else read_row reading line (record { mark = mark; unit = unit_for reading.unit None; places = plain_places })
 
 abbrev pub read_stated : Reading → List ℕ → Option Shape → LineRead
@@ -119,8 +124,10 @@ read_line reading line =
 -- ---- titles above the heading
 
 -- what a line is before the first heading or row
-abbrev pub names_columns : List ℕ → Bool
-names_columns line = is_heading (fields_of (mark_in line) line) && is_ok (places_of (fields_of (mark_in line) line))
+abbrev pub names_columns : Reading → List ℕ → Bool
+names_columns reading line =
+    is_heading (unit_for reading.unit None) (names_of (renames_of reading) (fields_of (mark_in line) line))
+    && is_ok (columns_of (renames_of reading) (fields_of (mark_in line) line))
 
 abbrev pub is_plain_row : Reading → List ℕ → Bool
 is_plain_row reading line = is_ok (row_of (unit_for reading.unit None) reading.order (mark_in line) plain_places (fields_of (mark_in line) line))
@@ -128,7 +135,7 @@ is_plain_row reading line = is_ok (row_of (unit_for reading.unit None) reading.o
 unfoldable pub opening_line : Reading → List ℕ → OpeningLine
 opening_line reading line =
     if is_passed_over line then Passed
-    else if names_columns line then Columns
+    else if names_columns reading line then Columns
     else if is_plain_row reading line then FirstRow
     else Title
 
@@ -158,13 +165,9 @@ without_titles reading lines = unwrap_or (heading_from reading lines) (record { 
 
 -- ---- a tail after the last row
 
--- the field of its time begins with no digit
-abbrev pub begins_with_digit : List ℕ → Bool
-begins_with_digit [] = false
-begins_with_digit (c ∷ cs) = is_ascii_digit c
-
+-- a line has a field that can be its time
 abbrev pub has_time : Shape → List ℕ → Bool
-has_time shape line = begins_with_digit (field_at shape.places.time (fields_of shape.mark line))
+has_time shape line = can_be_time shape.unit (field_at shape.places.time (fields_of shape.mark line))
 
 -- a line with fewer fields than the heading
 abbrev pub is_short : Shape → List ℕ → Bool

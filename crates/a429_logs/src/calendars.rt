@@ -1,11 +1,13 @@
 //! Times by a calendar: on over midnight and the end of a year.
-ghost use Rattle.std.specs.Prelude.{◌≡◌, ◌+◌};
-ghost use Rattle.a429_logs.specs.Calendars.{begun_again, beginning, counted, date_span, date_start, day_span, day_start, has_units, in_64_bits, moment_of, next_start, on_date, on_day, on_year, shown_timed, span_length, timed, year_beginning, year_span, year_start};
+ghost use Rattle.std.specs.Prelude.{◌≡◌};
+ghost use Rattle.a429_logs.specs.Calendars.{begun_again, beginning, counted, date_span, date_start, dated, day_span, day_start, has_units, in_64_bits, moment_of, next_start, on_date, on_date_of, on_day, on_numbers, on_year, row_order, shown_timed, span_length, timed, year_beginning, year_span, year_start};
 ghost use Rattle.a429_logs.specs.LogRows.{written_by};
 
+use crate::clocks::sum;
 use crate::gregorian::days_between;
+use crate::orders::{numbers_date, shown_order};
 use crate::rows::{RowFault, RowWord, StatedWord};
-use crate::written::{DAY, Date, WrittenTime};
+use crate::written::{DAY, Date, DateOrder, NumberedDate, WrittenTime};
 
 /// The day or the year of the last word.
 #[derive(Clone, Copy)]
@@ -36,7 +38,12 @@ pub enum Calendar {
     Days(Span),
     /// Times of the year.
     Years(Span),
+    /// Dates, as long as no row shows whether the day or the month is first.
     Dates(DateSpan),
+    /// Dates of which a row showed that the day is first.
+    DayDates(DateSpan),
+    /// Dates of which a row showed that the month is first.
+    MonthDates(DateSpan),
 }
 
 /// A time in microseconds, and the calendar after it.
@@ -51,13 +58,6 @@ pub struct Moment {
 pub struct TimedWord<'a> {
     pub word: StatedWord<'a>,
     pub calendar: Calendar,
-}
-
-/// A sum, if it has 64 bits.
-fn sum(a: u64, b: u64) -> Option<u64>
-    ensures { result ≡ in_64_bits (a + b) }
-{
-    if b <= u64::MAX - a { Some(a + b) } else { None }
 }
 
 /// The moment of a time that is counted from this start. Error: `Time` if it has more than 64 bits.
@@ -148,10 +148,21 @@ impl DateSpan {
         }
     }
 
-    /// The moment of a date. Errors: `Falls` if its year is before that of the last word, `Time` if the moment has more
+    /// The calendar of these years, if a row showed this order of dates.
+    fn dated(self, order: Option<DateOrder>) -> Calendar
+        ensures { result ≡ dated order self }
+    {
+        match order {
+            None => Calendar::Dates(self),
+            Some(DateOrder::DayFirst) => Calendar::DayDates(self),
+            Some(DateOrder::MonthFirst) => Calendar::MonthDates(self),
+        }
+    }
+
+    /// The moment of a date, if this order of dates is known. Errors: `Falls` if its year is before that of the last word, `Time` if the moment has more
     /// than 64 bits.
-    fn on_date(self, date: Date) -> Result<Moment, RowFault>
-        ensures { result ≡ on_date self date }
+    fn on_date(self, order: Option<DateOrder>, date: Date) -> Result<Moment, RowFault>
+        ensures { result ≡ on_date order self date }
     {
         if date.year < self.year {
             return Err(RowFault::Falls);
@@ -163,7 +174,7 @@ impl DateSpan {
                     year: date.year,
                     start,
                 };
-                counted(start, date.time, Calendar::Dates(year))
+                counted(start, date.time, year.dated(order))
             }
             None => Err(RowFault::Time),
         }
@@ -223,15 +234,51 @@ impl Calendar {
     {
         match self {
             Calendar::Open => Some(DateSpan::beginning(year)),
-            Calendar::Dates(span) => Some(span),
+            Calendar::Dates(span) | Calendar::DayDates(span) | Calendar::MonthDates(span) => Some(
+                span,
+            ),
             _ => None,
         }
     }
 
-    /// The moment of a time. Errors: `Time` if it has not the form of the first time of the log, or if the moment has
-    /// more than 64 bits; `Falls` if it is a date of a year before the last one.
-    fn moment(self, time: WrittenTime) -> Result<Moment, RowFault>
-        ensures { result ≡ moment_of self time }
+    /// The order of dates that a row before showed.
+    fn row_order(self) -> Option<DateOrder>
+        ensures { result ≡ row_order self }
+    {
+        match self {
+            Calendar::DayDates(_) => Some(DateOrder::DayFirst),
+            Calendar::MonthDates(_) => Some(DateOrder::MonthFirst),
+            _ => None,
+        }
+    }
+
+    /// The moment of a date that shows this order. Errors: `Time` if the times of the log are of another form, or if the
+    /// moment has more than 64 bits; `Falls` if its year is before the last one.
+    fn on_date_of(self, shown: Option<DateOrder>, date: Date) -> Result<Moment, RowFault>
+        ensures { result ≡ on_date_of self shown date }
+    {
+        match self.date_span(date.year) {
+            Some(span) => span.on_date(self.row_order().or(shown), date),
+            None => Err(RowFault::Time),
+        }
+    }
+
+    /// The moment of a date of two numbers, with the order that is given for dates. Errors: those of `numbers_date`, and
+    /// those of `on_date_of`.
+    fn on_numbers(self, given: Option<DateOrder>, numbers: NumberedDate) -> Result<Moment, RowFault>
+        ensures { result ≡ on_numbers given self numbers }
+    {
+        match numbers_date(given.or(self.row_order()), numbers) {
+            Ok(date) => self.on_date_of(shown_order(numbers), date),
+            Err(why) => Err(why),
+        }
+    }
+
+    /// The moment of a time, with the order that is given for dates. Errors: `Time` if it has not the form of the first
+    /// time of the log, or if the moment has more than 64 bits; `Falls` if it is a date of a year before the last one;
+    /// `DateOrder` if it is a date that has two orders, and none is known.
+    fn moment(self, given: Option<DateOrder>, time: WrittenTime) -> Result<Moment, RowFault>
+        ensures { result ≡ moment_of given self time }
     {
         match time {
             WrittenTime::Micros(time) => {
@@ -258,18 +305,23 @@ impl Calendar {
             }
             WrittenTime::OfDate(date) => {
                 match self.date_span(date.year) {
-                    Some(span) => span.on_date(date),
+                    Some(span) => span.on_date(self.row_order(), date),
                     None => Err(RowFault::Time),
                 }
             }
+            WrittenTime::OfNumbers(numbers) => self.on_numbers(given, numbers),
         }
     }
 
     /// The word of a row, with its time in microseconds. Errors: as those of `moment`.
-    pub fn timed<'a>(self, row: RowWord<'a>) -> Result<TimedWord<'a>, RowFault>
-        ensures { shown_timed result ≡ timed self (written_by row.entry) }
+    pub fn timed<'a>(
+        self,
+        given: Option<DateOrder>,
+        row: RowWord<'a>,
+    ) -> Result<TimedWord<'a>, RowFault>
+        ensures { shown_timed result ≡ timed given self (written_by row.entry) }
     {
-        match self.moment(row.time) {
+        match self.moment(given, row.time) {
             Ok(moment) => {
                 let word = StatedWord {
                     time: moment.time,
@@ -295,6 +347,8 @@ impl Calendar {
             Calendar::Days(_) => Calendar::Days(Span::beginning()),
             Calendar::Years(_) => Calendar::Years(Span::beginning()),
             Calendar::Dates(span) => Calendar::Dates(DateSpan::beginning(span.first)),
+            Calendar::DayDates(span) => Calendar::DayDates(DateSpan::beginning(span.first)),
+            Calendar::MonthDates(span) => Calendar::MonthDates(DateSpan::beginning(span.first)),
         }
     }
 }

@@ -191,6 +191,7 @@ fn is_unit_note(unit: TimeUnit, note: &[u8]) -> bool
         TimeUnit::Seconds => {
             is_named(note, "s") || is_named(note, "sec") || is_named(note, "seconds")
         }
+        TimeUnit::Ticks(_) => false,
     }
 }
 

@@ -1,5 +1,6 @@
 //! From when on the times of a log are counted.
-ghost use Rattle.std.specs.Prelude.{◌≡◌, None, OnErr, OnOk, Some};
+ghost use Rattle.std.specs.Prelude.{◌≡◌, ◌+◌, None, OnErr, OnOk, Some};
+ghost use Rattle.a429_logs.specs.Calendars.{in_64_bits};
 ghost use Rattle.a429_logs.specs.LogRows.{shown_row, stated_by};
 ghost use Rattle.a429_logs.specs.Logs.{clock_after, on_clock};
 
@@ -13,6 +14,13 @@ pub struct Clock {
     pub base: Option<u64>,
     /// The time of the last word, from the base on; at first 0.
     pub last: u64,
+}
+
+/// A sum of times, if it has 64 bits.
+pub fn sum(a: u64, b: u64) -> Option<u64>
+    ensures { result ≡ in_64_bits (a + b) }
+{
+    if b <= u64::MAX - a { Some(a + b) } else { None }
 }
 
 impl Clock {

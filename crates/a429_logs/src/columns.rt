@@ -6,7 +6,8 @@ ghost use Rattle.a429_logs.specs.declared.cells.Column.TheVariants.{DecimalLabel
 
 use crate::cells::{Column, Found};
 use crate::fields::{Fields, Mark};
-use crate::times::TimeUnit;
+use crate::times::{TimeUnit, can_be_time};
+use a429_text::renames::renamed;
 
 /// What is wrong with a heading.
 #[derive(Clone, Copy)]
@@ -116,17 +117,19 @@ impl Places {
 pub struct Heading<'a> {
     pub mark: Mark,
     pub line: &'a [u8],
+    /// Texts FROM=TO. A field FROM counts as TO.
+    pub renames: &'a [&'a str],
 }
 
 impl Heading<'_> {
-    /// Whether it is a heading: it begins with no digit, which the time of a word does.
-    pub fn is_heading(&self) -> bool
-        ensures { result ≡ is_heading (names_in self.now) }
+    /// Whether it is a heading, if times are in this unit: it does not begin as the time of a word does.
+    pub fn is_heading(&self, unit: TimeUnit) -> bool
+        ensures { result ≡ is_heading unit (names_in self.now) }
     {
         let mut fields = Fields::of(self.mark, self.line);
         match fields.next() {
-            Some([first, ..]) => !first.is_ascii_digit(),
-            _ => true,
+            Some(first) => !can_be_time(unit, renamed(self.renames, first)),
+            None => !can_be_time(unit, &[]),
         }
     }
 
@@ -140,7 +143,7 @@ impl Heading<'_> {
             let Some(name) = fields.next() else {
                 return found;
             };
-            found = found.after(column, place, name);
+            found = found.after(column, place, renamed(self.renames, name));
         }
         found
     }
@@ -298,7 +301,7 @@ impl Heading<'_> {
     /// with one that it has twice or more.
     #[tactic(auto, unfolding(crate::specs::LogColumns::places_of))]
     pub fn places(&self) -> Result<Places, HeadingFault>
-        ensures { result ≡ places_of (names_in self.now) }
+        ensures { result ≡ places_of (width_of (fields_of self.now.mark self.now.line.now)) (names_in self.now) }
     {
         let time = self.place(Column::Time)?;
         let name = self.place(Column::Name)?;

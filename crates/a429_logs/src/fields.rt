@@ -20,6 +20,8 @@ pub enum Mark {
     Dash,
     /// In dates.
     Slash,
+    /// In dates.
+    Point,
 }
 
 impl Mark {
@@ -35,6 +37,7 @@ impl Mark {
             Mark::Colon => byte == b':',
             Mark::Dash => byte == b'-',
             Mark::Slash => byte == b'/',
+            Mark::Point => byte == b'.',
         }
     }
 

@@ -4,7 +4,8 @@
 //! channel, and its 32 bits; or the first line that is faulty, and why. Fields are separated by blanks, commas or
 //! semicolons, and may be in quotes. A heading may name the columns, and the unit of times. Titles above it are passed over, and
 //! so are lines after the last row that are no rows. `Reading` says the unit of times, from when on they are counted, and
-//! the order of bits. No call allocates memory.
+//! the order of bits. It may say whether the day or the month is first in dates, and what fields of a heading count as.
+//! No call allocates memory.
 //!
 //! ```text
 //! let mut reader = LogReader::open(reading, log);
@@ -18,13 +19,17 @@ mod calendars;
 mod cells;
 mod clocks;
 mod columns;
+mod dates;
+mod exponents;
 mod fields;
 mod gregorian;
 pub mod laws;
+mod orders;
 mod parts;
 mod reader;
 mod reading;
 mod rows;
+mod ticks;
 mod times;
 mod words;
 mod written;
@@ -39,3 +44,4 @@ pub use reading::{LineFault, Reading, Shape};
 pub use rows::{RowFault, StatedWord};
 pub use times::TimeUnit;
 pub use words::BitOrder;
+pub use written::DateOrder;

@@ -33,7 +33,7 @@ pub struct PassedOver {
 /// The words of a log, as long as some are left.
 #[derive(Clone, Copy)]
 pub struct LogReader<'a> {
-    reading: Reading,
+    reading: Reading<'a>,
     passed: PassedOver,
     lines: Parts<'a>,
     /// How many lines were taken.
@@ -54,8 +54,8 @@ impl<'a> LogReader<'a> {
 
     /// All lines of a log.
     #[tactic(auto, unfolding(crate::specs::LogsLeft::lines_left))]
-    fn of_lines(reading: Reading, text: &'a [u8]) -> LogReader<'a>
-        ensures reading { result.reading ≡ reading }
+    fn of_lines(reading: Reading<'a>, text: &'a [u8]) -> LogReader<'a>
+        ensures reading { result.reading ≡ reading.entry }
         ensures passed { result.passed ≡ record { titles = 0; tail = None } }
         ensures lines { lines_left result ≡ lines_of text.now }
     {
@@ -118,11 +118,11 @@ impl<'a> LogReader<'a> {
 
     /// All words of a log.
     #[tactic(auto, unfolding(crate::specs::Logs::log_entries, crate::specs::Logs::reading_after, crate::specs::Logs::without_titles, crate::specs::LogsLeft::tail_of, crate::specs::LogsLeft::titles_of))]
-    pub fn open(reading: Reading, text: &'a [u8]) -> LogReader<'a>
-        ensures entries { entries_left result ≡ log_entries reading text.now }
-        ensures after { reading_left result ≡ reading_after reading text.now }
-        ensures tail { tail_left result ≡ tail_of reading text.now }
-        ensures titles { titles_now result ≡ titles_of reading text.now }
+    pub fn open(reading: Reading<'a>, text: &'a [u8]) -> LogReader<'a>
+        ensures entries { entries_left result ≡ log_entries reading.entry text.now }
+        ensures after { reading_left result ≡ reading_after reading.entry text.now }
+        ensures tail { tail_left result ≡ tail_of reading.entry text.now }
+        ensures titles { titles_now result ≡ titles_of reading.entry text.now }
     {
         let lines = LogReader::of_lines(reading, text);
         match lines.at_heading() {
@@ -147,7 +147,7 @@ impl<'a> LogReader<'a> {
     }
 
     /// How the first line of the next log is read, once no word is left of this one.
-    pub fn for_next_log(&self) -> Reading
+    pub fn for_next_log(&self) -> Reading<'a>
         ensures { lines_left self.now ≡ [] → result ≡ reading_left self.now }
     {
         self.reading.for_next_log()

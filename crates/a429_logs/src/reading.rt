@@ -1,19 +1,20 @@
 //! The lines of a log.
-ghost use Rattle.std.specs.Prelude.{◌≡◌, IfSome, None, Ok, Some, false};
+ghost use Rattle.std.specs.Prelude.{◌≡◌, [], IfSome, None, Ok, Some, false};
 ghost use Rattle.a429_logs.specs.LogColumns.{plain_places};
 ghost use Rattle.a429_logs.specs.LogFields.{mark_in};
 ghost use Rattle.a429_logs.specs.Calendars.{shown_timed, timed_by};
 ghost use Rattle.a429_logs.specs.declared.calendars.Calendar.TheVariants.{Open};
 ghost use Rattle.a429_logs.specs.declared.words.BitOrder.TheVariants.{AsWritten};
-ghost use Rattle.a429_logs.specs.Logs.{has_time, is_no_row, is_passed_over, is_plain_row, is_short, names_columns, next_log, opening_line, read_first, read_line, read_row, shown_line, unit_for, with_calendar, word_of_row};
+ghost use Rattle.a429_logs.specs.Logs.{has_time, is_no_row, is_passed_over, is_plain_row, is_short, names_columns, next_log, opening_line, read_first, read_line, read_row, renames_of, shown_line, unit_for, with_calendar, word_of_row};
 
 use crate::calendars::{Calendar, TimedWord};
 use crate::clocks::Clock;
 use crate::columns::{Heading, HeadingFault, Places, Width, WordPlaces};
 use crate::fields::{Mark, trimmed};
 use crate::rows::{RowFault, StatedWord, field_at, quick_word, row_of};
-use crate::times::TimeUnit;
+use crate::times::{TimeUnit, can_be_time};
 use crate::words::BitOrder;
+use crate::written::DateOrder;
 
 /// What separates the fields of a log, and which columns it has.
 #[derive(Clone, Copy)]
@@ -44,14 +45,11 @@ impl Shape {
 }
 
 impl Shape {
-    /// Whether the field of a line in the column of times begins with a digit.
+    /// Whether the field of a line in the column of times can be a time.
     fn has_time(&self, line: &[u8]) -> bool
         ensures { result ≡ has_time self.now line.now }
     {
-        match field_at(self.mark, line, self.places.time) {
-            [first, ..] => first.is_ascii_digit(),
-            [] => false,
-        }
+        can_be_time(self.unit, field_at(self.mark, line, self.places.time))
     }
 
     /// Whether a line has fewer fields than the heading.
@@ -71,11 +69,15 @@ impl Shape {
 
 /// How the next line of a log is read.
 #[derive(Clone, Copy)]
-pub struct Reading {
+pub struct Reading<'a> {
     /// The unit of times, if it is given. Otherwise it is that of the heading, or the microsecond.
     pub unit: Option<TimeUnit>,
     /// The order in which the bits of whole words are written.
     pub order: BitOrder,
+    /// Texts FROM=TO. A field FROM of a heading counts as TO.
+    pub renames: &'a [&'a str],
+    /// Whether the day or the month is first in dates, if it is given. Otherwise rows show it.
+    pub dates: Option<DateOrder>,
     /// The form of rows. `None` before the first line that is not passed over.
     pub shape: Option<Shape>,
     /// Whether a row of the log was read.
@@ -116,16 +118,28 @@ pub fn is_passed_over(line: &[u8]) -> bool
     }
 }
 
-impl Reading {
+impl<'a> Reading<'a> {
     ghost use Rattle.a429_logs.specs.declared.reading.Shape.{Shape};
 
     /// How the first line of a log is read, if words are as they are written.
-    pub fn new(unit: Option<TimeUnit>, clock: Clock) -> Reading
-        ensures { result ≡ record { unit = unit; order = AsWritten; shape = None; has_rows = false; calendar = Open; clock = clock } }
+    pub fn new(unit: Option<TimeUnit>, clock: Clock) -> Reading<'a>
+        ensures reading { result ≡ record {
+          unit = unit;
+          order = AsWritten;
+          renames = result.renames;
+          dates = None;
+          shape = None;
+          has_rows = false;
+          calendar = Open;
+          clock = clock;
+        } }
+        ensures renames { renames_of result ≡ [] }
     {
         Reading {
             unit,
             order: BitOrder::AsWritten,
+            renames: &[],
+            dates: None,
             shape: None,
             has_rows: false,
             calendar: Calendar::Open,
@@ -134,10 +148,27 @@ impl Reading {
     }
 
     /// The same, if the bits of whole words are written in this order.
-    pub fn with_order(self, order: BitOrder) -> Reading
-        ensures { result ≡ record self { order = order } }
+    pub fn with_order(self, order: BitOrder) -> Reading<'a>
+        ensures { result ≡ record self.entry { order = order } }
     {
         Reading { order, ..self }
+    }
+
+    /// The same, if the fields of headings are renamed by these texts FROM=TO: a field FROM counts as TO.
+    pub fn with_renames(self, renames: &'a [&'a str]) -> Reading<'a>
+        ensures { result ≡ record self.entry { renames = renames.entry } }
+    {
+        Reading { renames, ..self }
+    }
+
+    /// The same, if the day or the month is first in dates. Without an order rows show it.
+    pub fn with_dates(self, order: Option<DateOrder>) -> Reading<'a>
+        ensures { result ≡ record self.entry { dates = order } }
+    {
+        Reading {
+            dates: order,
+            ..self
+        }
     }
 
     /// The unit of times, if a heading says this of it.
@@ -151,8 +182,8 @@ impl Reading {
     }
 
     /// How the first line of the next log is read, after this one: times go on, and the form is found again.
-    pub fn for_next_log(self) -> Reading
-        ensures { result ≡ next_log self }
+    pub fn for_next_log(self) -> Reading<'a>
+        ensures { result ≡ next_log self.entry }
     {
         Reading {
             shape: None,
@@ -162,17 +193,17 @@ impl Reading {
     }
 
     /// The word of a row in a form, with its time in microseconds, and the calendar after it.
-    fn word_of_row<'a>(&self, line: &'a [u8], shape: &Shape) -> Result<TimedWord<'a>, RowFault>
+    fn word_of_row<'b>(&self, line: &'b [u8], shape: &Shape) -> Result<TimedWord<'b>, RowFault>
         ensures { shown_timed result ≡ word_of_row self.now line.now shape.now }
     {
         match row_of(shape.unit, self.order, shape.mark, &shape.places, line) {
-            Ok(row) => self.calendar.timed(row),
+            Ok(row) => self.calendar.timed(self.dates, row),
             Err(why) => Err(why),
         }
     }
 
     /// What the first row states, which has this form.
-    fn row<'a>(&mut self, line: &'a [u8], shape: Shape) -> Result<Option<StatedWord<'a>>, LineFault>
+    fn row<'b>(&mut self, line: &'b [u8], shape: Shape) -> Result<Option<StatedWord<'b>>, LineFault>
         ensures { shown_line self.new result ≡ read_row self.old line.now shape }
     {
         let timed = match self.word_of_row(line, &shape) {
@@ -191,7 +222,7 @@ impl Reading {
     }
 
     /// What the row of a word states, by its time on the clock.
-    fn timed<'a>(&mut self, timed: TimedWord<'a>) -> Result<Option<StatedWord<'a>>, LineFault>
+    fn timed<'b>(&mut self, timed: TimedWord<'b>) -> Result<Option<StatedWord<'b>>, LineFault>
         ensures { (shape : Shape) → self.old.shape ≡ Some shape
             → shown_line self.new result ≡ with_calendar self.old shape (Ok (timed_by timed.entry)) }
     {
@@ -206,7 +237,7 @@ impl Reading {
     }
 
     /// What a row states that is read quickly. `None` if it is not.
-    fn quick<'a>(&self, line: &'a [u8], shape: &Shape) -> Option<TimedWord<'a>>
+    fn quick<'b>(&self, line: &'b [u8], shape: &Shape) -> Option<TimedWord<'b>>
         ensures { IfSome result (λ timed. word_of_row self.now line.now shape.now ≡ Ok (timed_by timed)) }
     {
         if !self.calendar.is_of_units() {
@@ -220,13 +251,20 @@ impl Reading {
     }
 
     /// The word of the first line that is not passed over; none if it is a heading.
-    fn first<'a>(&mut self, line: &'a [u8]) -> Result<Option<StatedWord<'a>>, LineFault>
+    #[cold]
+    #[inline(never)]
+    fn first<'b>(&mut self, line: &'b [u8]) -> Result<Option<StatedWord<'b>>, LineFault>
         ensures { shown_line self.new result ≡ read_first self.old line.now (mark_in line.now) }
     {
         let mark = Mark::in_line(line);
-        let heading = Heading { mark, line };
-        if !heading.is_heading() {
-            return self.row(line, Shape::plain(mark, self.unit_for(None)));
+        let heading = Heading {
+            mark,
+            line,
+            renames: self.renames,
+        };
+        let unit = self.unit_for(None);
+        if !heading.is_heading(unit) {
+            return self.row(line, Shape::plain(mark, unit));
         }
         match heading.places() {
             Ok(places) => {
@@ -239,14 +277,15 @@ impl Reading {
     }
 
     /// Whether a line is a heading without a fault.
-    fn names_columns(line: &[u8]) -> bool
-        ensures { result ≡ names_columns line.now }
+    fn names_columns(&self, line: &[u8]) -> bool
+        ensures { result ≡ names_columns self.now line.now }
     {
         let heading = Heading {
             mark: Mark::in_line(line),
             line,
+            renames: self.renames,
         };
-        heading.is_heading() && heading.places().is_ok()
+        heading.is_heading(self.unit_for(None)) && heading.places().is_ok()
     }
 
     /// Whether a line is a row of a log without a heading.
@@ -264,7 +303,7 @@ impl Reading {
     {
         if is_passed_over(line) {
             OpeningLine::Passed
-        } else if Reading::names_columns(line) {
+        } else if self.names_columns(line) {
             OpeningLine::Columns
         } else if self.is_plain_row(line) {
             OpeningLine::FirstRow
@@ -275,7 +314,7 @@ impl Reading {
 
     /// What a line states: a word, or `None` if it is passed over or is a heading. Error: what is wrong with the line.
     #[tactic(auto, unfolding(crate::specs::Logs::read_line))]
-    pub fn read<'a>(&mut self, line: &'a [u8]) -> Result<Option<StatedWord<'a>>, LineFault>
+    pub fn read<'b>(&mut self, line: &'b [u8]) -> Result<Option<StatedWord<'b>>, LineFault>
         ensures { shown_line self.new result ≡ read_line self.old line.now }
     {
         if is_passed_over(line) {

@@ -1,17 +1,23 @@
 //! The rows of a log: a time, a name and a word.
 ghost use Rattle.std.specs.Prelude.{◌≡◌, IfSome, Ok, option_map, true};
+ghost use Rattle.a429_logs.specs.LateDates.{late_time};
 ghost use Rattle.a429_logs.specs.LogColumns.{plain_places};
+ghost use Rattle.a429_logs.specs.LogDates.{or_second};
+ghost use Rattle.a429_logs.specs.LogExponents.{exponent_time};
 ghost use Rattle.a429_logs.specs.LogFields.{fields_of};
-ghost use Rattle.a429_logs.specs.LogRows.{caught, caught_in, field_at, in_micros, parts_word, row_of, row_parity, shown, shown_written, stated_by, word_in, word_place};
+ghost use Rattle.a429_logs.specs.LogRows.{caught, caught_in, field_at, in_micros, parts_word, row_of, row_parity, shown, shown_written, stated_by, word_in, word_place, written_time};
 ghost use Rattle.a429_logs.specs.declared.fields.Mark.TheVariants.{Blank};
 ghost use Rattle.a429_logs.specs.declared.times.TimeUnit.TheVariants.{Microseconds};
+ghost use Rattle.a429_logs.specs.declared.written.WrittenTime.TheVariants.{Micros};
 
 use crate::columns::{PartsPlaces, Places, Width, WordPlaces};
+use crate::dates::late_time;
+use crate::exponents::exponent_time;
 use crate::fields::{Fields, Mark, Parts, has_quotes};
 use crate::parts::{WrittenParity, parity_in, ssm_in, written_word};
-use crate::times::{TimeUnit, decimal_digits};
+use crate::times::{TimeUnit, decimal_digits, time_of};
 use crate::words::{BitOrder, label_in, two_bits, value_in, whole_word};
-use crate::written::{WrittenTime, written_time};
+use crate::written::{WrittenTime, calendar_time};
 
 /// What is wrong with a row.
 #[derive(Clone, Copy)]
@@ -20,6 +26,8 @@ pub enum RowFault {
     Fields,
     /// Its time is none: neither one in the unit of the log nor one by a calendar, or not of the form of the first time.
     Time,
+    /// Its date can be read with the day or the month first, and no row before shows it.
+    DateOrder,
     /// Its word is not eight hexadecimal digits.
     Word,
     /// Its label is no number of eight bits.
@@ -217,6 +225,33 @@ pub fn quick_word<'a>(
         plain_row(order, line)
     } else {
         None
+    }
+}
+
+/// The time that a text writes by a date with the year last, or as a number with an exponent.
+#[cold]
+#[inline(never)]
+fn longer_time(unit: TimeUnit, mark: Mark, text: &[u8]) -> Option<WrittenTime>
+    ensures { result ≡ or_second (late_time mark text.now) (option_map Micros (exponent_time unit mark text.now)) }
+{
+    match late_time(mark, text) {
+        Some(time) => Some(time),
+        None => Some(WrittenTime::Micros(exponent_time(unit, mark, text)?)),
+    }
+}
+
+/// The time that a text writes: digits in this unit, a time by a calendar, or a number with an exponent. `None` if it
+/// writes none.
+#[tactic(auto, unfolding(crate::specs::LogRows::written_time))]
+fn written_time(unit: TimeUnit, mark: Mark, text: &[u8]) -> Option<WrittenTime>
+    ensures { result ≡ written_time unit mark text.now }
+{
+    if let Some(micros) = time_of(unit, mark, text) {
+        return Some(WrittenTime::Micros(micros));
+    }
+    match calendar_time(mark, text) {
+        Some(time) => Some(time),
+        None => longer_time(unit, mark, text),
     }
 }
 

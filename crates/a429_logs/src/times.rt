@@ -1,11 +1,12 @@
 //! The time of a word in a log.
-ghost use Rattle.std.specs.Prelude.{◌≡◌, ◌≤◌, ◌<◌, ◌+◌, ◌*◌, ◌^◌, [], get_or, length, position, true};
+ghost use Rattle.std.specs.Prelude.{◌≡◌, ◌≤◌, ◌<◌, ◌+◌, ◌*◌, ◌^◌, [], IfSome, get_or, length, position, true};
 ghost use Rattle.std.specs.List.{list_all};
 ghost use Rattle.std.specs.Char.{is_ascii_digit};
 ghost use Rattle.std.specs.Str.Parse.{digits_value};
-ghost use Rattle.a429_logs.specs.LogTimes.{decimal_digits, decimals, has_fractions, in_micros, is_fraction, is_point, is_whole, micros, parted_time, time_of, whole_time};
+ghost use Rattle.a429_logs.specs.LogTimes.{begins_with_digit, can_be_time, decimal_digits, decimal_time, decimals, has_fractions, in_micros, is_fraction, is_point, is_whole, micros, parted_time, time_of, two_digits, whole_time, within};
 
 use crate::fields::Mark;
+use crate::ticks::{tick_count, tick_time};
 
 /// The unit of the times in a log.
 #[derive(Clone, Copy, PartialEq, Eq)]
@@ -15,17 +16,20 @@ pub enum TimeUnit {
     Microseconds,
     Milliseconds,
     Seconds,
+    /// A time is a count in hexadecimal digits. Each count lasts this number of nanoseconds.
+    Ticks(u32),
 }
 
 impl TimeUnit {
     /// How many decimals of this unit are microseconds.
-    fn decimals(self) -> usize
-        ensures { result ≡ decimals self }
+    pub fn decimals(self) -> usize
+        ensures value { result ≡ decimals self }
+        ensures few { result ≤ 6 }
     {
         match self {
-            TimeUnit::Nanoseconds | TimeUnit::Microseconds => 0,
             TimeUnit::Milliseconds => 3,
             TimeUnit::Seconds => 6,
+            _ => 0,
         }
     }
 
@@ -34,7 +38,7 @@ impl TimeUnit {
         ensures { result ≡ has_fractions self }
     {
         match self {
-            TimeUnit::Microseconds => false,
+            TimeUnit::Microseconds | TimeUnit::Ticks(_) => false,
             _ => true,
         }
     }
@@ -68,7 +72,7 @@ pub fn first_point(mark: Mark, text: &[u8]) -> Option<usize>
 }
 
 /// Whether each byte is a decimal digit.
-fn are_digits(text: &[u8]) -> bool
+pub fn are_digits(text: &[u8]) -> bool
     ensures { result ≡ list_all is_ascii_digit text.now }
 {
     text.iter().all(|byte| byte.is_ascii_digit())
@@ -92,7 +96,7 @@ fn is_fraction(unit: TimeUnit, fraction: &[u8]) -> bool
 }
 
 /// A digit of a fraction; one that is not there is 0.
-fn digit_at(fraction: &[u8], place: usize) -> u8
+pub fn digit_at(fraction: &[u8], place: usize) -> u8
     ensures { result ≡ get_or fraction.now place 48 }
 {
     match fraction.get(place) {
@@ -131,6 +135,30 @@ pub fn decimal_digits(text: &[u8]) -> Option<u64>
     Some(value)
 }
 
+/// A number, if it is from the least to the most.
+pub fn within(least: u64, most: u64, number: Option<u64>) -> Option<u64>
+    ensures value { result ≡ within least most number }
+    ensures low { IfSome result (λ n. least ≤ n) }
+    ensures high { IfSome result (λ n. n ≤ most) }
+{
+    match number {
+        Some(number) if least <= number && number <= most => Some(number),
+        _ => None,
+    }
+}
+
+/// The number that one digit or two state, up to the most. `None` for any other text.
+pub fn two_digits(most: u64, text: &[u8]) -> Option<u64>
+    ensures value { result ≡ two_digits most text.now }
+    ensures high { IfSome result (λ n. n ≤ most) }
+{
+    if text.len() <= 2 {
+        within(0, most, decimal_digits(text))
+    } else {
+        None
+    }
+}
+
 /// The microseconds that whole units and the decimals below them state.
 fn micros(unit: TimeUnit, whole: &[u8], fraction: &[u8]) -> u64
     requires whole { is_whole unit whole.now ≡ true }
@@ -166,14 +194,44 @@ fn parted_time(unit: TimeUnit, whole: &[u8], fraction: &[u8]) -> Option<u64>
     }
 }
 
-/// The time in microseconds, below 10^18, that a text states in a unit. Decimals below a microsecond are dropped.
-/// `None` if the text is no time.
-#[tactic(auto, unfolding(crate::specs::LogTimes::time_of))]
-pub fn time_of(unit: TimeUnit, mark: Mark, text: &[u8]) -> Option<u64>
-    ensures { result ≡ time_of unit mark text.now }
+/// The time in microseconds, below 10^18, that a decimal number of a unit states. Decimals below a microsecond are
+/// dropped. `None` if the text is no such number.
+#[tactic(auto, unfolding(crate::specs::LogTimes::decimal_time))]
+pub fn decimal_time(unit: TimeUnit, mark: Mark, text: &[u8]) -> Option<u64>
+    ensures { result ≡ decimal_time unit mark text.now }
 {
     match first_point(mark, text) {
         None => whole_time(unit, text),
         Some(point) => parted_time(unit, &text[..point], &text[point + 1..]),
+    }
+}
+
+/// The time in microseconds, below 10^18, that a text states in a unit. `None` if the text is no time.
+pub fn time_of(unit: TimeUnit, mark: Mark, text: &[u8]) -> Option<u64>
+    ensures { result ≡ time_of unit mark text.now }
+{
+    match unit {
+        TimeUnit::Ticks(nanoseconds) => tick_time(nanoseconds, text),
+        _ => decimal_time(unit, mark, text),
+    }
+}
+
+/// Whether a text begins with a digit.
+fn begins_with_digit(text: &[u8]) -> bool
+    ensures { result ≡ begins_with_digit text.now }
+{
+    match text {
+        [first, ..] => first.is_ascii_digit(),
+        [] => false,
+    }
+}
+
+/// Whether a field can be a time: it begins with a digit, or it is a count of ticks and that is the unit.
+pub fn can_be_time(unit: TimeUnit, field: &[u8]) -> bool
+    ensures { result ≡ can_be_time unit field.now }
+{
+    match unit {
+        TimeUnit::Ticks(_) => begins_with_digit(field) || tick_count(field).is_some(),
+        _ => begins_with_digit(field),
     }
 }

@@ -1,21 +1,13 @@
 //! Words of a log, whole or by their fields.
 ghost use Rattle.std.specs.Prelude.{◌≡◌, ◌<◌, ◌^◌, IfSome, true};
-ghost use Rattle.a429_logs.specs.LogRows.{as_value, digits_onto, hex_number, is_digit_of, label_in, next_value, small_number, two_bits, unreversed, value_after, value_in, whole_word, with_parity, without_prefix, word_bits};
+ghost use Rattle.a429_logs.specs.LogRows.{as_value, digits_onto, hex_number, is_digit_of, label_in, next_value, small_number, two_bits, unreversed, value_after, value_in, whole_word, with_parity, word_bits};
+ghost use Rattle.a429_logs.specs.LogTicks.{without_prefix};
 ghost use Rattle.a429_logs.specs.LogTimes.{decimal_digits};
 
 use crate::columns::Base;
+use crate::ticks::without_prefix;
 use crate::times::decimal_digits;
 use a429_word::{Label, Sdi, Ssm, Word, raw_word};
-
-/// Digits without `0x` before them.
-fn without_prefix(text: &[u8]) -> &[u8]
-    ensures { result.now ≡ without_prefix text.now }
-{
-    match text {
-        [b'0', b'x' | b'X', digits @ ..] => digits,
-        _ => text,
-    }
-}
 
 /// The 32 bits of eight hexadecimal digits, in either case. They may come after `0x`. `None` for any other text.
 #[tactic(auto, unfolding(crate::specs::LogRows::whole_word))]

@@ -1,12 +1,12 @@
 //! Times of day, times of the year and dates, as a log writes them.
 ghost use Rattle.std.specs.Prelude.{◌≡◌, ◌≤◌, ◌<◌, ◌*◌, IfSome, option_map, position};
-ghost use Rattle.a429_logs.specs.LogDates.{or_second, calendar_time, clock_time, date_of, dated_time, day_of, day_time, digits_within, hour_of, is_date_end, seconds_of, shown_three, three_of, time_of_day, within, without_zone, written_time, year_time};
+ghost use Rattle.a429_logs.specs.LogDates.{or_second, calendar_time, clock_time, date_of, dated_time, day_of, day_time, digits_within, hour_of, is_date_end, seconds_of, shown_three, three_of, time_of_day, without_zone, year_time};
 ghost use Rattle.a429_logs.specs.LogFields.{parts_left, parts_of};
 ghost use Rattle.a429_logs.specs.declared.fields.Mark.TheVariants.{Dash, Slash};
 
 use crate::fields::{Mark, Parts};
 use crate::gregorian::{days_before, is_leap, month_length};
-use crate::times::{TimeUnit, decimal_digits, first_point, time_of};
+use crate::times::{TimeUnit, decimal_digits, decimal_time, first_point, two_digits, within};
 
 /// The microseconds of a minute.
 const MINUTE: u64 = 60_000_000;
@@ -21,6 +21,22 @@ pub struct Date {
     pub time: u64,
 }
 
+/// Which of the two numbers of a date comes first.
+#[derive(Clone, Copy, PartialEq, Eq)]
+pub enum DateOrder {
+    DayFirst,
+    MonthFirst,
+}
+
+/// Two numbers, of which one is the day and one the month, a year, and a time of day: microseconds from midnight.
+#[derive(Clone, Copy)]
+pub struct NumberedDate {
+    pub first: u8,
+    pub second: u8,
+    pub year: u16,
+    pub time: u64,
+}
+
 /// A time as a row writes it.
 #[derive(Clone, Copy)]
 pub enum WrittenTime {
@@ -31,6 +47,7 @@ pub enum WrittenTime {
     /// A time of the year: microseconds from its beginning.
     OfYear(u64),
     OfDate(Date),
+    OfNumbers(NumberedDate),
 }
 
 /// Three parts of a text.
@@ -42,7 +59,7 @@ pub struct ThreeParts<'a> {
 }
 
 /// The parts that are left. `None` if these are not three.
-fn three_of(mut parts: Parts<'_>) -> Option<ThreeParts<'_>>
+pub fn three_of(mut parts: Parts<'_>) -> Option<ThreeParts<'_>>
     ensures { option_map shown_three result ≡ three_of (parts_left parts.entry) }
 {
     let first = parts.next()?;
@@ -58,20 +75,8 @@ fn three_of(mut parts: Parts<'_>) -> Option<ThreeParts<'_>>
     })
 }
 
-/// A number, if it is from the least to the most.
-fn within(least: u64, most: u64, number: Option<u64>) -> Option<u64>
-    ensures value { result ≡ within least most number }
-    ensures low { IfSome result (λ n. least ≤ n) }
-    ensures high { IfSome result (λ n. n ≤ most) }
-{
-    match number {
-        Some(number) if least <= number && number <= most => Some(number),
-        _ => None,
-    }
-}
-
 /// A number of this many decimal digits, from the least to the most.
-fn digits_within(count: usize, least: u64, most: u64, text: &[u8]) -> Option<u64>
+pub fn digits_within(count: usize, least: u64, most: u64, text: &[u8]) -> Option<u64>
     ensures value { result ≡ digits_within count least most text.now }
     ensures low { IfSome result (λ n. least ≤ n) }
     ensures high { IfSome result (λ n. n ≤ most) }
@@ -88,11 +93,7 @@ fn hour_of(text: &[u8]) -> Option<u64>
     ensures value { result ≡ hour_of text.now }
     ensures few { IfSome result (λ n. n ≤ 23) }
 {
-    if text.len() <= 2 {
-        within(0, 23, decimal_digits(text))
-    } else {
-        None
-    }
+    two_digits(23, text)
 }
 
 /// The microseconds of seconds of two digits, 00 to 59, and their decimals.
@@ -101,7 +102,7 @@ fn seconds_of(mark: Mark, text: &[u8]) -> Option<u64>
     ensures few { IfSome result (λ n. n ≤ 59999999) }
 {
     if first_point(mark, text).unwrap_or(text.len()) == 2 {
-        within(0, 59_999_999, time_of(TimeUnit::Seconds, mark, text))
+        within(0, 59_999_999, decimal_time(TimeUnit::Seconds, mark, text))
     } else {
         None
     }
@@ -120,7 +121,7 @@ fn time_of_day(mark: Mark, parts: &ThreeParts<'_>) -> Option<u64>
 
 /// The microseconds from midnight that `HH:MM:SS` states, with decimals or without.
 #[tactic(auto, unfolding(crate::specs::LogDates::day_time))]
-fn day_time(mark: Mark, parts: Parts<'_>) -> Option<u64>
+pub fn day_time(mark: Mark, parts: Parts<'_>) -> Option<u64>
     ensures value { result ≡ day_time mark (parts_left parts.entry) }
     ensures few { IfSome result (λ n. n < 86400000000) }
 {
@@ -169,7 +170,7 @@ fn day_of(parts: &ThreeParts<'_>) -> Option<Date>
 }
 
 /// The year, the month and the day of a date.
-fn date_parts(text: &[u8]) -> Option<ThreeParts<'_>>
+pub fn date_parts(text: &[u8]) -> Option<ThreeParts<'_>>
     ensures { option_map shown_three result ≡ or_second (three_of (parts_of Dash text.now)) (three_of (parts_of Slash text.now)) }
 {
     match three_of(Parts::of(Mark::Dash, text)) {
@@ -189,7 +190,7 @@ fn date_of(text: &[u8]) -> Option<Date>
 }
 
 /// A text without the `Z` at its end, if it has one.
-fn without_zone(text: &[u8]) -> &[u8]
+pub fn without_zone(text: &[u8]) -> &[u8]
     ensures { result.now ≡ without_zone text.now }
 {
     let end = text.len().saturating_sub(1);
@@ -213,7 +214,7 @@ fn dated_time(mark: Mark, date: &[u8], time: &[u8]) -> Option<WrittenTime>
 }
 
 /// Whether a byte comes between a date and its time of day.
-fn is_date_end(byte: u8) -> bool
+pub fn is_date_end(byte: u8) -> bool
     ensures { result ≡ is_date_end byte }
 {
     byte == b'T' || byte == b' '
@@ -228,22 +229,11 @@ fn date_end(text: &[u8]) -> Option<usize>
 
 /// A time of day, a time of the year, or a date with a time of day. `None` if the text has none of these forms.
 #[tactic(auto, unfolding(crate::specs::LogDates::calendar_time))]
-fn calendar_time(mark: Mark, text: &[u8]) -> Option<WrittenTime>
+pub fn calendar_time(mark: Mark, text: &[u8]) -> Option<WrittenTime>
     ensures { result ≡ calendar_time mark text.now }
 {
     match date_end(text) {
         None => clock_time(mark, text),
         Some(place) => dated_time(mark, &text[..place], &text[place + 1..]),
-    }
-}
-
-/// The time that a text writes: digits in this unit, or a time by a calendar. `None` if it writes none.
-#[tactic(auto, unfolding(crate::specs::LogDates::written_time))]
-pub fn written_time(unit: TimeUnit, mark: Mark, text: &[u8]) -> Option<WrittenTime>
-    ensures { result ≡ written_time unit mark text.now }
-{
-    match time_of(unit, mark, text) {
-        Some(micros) => Some(WrittenTime::Micros(micros)),
-        None => calendar_time(mark, text),
     }
 }

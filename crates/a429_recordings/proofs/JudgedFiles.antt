@@ -4,7 +4,7 @@ use Rattle.std.specs.Prelude.{Err, None, Ok, Option, Result, false}
 use Rattle.a429_logs.specs.declared.reading.Reading.{Reading}
 use Rattle.a429_slots.specs.Proposed.{Proposed}
 use Rattle.a429_console.specs.Names.{naming_of}
-use Rattle.a429_console.specs.Tables.{IsProposedBy}
+use Rattle.a429_given.specs.GivenPlans.{IsGivenPlan}
 use Rattle.a429_console.specs.declared.refusals.CommandRefusal.{CommandRefusal}
 use Rattle.a429_console.specs.declared.refusals.CommandRefusal.TheVariants as refused
 use Rattle.a429_console.specs.RefusalText.{OrMemory}
@@ -33,7 +33,7 @@ unprinted q i f clock e all narrow may bad =
     or_memory_weaker (IsNoRecording q (aligned_by clock i) f.reading) (IsUnjudgedOf q i f) e (λ one. inr (all, inr (narrow, (clock, may, one)))) bad
 
 -- the bytes of the table have this plan
-pub judged_of : (q : Proposed) (i : BoxFiles (List ℕ)) (f : JudgeForm) (result : Result Judged CommandRefusal) → IsProposedBy i.table q → IsJudgingOf q i f result → IsJudging i f result
+pub judged_of : (q : Proposed) (i : BoxFiles (List ℕ)) (f : JudgeForm) (result : Result Judged CommandRefusal) → IsGivenPlan i.table q → IsJudgingOf q i f result → IsJudging i f result
 judged_of q i f (Ok j) proposed is = (q, proposed, is)
 judged_of q i f (Err e) proposed bad = or_memory_weaker (IsUnjudgedOf q i f) (IsUnjudged i f) e (λ one. inr (q, proposed, one)) bad
 

@@ -23,6 +23,7 @@ use Rattle.a429_slots.specs.Tables.{groups_of, outputs_of, placed_at}
 use Rattle.a429_slots.specs.declared.answers.Answer.{Answer}
 use Rattle.a429_slots.specs.declared.answers.Answer.TheVariants.{Accepted, Sent, Changed, Published, Refused}
 use Rattle.a429_core.specs.Latency.{OpeningWordsGoOutInTime}
+use Rattle.a429_given.proofs.GivenStations.{given_station}
 use Rattle.a429_recordings.specs.Simulating.{Step, Asks, Comes, Turns, answer_after, happening_after, happening_by, happenings_after, happenings_of, last_word, listed, source_in, steps_of, times_of}
 use Rattle.a429_recordings.specs.Summary.{greatest_in, group_rows, is_first_of, lateness, latenesses, latenesses_from, number_field, send_in, sends_of, summary_row}
 use Rattle.a429_recordings.specs.SummaryLaws.{IsWithinBound, WordsAreWithinBounds}
@@ -198,6 +199,7 @@ sound_by bytes t is = by_root (root_of (document bytes)) is
 
 pub words_within : PlansInForceAreSpaced → OpeningWordsGoOutInTime → WordsAreWithinBounds
 words_within force out table q words last M proposed timeline =
-    let sound = sound_by table q.station proposed.0 in
+    let given = given_station table.plan table.table q proposed in
+    let sound = sound_by table.table q.station given.0 in
     all_ranges IsWithinBound (group_rows q (happenings_of q (steps_of q M))) 0 (length (groups_of q.plan)) (λ g below. all_range IsWithinBound (summary_row q (happenings_of q (steps_of q M)) g) 0 (length (outputs_of (table_of q g)))
-    (λ n within. row_within q sound proposed.1 force out words last M timeline g (omega (arith, below)) n (omega (arith, within))))
+    (λ n within. row_within q sound given.1 force out words last M timeline g (omega (arith, below)) n (omega (arith, within))))

@@ -10,6 +10,7 @@ use Rattle.a429_console.specs.Files.{bytes_of}
 use Rattle.a429_console.specs.Lines.{entries_before}
 use Rattle.a429_console.specs.RefusalText.{OrMemory}
 use Rattle.a429_console.specs.declared.refusals.CommandRefusal.{CommandRefusal}
+use Rattle.a429_console.specs.declared.refusals.CommandRefusal.TheVariants as refused
 use Rattle.a429_console.proofs.EntryLines.{entries_before-nil}
 use Rattle.a429_recordings.specs.LogItems.{AreKept, IsItemFault, IsKept, RefusesLog, items_from, items_of, items_then}
 use Rattle.a429_recordings.specs.LogViews.{items_by}
@@ -32,9 +33,22 @@ module _ {A : Type 0} (item : Stated → Option (List A)) where
       ∙ ap (λ (l : List A). entries_before l (items_from item later)) (sym added)
 
   -- a word that is refused
-  pub kept_none : (all : Result (List A) ℕ) (done : List A) (w : WordAt) (later : List (Result WordAt LogFault))
+  kept_none : (all : Result (List A) ℕ) (done : List A) (w : WordAt) (later : List (Result WordAt LogFault))
       → all ≡ entries_before done (items_from item (Ok w ∷ later)) → item w.word ≡ None → all ≡ Err w.line
   kept_none all done w later before is = before ∙ ap (λ (o : Option (List A)). entries_before done (items_then w.line o (items_from item later))) is
+
+  -- a fault after some items is one without them
+  fault_left : (done : List A) (r : Result (List A) ℕ) (n : ℕ) → entries_before done r ≡ Err n → r ≡ Err n
+  fault_left done (Ok items) n is = absurd (cc is)
+  fault_left done (Err m) n is = is
+
+  -- a log that has a word that is refused
+  pub refuses_word : (reading : Reading) (text : List ℕ) (start done : List A) (w : WordAt) (later : List (Result WordAt LogFault)) (e : CommandRefusal)
+      → entries_before start (items_from item (log_entries reading text)) ≡ entries_before done (items_from item (Ok w ∷ later))
+      → item w.word ≡ None → e ≡ refused.LogLine w.line → RefusesLog item reading text e
+  refuses_word reading text start done w later e before is named =
+      let all = items_from item (log_entries reading text) in
+      inr (w.line, named, fault_left start all w.line (kept_none (entries_before start all) done w later before is))
 
   -- some items and then others, or the first fault
   abbrev joined : Result (List A) ℕ → Result (List A) ℕ → Result (List A) ℕ

@@ -5,6 +5,7 @@ use Rattle.std.specs.Io.KnownBytes.{Appends, append_known}
 use Rattle.a429_slots.specs.Proposed.{Proposed}
 use Rattle.a429_console.specs.Outputs.{OrNoMemory, ending, memory_refused, status_of}
 use Rattle.a429_console.specs.declared.refusals.CommandRefusal.TheVariants as refused
+use Rattle.a429_given.specs.GivenTables.{TableTexts}
 use Rattle.a429_recordings.specs.LogViews.{View}
 use Rattle.a429_recordings.specs.SimulationReplies.{ArePrinted, AreSimulationFiles, IsPrinting, IsSimulated, IsSimulation, IsWritten, SimulationFiles, heading}
 use Rattle.a429_recordings.specs.Simulating.{text_of}
@@ -29,7 +30,7 @@ heading_first old mid new head text bytes end lines last =
     Appends-ended old mid new text (head ++ bytes) end (Appends-then (append_known old []) (append_known old head) (append_known mid text) head bytes (Appends-text old [] head) lines) last
 
 -- what a simulation that begins so prints, as the reply to these files
-pub simulated_reply : (file : List ℕ → Option (List ℕ)) (table : List ℕ) (log : List (List ℕ)) (view : View) (form : SimulationForm) (i : SimulationFiles) (q : Proposed) (words : List LogWord)
+pub simulated_reply : (file : List ℕ → Option (List ℕ)) (table : TableTexts) (log : List (List ℕ)) (view : View) (form : SimulationForm) (i : SimulationFiles) (q : Proposed) (words : List LogWord)
     → AreSimulationFiles file table log view i → IsSimulated i form.reading q words → (status : ℕ) (bytes : List ℕ)
     → OrNoMemory (IsWritten q words (end_of q words form.until) form.summary form.style form.form) status bytes → IsSimulation file table log view form status bytes
 simulated_reply file table log view form i q words read simulated status bytes (inl printing) = inr (i, q, words, read, simulated, printing)

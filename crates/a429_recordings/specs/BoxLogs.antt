@@ -18,7 +18,7 @@ use Rattle.a429_console.specs.RefusalText.{OrMemory}
 use Rattle.a429_console.specs.declared.refusals.CommandRefusal.{CommandRefusal}
 use Rattle.a429_console.specs.declared.refusals.CommandRefusal.TheVariants as refused
 use Rattle.a429_recordings.specs.LogItems.{IsItemFault, items_of, reading_behind}
-use Rattle.a429_recordings.specs.LogViews.{View, viewed}
+use Rattle.a429_recordings.specs.LogViews.{View, view_after, viewed}
 use Rattle.a429_recordings.specs.declared.judge.words.BoxLog.{BoxLog}
 use Rattle.a429_recordings.specs.declared.judge.words.BoxLog.TheVariants as log
 use Rattle.a429_recordings.specs.declared.judge.words.BoxWord.{BoxWord}
@@ -88,6 +88,10 @@ overlap words other = begins_by words other && begins_by other words
 abbrev pub IsLogsReading : (Stated → Option (List BoxWord)) → Reading → List (List ℕ) → Result BoxWords CommandRefusal → Type 0
 IsLogsReading item reading texts result =
     MatchResult result (λ read. (items_of item reading texts ≡ Ok read.words.items) × (read.next ≡ reading_behind reading texts)) (OrMemory (IsItemFault item reading texts))
+
+-- the words of what was sent, in logs after those that are read so
+abbrev pub IsSentReading : Naming → View → Reading → List (List ℕ) → Result BoxWords CommandRefusal → Type 0
+IsSentReading names view after texts result = IsLogsReading (box_word_by names (view_after after view) log.Sent) (restarted after) texts result
 
 -- no word comes before the one above it, nor before this time
 abbrev pub AreFrom : ℕ → List BoxWord → Type 0

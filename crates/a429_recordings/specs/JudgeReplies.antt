@@ -7,7 +7,7 @@ use Rattle.a429_text.specs.declared.sheets.SheetForm.{SheetForm}
 use Rattle.a429_logs.specs.LogRows.{Stated}
 use Rattle.a429_logs.specs.declared.reading.Reading.{Reading}
 use Rattle.a429_slots.specs.Proposed.{Proposed}
-use Rattle.a429_console.specs.FileReadings.{AreReadLogs, IsFileRefusal, IsFirstUnreadLog, readable}
+use Rattle.a429_console.specs.FileReadings.{AreReadLogs, IsFirstUnreadLog}
 use Rattle.a429_console.specs.Files.{bytes_of}
 use Rattle.a429_arguments.specs.Texts.{texts_of}
 use Rattle.a429_arguments.specs.Tolerances.{tolerance_group}
@@ -15,7 +15,9 @@ use Rattle.a429_console.specs.Names.{Naming, naming_of, number_named}
 use Rattle.a429_console.specs.RefusalText.{OrMemory}
 use Rattle.a429_arguments.specs.Given.{Given, form_of, has_given}
 use Rattle.a429_arguments.specs.declared.options.OptionName.TheVariants as option
-use Rattle.a429_console.specs.Tables.{IsGroupRefusal, IsProposedBy, IsTableRefusal}
+use Rattle.a429_console.specs.Tables.{IsGroupRefusal}
+use Rattle.a429_given.specs.GivenPlans.{IsGivenPlan, IsNoGivenPlan}
+use Rattle.a429_given.specs.GivenTables.{IsTableRead, IsTableUnread, TableTexts, table_names, table_texts}
 use Rattle.a429_console.specs.declared.refusals.CommandRefusal.{CommandRefusal}
 use Rattle.a429_console.specs.declared.refusals.CommandRefusal.TheVariants as refused
 use Rattle.a429_align.specs.declared.search.Alignment.{Alignment}
@@ -24,7 +26,7 @@ use Rattle.a429_recordings.specs.BoxLogs.{box_word_by, overlap, recording_of, re
 use Rattle.a429_recordings.specs.JudgedPlans.{event_columns, is_any_wide, is_found, judge_columns, judge_events, judged_rows}
 use Rattle.a429_recordings.specs.LogItems.{IsItemFault, PassesNone, items_of, reading_behind}
 use Rattle.a429_recordings.specs.LogViews.{View, view_after, view_of}
-use Rattle.a429_recordings.specs.SimulationReplies.{reading_for}
+use Rattle.a429_recordings.specs.SimulationReplies.{IsReadingFor}
 use Rattle.a429_recordings.specs.declared.judge.JudgeForm.{JudgeForm}
 use Rattle.a429_recordings.specs.declared.judge.JudgeInput.{JudgeInput}
 use Rattle.a429_recordings.specs.declared.judge.JudgeNames.{JudgeNames}
@@ -36,16 +38,18 @@ use Rattle.a429_recordings.specs.declared.logs.views.ClockMove.{ClockMove}
 use Rattle.a429_recordings.specs.declared.judge.words.BoxLog.TheVariants as log
 use Rattle.a429_recordings.specs.declared.judge.words.BoxWord.{BoxWord}
 
--- what the options ask for
-abbrev pub judge_form : Given → JudgeForm
-judge_form given = record { events = has_given given option.Events; form = form_of given; reading = reading_for given }
+-- the form is what the options ask for
+pub record IsJudgeForm (given : Given) (f : JudgeForm) : Type 0 where
+  pub events : f.events ≡ has_given given option.Events
+  pub form : f.form ≡ form_of given
+  pub reading : IsReadingFor given f.reading
 
 -- ---- files
 
 -- the names of the files: a table, the logs of what came in, and those of what was sent; or their bytes. And which words of either are taken, whether the
 -- clock of what was sent is looked for, and the tolerances that are given.
 pub record BoxFiles (A : Type 0) : Type 0 where
-  pub table : A
+  pub table : TableTexts
   pub heard : List A
   pub sent : List A
   pub heard_view : View
@@ -56,15 +60,15 @@ pub record BoxFiles (A : Type 0) : Type 0 where
 -- these are the bytes of the files of these names, and what is given with them is the same
 abbrev pub AreBoxFiles : (List ℕ → Option (List ℕ)) → BoxFiles (List ℕ) → BoxFiles (List ℕ) → Type 0
 AreBoxFiles file names i =
-    (readable (file names.table) ≡ Some i.table) × AreReadLogs file names.heard i.heard × AreReadLogs file names.sent i.sent
+    IsTableRead file names.table i.table × AreReadLogs file names.heard i.heard × AreReadLogs file names.sent i.sent
     × (i.heard_view ≡ names.heard_view) × (i.sent_view ≡ names.sent_view) × (i.aligned ≡ names.aligned) × (i.tolerances ≡ names.tolerances)
 
 -- of these files the first that cannot be read
 abbrev pub IsUnreadBoxFile : (List ℕ → Option (List ℕ)) → BoxFiles (List ℕ) → CommandRefusal → Type 0
 IsUnreadBoxFile file names refusal =
-    IsFileRefusal file names.table refusal
-    ⊎ (((table : List ℕ) × (readable (file names.table) ≡ Some table) × IsFirstUnreadLog file names.heard refusal)
-    ⊎ ((table : List ℕ) × (heard : List (List ℕ)) × (readable (file names.table) ≡ Some table) × AreReadLogs file names.heard heard
+    IsTableUnread file names.table refusal
+    ⊎ (((table : TableTexts) × IsTableRead file names.table table × IsFirstUnreadLog file names.heard refusal)
+    ⊎ ((table : TableTexts) × (heard : List (List ℕ)) × IsTableRead file names.table table × AreReadLogs file names.heard heard
     × IsFirstUnreadLog file names.sent refusal))
 
 -- ---- the clock of what was sent
@@ -192,11 +196,11 @@ IsUnjudgedOf q i f refusal =
 
 -- what `judge` prints of these bytes, and whether something is found
 abbrev pub IsJudged : BoxFiles (List ℕ) → JudgeForm → Option Alignment → Bool → List ℕ → Type 0
-IsJudged i f clock found bytes = (q : Proposed) × IsProposedBy i.table q × IsJudgedOf q i f clock found bytes
+IsJudged i f clock found bytes = (q : Proposed) × IsGivenPlan i.table q × IsJudgedOf q i f clock found bytes
 
 -- why it prints nothing: the table or its plan; or the tolerance or the logs
 abbrev pub IsUnjudged : BoxFiles (List ℕ) → JudgeForm → CommandRefusal → Type 0
-IsUnjudged i f refusal = IsTableRefusal i.table refusal ⊎ ((q : Proposed) × IsProposedBy i.table q × IsUnjudgedOf q i f refusal)
+IsUnjudged i f refusal = IsNoGivenPlan i.table refusal ⊎ ((q : Proposed) × IsGivenPlan i.table q × IsUnjudgedOf q i f refusal)
 
 -- what it prints of the files of these names, which are all read before any is looked at
 abbrev pub IsJudgedBy : (List ℕ → Option (List ℕ)) → BoxFiles (List ℕ) → JudgeForm → Option Alignment → Bool → List ℕ → Type 0
@@ -209,7 +213,7 @@ IsUnjudgedBy file names f refusal = IsUnreadBoxFile file names refusal ⊎ ((i :
 
 abbrev pub names_of : JudgeNames → BoxFiles (List ℕ)
 names_of n = record {
-  table = n.table.now;
+  table = table_names n.table;
   heard = n.heard.now ∷ texts_of n.more_heard.now;
   sent = n.sent.now ∷ texts_of n.more_sent.now;
   heard_view = view_of n.heard_view;
@@ -220,7 +224,7 @@ names_of n = record {
 
 abbrev pub files_of : JudgeInput → BoxFiles (List ℕ)
 files_of i = record {
-  table = i.table.items;
+  table = table_texts i.table;
   heard = bytes_of i.heard.items;
   sent = bytes_of i.sent.items;
   heard_view = view_of i.heard_view;

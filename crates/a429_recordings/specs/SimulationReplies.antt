@@ -6,16 +6,18 @@ use Rattle.a429_arguments.specs.declared.times.LogOrigin.{LogOrigin}
 use Rattle.a429_arguments.specs.declared.times.LogOrigin.TheVariants as origin
 use Rattle.a429_logs.specs.declared.calendars.Calendar.TheVariants.{Open}
 use Rattle.a429_logs.specs.declared.clocks.Clock.{Clock}
+use Rattle.a429_logs.specs.Logs.{renames_of}
 use Rattle.a429_logs.specs.declared.reading.Reading.{Reading}
 use Rattle.a429_slots.specs.Proposed.{Proposed}
-use Rattle.a429_console.specs.FileReadings.{AreReadLogs, IsFileRefusal, IsFirstUnreadLog, readable}
+use Rattle.a429_console.specs.FileReadings.{AreReadLogs, IsFirstUnreadLog}
 use Rattle.a429_console.specs.Files.{bytes_of}
 use Rattle.a429_console.specs.Names.{naming_of}
 use Rattle.a429_console.specs.Outputs.{AppendsPending, IsPut, OrNoMemory, memory_refused}
 use Rattle.a429_console.specs.RefusalText.{OrMemory, refusal_line}
-use Rattle.a429_arguments.specs.Given.{Given, form_of, has_given, long_number_given, order_of, origin_of, unit_of}
+use Rattle.a429_arguments.specs.Given.{Given, dates_of, form_of, has_given, long_number_given, order_of, origin_of, unit_of}
 use Rattle.a429_arguments.specs.declared.options.OptionName.TheVariants as option
-use Rattle.a429_console.specs.Tables.{IsProposedBy, IsTableRefusal}
+use Rattle.a429_given.specs.GivenPlans.{IsGivenPlan, IsNoGivenPlan}
+use Rattle.a429_given.specs.GivenTables.{IsTableRead, IsTableUnread, TableTexts, table_texts}
 use Rattle.a429_console.specs.declared.refusals.CommandRefusal.{CommandRefusal}
 use Rattle.a429_console.specs.declared.refusals.CommandRefusal.TheVariants as refused
 use Rattle.a429_recordings.specs.CloseWords.{AreSpaced}
@@ -43,9 +45,16 @@ abbrev pub clock_from : LogOrigin → Clock
 clock_from (origin.Time base) = record { base = Some 0; last = 0 }
 clock_from origin.First = record { base = None; last = 0 }
 
--- how the first line of a log is read
-abbrev pub reading_for : Given → Reading
-reading_for given = record { unit = unit_of given; order = order_of given; shape = None; has_rows = false; calendar = Open; clock = clock_from (origin_of given) }
+-- the first line of a log is read as the options ask for, with these headings taken as others
+pub record IsReadingFor (given : Given) (reading : Reading) : Type 0 where
+  pub unit : reading.unit ≡ unit_of given
+  pub order : reading.order ≡ order_of given
+  pub dates : reading.dates ≡ dates_of given
+  pub renames : renames_of reading ≡ given option.Map
+  pub shape : reading.shape ≡ None
+  pub has_rows : reading.has_rows ≡ false
+  pub calendar : reading.calendar ≡ Open
+  pub clock : reading.clock ≡ clock_from (origin_of given)
 
 -- how lines are written, by whether only the words that are sent have one, and by the form of what is printed
 abbrev pub line_style : Bool → SheetForm → LineStyle
@@ -53,43 +62,41 @@ line_style true form = style.Log
 line_style false form.Csv = style.Commas
 line_style false _ = style.Spaces
 
--- what the options ask for
-abbrev pub simulation_form : Given → SimulationForm
-simulation_form given = record {
-  until = long_number_given given option.Until;
-  summary = has_given given option.Summary;
-  style = line_style (has_given given option.Sent) (form_of given);
-  form = form_of given;
-  reading = reading_for given;
-}
+-- the form is what the options ask for
+pub record IsSimulationForm (given : Given) (f : SimulationForm) : Type 0 where
+  pub until : f.until ≡ long_number_given given option.Until
+  pub summary : f.summary ≡ has_given given option.Summary
+  pub style : f.style ≡ line_style (has_given given option.Sent) (form_of given)
+  pub form : f.form ≡ form_of given
+  pub reading : IsReadingFor given f.reading
 
 -- the bytes of the files that a simulation reads, and which words of the logs are taken
 pub record SimulationFiles : Type 0 where
-  pub table : List ℕ
+  pub table : TableTexts
   pub logs : List (List ℕ)
   pub view : View
 
 -- they are those of the files of these names, which are all read before any is looked at
-abbrev pub AreSimulationFiles : (List ℕ → Option (List ℕ)) → List ℕ → List (List ℕ) → View → SimulationFiles → Type 0
-AreSimulationFiles file table logs view i = (readable (file table) ≡ Some i.table) × AreReadLogs file logs i.logs × (i.view ≡ view)
+abbrev pub AreSimulationFiles : (List ℕ → Option (List ℕ)) → TableTexts → List (List ℕ) → View → SimulationFiles → Type 0
+AreSimulationFiles file table logs view i = IsTableRead file table i.table × AreReadLogs file logs i.logs × (i.view ≡ view)
 
 -- of these files the first that cannot be read
-abbrev pub IsUnreadFile : (List ℕ → Option (List ℕ)) → List ℕ → List (List ℕ) → CommandRefusal → Type 0
+abbrev pub IsUnreadFile : (List ℕ → Option (List ℕ)) → TableTexts → List (List ℕ) → CommandRefusal → Type 0
 IsUnreadFile file table logs refusal =
-    IsFileRefusal file table refusal ⊎ ((bytes : List ℕ) × (readable (file table) ≡ Some bytes) × IsFirstUnreadLog file logs refusal)
+    IsTableUnread file table refusal ⊎ ((i : TableTexts) × IsTableRead file table i × IsFirstUnreadLog file logs refusal)
 
 -- the table has a plan, at whose slot 0 the station opens, and the log these words
 pub record IsSimulated (i : SimulationFiles) (reading : Reading) (q : Proposed) (words : List LogWord) : Type 0 where
-  pub proposed : IsProposedBy i.table q
+  pub proposed : IsGivenPlan i.table q
   pub words_are : log_words (naming_of q.station) i.view reading i.logs ≡ Ok words
 
 -- of a table with a plan, the log has a fault
 abbrev pub IsLogRefusal : SimulationFiles → Reading → CommandRefusal → Type 0
-IsLogRefusal i reading refusal = (q : Proposed) × IsProposedBy i.table q × IsLogFault (naming_of q.station) i.view reading i.logs refusal
+IsLogRefusal i reading refusal = (q : Proposed) × IsGivenPlan i.table q × IsLogFault (naming_of q.station) i.view reading i.logs refusal
 
 -- why there is no simulation of these bytes: the table or its plan, or the log
 abbrev pub IsNoSimulation : SimulationFiles → Reading → CommandRefusal → Type 0
-IsNoSimulation i reading refusal = IsTableRefusal i.table refusal ⊎ IsLogRefusal i reading refusal
+IsNoSimulation i reading refusal = IsNoGivenPlan i.table refusal ⊎ IsLogRefusal i reading refusal
 
 -- a group would send too much from the first word to the last time
 abbrev pub IsLongRefusal : SimulationFiles → SimulationForm → CommandRefusal → Type 0
@@ -102,7 +109,7 @@ abbrev pub IsUnsimulated : SimulationFiles → SimulationForm → CommandRefusal
 IsUnsimulated i form refusal = IsNoSimulation i form.reading refusal ⊎ IsLongRefusal i form refusal
 
 -- why there is no simulation: a file, the bytes, or that it would be too long
-abbrev pub IsSimulationRefusal : (List ℕ → Option (List ℕ)) → List ℕ → List (List ℕ) → View → SimulationForm → CommandRefusal → Type 0
+abbrev pub IsSimulationRefusal : (List ℕ → Option (List ℕ)) → TableTexts → List (List ℕ) → View → SimulationForm → CommandRefusal → Type 0
 IsSimulationRefusal file table logs view form refusal =
     IsUnreadFile file table logs refusal
     ⊎ ((i : SimulationFiles) × AreSimulationFiles file table logs view i × IsUnsimulated i form refusal)
@@ -140,35 +147,35 @@ IsWritten q words last true style form = IsSummary q words last form
 IsWritten q words last false style form = IsPrinting q words last style
 
 -- what `simulate` writes, and its status: the line of a refusal, or what the simulation prints
-abbrev pub IsSimulation : (List ℕ → Option (List ℕ)) → List ℕ → List (List ℕ) → View → SimulationForm → ℕ → List ℕ → Type 0
+abbrev pub IsSimulation : (List ℕ → Option (List ℕ)) → TableTexts → List (List ℕ) → View → SimulationForm → ℕ → List ℕ → Type 0
 IsSimulation file table logs view form status bytes =
     ((refusal : CommandRefusal) × OrMemory (IsSimulationRefusal file table logs view form) refusal × (status ≡ 1) × (bytes ≡ refusal_line refusal ++ 10 ∷ []))
     ⊎ ((i : SimulationFiles) × (q : Proposed) × (words : List LogWord) × AreSimulationFiles file table logs view i × IsSimulated i form.reading q words
     × IsWritten q words (end_of q words form.until) form.summary form.style form.form status bytes)
 
 -- the words of the logs that are simulated are apart
-abbrev pub SimulatesSpacedWords : (List ℕ → Option (List ℕ)) → List ℕ → List (List ℕ) → View → SimulationForm → Type 0
+abbrev pub SimulatesSpacedWords : (List ℕ → Option (List ℕ)) → TableTexts → List (List ℕ) → View → SimulationForm → Type 0
 SimulatesSpacedWords file table logs view form =
     (i : SimulationFiles) (q : Proposed) (words : List LogWord) → AreSimulationFiles file table logs view i → IsSimulated i form.reading q words → AreSpaced words
 
 -- ---- by the values of the program
 
 abbrev pub files_of : SimulationInput → SimulationFiles
-files_of i = record { table = i.table.items; logs = bytes_of i.logs.items; view = view_of i.view }
+files_of i = record { table = table_texts i.table; logs = bytes_of i.logs.items; view = view_of i.view }
 
 -- what it writes of the logs of these names
-abbrev pub IsSimulationOf : (List ℕ → Option (List ℕ)) → List ℕ → LogNames → SimulationForm → ℕ → List ℕ → Type 0
+abbrev pub IsSimulationOf : (List ℕ → Option (List ℕ)) → TableTexts → LogNames → SimulationForm → ℕ → List ℕ → Type 0
 IsSimulationOf file table names form = IsSimulation file table (logs_named names) (view_named names) form
 
 -- what reading the files gives: their bytes, or the first that cannot be read
-abbrev pub IsSimulationReading : (List ℕ → Option (List ℕ)) → List ℕ → LogNames → Result SimulationInput CommandRefusal → Type 0
+abbrev pub IsSimulationReading : (List ℕ → Option (List ℕ)) → TableTexts → LogNames → Result SimulationInput CommandRefusal → Type 0
 IsSimulationReading file table names result =
     MatchResult result (λ i. AreSimulationFiles file table (logs_named names) (view_named names) (files_of i))
     (OrMemory (IsUnreadFile file table (logs_named names)))
 
--- a station of a table's bytes, with its names
-abbrev pub IsSettingOf : List ℕ → LineStyle → Setting → Type 0
-IsSettingOf table style s = IsProposedBy table s.proposal × HasStationNames s.names s.proposal × (s.style ≡ style)
+-- a station of a table, with its names
+abbrev pub IsSettingOf : TableTexts → LineStyle → Setting → Type 0
+IsSettingOf table style s = IsGivenPlan table s.proposal × HasStationNames s.names s.proposal × (s.style ≡ style)
 
 -- a beginning with the words of the logs
 abbrev pub BeginsLog : Setting → SimulationFiles → SimulationForm → Player → Type 0
@@ -194,6 +201,10 @@ pub record IsPreparedFor (i : SimulationFiles) (form : SimulationForm) (s : Simu
   pub style : s.setting.style ≡ form.style
   pub begin : HasPlayed s.setting.proposal words (end_of s.setting.proposal words form.until) [] s.player
   pub ready : SimulationIsReady s
+
+-- or why there is none
+abbrev pub IsPreparing : SimulationFiles → SimulationForm → Result Simulation CommandRefusal → Type 0
+IsPreparing i form result = MatchResult result (IsPreparedFor i form) (OrMemory (IsUnsimulated i form))
 
 -- these lines were printed by a simulation to its end, or if an allocation failed those of what happened first
 abbrev pub ArePrinted : Proposed → List LogWord → ℕ → LineStyle → Bool → List ℕ → Type 0

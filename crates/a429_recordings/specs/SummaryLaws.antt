@@ -4,7 +4,8 @@ use Rattle.std.specs.Prelude.{◌≡◌, ◌≤◌, ℕ, List, Some, slice_get}
 use Rattle.std.specs.List.{AllByRecursion}
 use Rattle.a429_text.specs.Fields.{Field, Number}
 use Rattle.a429_slots.specs.Proposed.{Proposed}
-use Rattle.a429_console.specs.Tables.{IsProposedBy}
+use Rattle.a429_given.specs.GivenPlans.{IsGivenPlan}
+use Rattle.a429_given.specs.GivenTables.{TableTexts}
 use Rattle.a429_recordings.specs.Simulating.{happenings_of, steps_of}
 use Rattle.a429_recordings.specs.Summary.{summary_rows}
 use Rattle.a429_recordings.specs.Timeline.{IsTimeline}
@@ -16,8 +17,8 @@ use Rattle.a429_recordings.specs.declared.simulate.moments.Moment.{Moment}
 abbrev pub IsWithinBound : List Field → Type 0
 IsWithinBound row = (late : ℕ) → slice_get row 5 ≡ Some (Number late) → (bound : ℕ) × (slice_get row 6 ≡ Some (Number bound)) × (late ≤ bound)
 
--- so it is in each row of the summary of a table's plan, for any log, and up to any time
+-- so it is in each row of the summary of a table's plan or of that of a plan text, for any log, and up to any time
 abbrev pub WordsAreWithinBounds : Type 0
 WordsAreWithinBounds =
-    (table : List ℕ) (q : Proposed) (words : List LogWord) (last : ℕ) (moments : List Moment) → IsProposedBy table q → IsTimeline q words last moments
+    (table : TableTexts) (q : Proposed) (words : List LogWord) (last : ℕ) (moments : List Moment) → IsGivenPlan table q → IsTimeline q words last moments
     → AllByRecursion IsWithinBound (summary_rows q (happenings_of q (steps_of q moments)))

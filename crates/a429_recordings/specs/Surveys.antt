@@ -16,7 +16,7 @@ use Rattle.a429_arguments.specs.declared.options.OptionName.TheVariants as optio
 use Rattle.a429_console.specs.declared.refusals.CommandRefusal.{CommandRefusal}
 use Rattle.a429_recordings.specs.LogItems.{IsItemFault, items_of, logs_named, view_named}
 use Rattle.a429_recordings.specs.LogViews.{View, viewed}
-use Rattle.a429_recordings.specs.SimulationReplies.{reading_for}
+use Rattle.a429_recordings.specs.SimulationReplies.{IsReadingFor}
 use Rattle.a429_recordings.specs.declared.logs.LogNames.{LogNames}
 use Rattle.a429_recordings.specs.declared.survey.SurveyForm.{SurveyForm}
 
@@ -32,15 +32,13 @@ noted_of w = option_map (λ name. record { time = w.time; name = name; raw = w.r
 abbrev pub noted_by : View → Stated → Option (List Noted)
 noted_by view = viewed view noted_of
 
--- what the options ask for: a bit rate of 100000 bit/s, and intervals widened by 25 per cent, unless others are given
+-- the form is what the options ask for: a bit rate of 100000 bit/s, and intervals widened by 25 per cent, unless others are given
 -- (profile: docs/RULES.md, Limits)
-abbrev pub survey_form : Given → SurveyForm
-survey_form given = record {
-  rate = unwrap_or (number_given given option.Rate) 100000;
-  slack = (if has_given given option.Rows then Some (unwrap_or (number_given given option.Slack) 25) else None);
-  form = form_of given;
-  reading = reading_for given;
-}
+pub record IsSurveyForm (given : Given) (f : SurveyForm) : Type 0 where
+  pub rate : f.rate ≡ unwrap_or (number_given given option.Rate) 100000
+  pub slack : f.slack ≡ (if has_given given option.Rows then Some (unwrap_or (number_given given option.Slack) 25) else None)
+  pub form : f.form ≡ form_of given
+  pub reading : IsReadingFor given f.reading
 
 -- the sheet of some words: the survey in a form, or rows for `import`
 abbrev pub survey_text : SurveyForm → Option ℕ → List Noted → List ℕ

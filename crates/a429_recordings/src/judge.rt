@@ -4,11 +4,10 @@ ghost use Rattle.a429_console.specs.Files.{bytes_of};
 ghost use Rattle.a429_arguments.specs.Texts.{texts_of};
 ghost use Rattle.a429_console.specs.Names.{naming_of};
 ghost use Rattle.a429_console.specs.Readings.{HasRead};
-ghost use Rattle.a429_recordings.specs.BoxLogs.{AreOrdered, IsLogsReading, IsNoting, box_word_by, restarted};
+ghost use Rattle.a429_recordings.specs.BoxLogs.{AreOrdered, IsNoting, IsSentReading, restarted};
 ghost use Rattle.a429_recordings.specs.JudgeReplies.{IsBoxReading, IsJudgeAnswer, IsJudging, IsJudgingOf, IsPrinting, IsRecorded, MayBeFound, PassesNoBoxLine, PassesNoneOf, aligned_by, aligned_view, files_of, is_no_group, names_of, no_group_of};
 ghost use Rattle.a429_recordings.specs.LogItems.{PassesNone};
-ghost use Rattle.a429_recordings.specs.LogViews.{view_after, view_of};
-ghost use Rattle.a429_recordings.specs.declared.judge.words.BoxLog.TheVariants.{Sent};
+ghost use Rattle.a429_recordings.specs.LogViews.{view_of};
 
 mod clocks;
 mod duties;
@@ -31,12 +30,13 @@ use a429_arguments::options::OptionName;
 use a429_arguments::requests::Asked;
 use a429_arguments::tolerances::tolerance_group;
 use a429_console::files::FileReader;
-use a429_console::files::reading::{read_file, read_logs};
+use a429_console::files::reading::read_logs;
 use a429_console::hints::warnings::Warning;
-use a429_console::planning::{propose, with_plan};
+use a429_console::planning::with_plan;
 use a429_console::refusals::tables::no_group;
 use a429_console::refusals::{CommandRefusal, Refused};
 use a429_equipment::Equipment;
+use a429_given::{GivenTable, TableNames};
 use a429_judge::Judge;
 use a429_logs::{Clock, Reading};
 use a429_replay::Names;
@@ -46,22 +46,21 @@ use std::alloc::{AllocError, Global};
 
 /// How words are judged, and what is printed of it.
 #[derive(Clone, Copy)]
-pub struct JudgeForm {
+pub struct JudgeForm<'a> {
     /// There is a row for each finding, instead of one for each output.
     pub events: bool,
     pub form: SheetForm,
     /// How the first line of the first log is read.
-    pub reading: Reading,
+    pub reading: Reading<'a>,
 }
 
-impl JudgeForm {
-    ghost use Rattle.std.specs.Prelude.{◌≡◌};
+impl<'a> JudgeForm<'a> {
     ghost use Rattle.a429_arguments.specs.Requests.{asked_of};
-    ghost use Rattle.a429_recordings.specs.JudgeReplies.{judge_form};
+    ghost use Rattle.a429_recordings.specs.JudgeReplies.{IsJudgeForm};
 
     /// The form that a request asks for.
-    pub fn of(asked: &Asked) -> JudgeForm
-        ensures { result ≡ judge_form (asked_of asked.now).given }
+    pub fn of(asked: &'a Asked<'_>) -> JudgeForm<'a>
+        ensures { IsJudgeForm (asked_of asked.now).given result }
     {
         JudgeForm {
             events: asked.has(OptionName::Events),
@@ -74,7 +73,7 @@ impl JudgeForm {
 /// The names of the files that are judged, which words of the logs are taken, and how far times may be wrong.
 #[derive(Clone, Copy)]
 pub struct JudgeNames<'a> {
-    pub table: &'a str,
+    pub table: TableNames<'a>,
     /// The first log of what came in, and the others.
     pub heard: &'a str,
     pub more_heard: &'a [&'a str],
@@ -93,7 +92,7 @@ pub struct JudgeNames<'a> {
 /// The bytes of those files, which words of the logs are taken, and these tolerances.
 #[derive(Drop)]
 struct JudgeInput<'a> {
-    table: Vec<u8>,
+    table: GivenTable,
     heard: Vec<Vec<u8>>,
     sent: Vec<Vec<u8>>,
     heard_view: LogView<'a>,
@@ -110,7 +109,7 @@ fn read_input<'a, F: FileReader>(
 ) -> Result<JudgeInput<'a>, Refused>
     ensures { HasRead F.answers (λ file. IsBoxReading file (names_of names.entry) result) files.old files.new }
 {
-    let table = read_file(alloc, files, names.table)?;
+    let table = GivenTable::read(alloc, files, names.table)?;
     let heard = read_logs(alloc, files, names.heard, names.more_heard)?;
     let sent = read_logs(alloc, files, names.sent, names.more_sent)?;
     Ok(JudgeInput {
@@ -133,8 +132,8 @@ pub struct Judged {
 
 /// How the first line of the logs of what was sent is read, after those of what came in: its times begin again. If no word
 /// came in, they are counted from the first.
-fn restarted(reading: Reading) -> Reading
-    ensures { result ≡ restarted reading }
+fn restarted(reading: Reading<'_>) -> Reading<'_>
+    ensures { result ≡ restarted reading.entry }
 {
     let base = match reading.clock.base {
         Some(_) => Some(0),
@@ -168,14 +167,13 @@ fn sent_view<'a>(input: &'a JudgeInput<'a>, found: Option<Alignment>) -> LogView
 fn read_sent<'a>(
     alloc: Global,
     names: &Names,
-    after: Reading,
+    after: Reading<'a>,
     input: &'a JudgeInput<'a>,
     found: Option<Alignment>,
     warnings: &mut Vec<Warning>,
-) -> Result<BoxWords, Refused>
-    ensures silent { PassesNone (restarted after) (files_of input.now).sent → warnings.new.items ≡ warnings.old.items }
-    ensures read { IsLogsReading (box_word_by names.now (view_after after (aligned_view found (files_of input.now))) Sent) (restarted after)
-        (bytes_of input.now.sent.items) result }
+) -> Result<BoxWords<'a>, Refused>
+    ensures silent { PassesNone (restarted after.entry) (files_of input.now).sent → warnings.new.items ≡ warnings.old.items }
+    ensures read { IsSentReading names.now (aligned_view found (files_of input.now)) after.entry (bytes_of input.now.sent.items) result }
     ensures ordered { IfOk result (λ read. AreOrdered read.words.items) }
 {
     let view = sent_view(input, found).after(after);
@@ -221,12 +219,12 @@ fn read_notes<'a>(
     names: &Names,
     input: &'a JudgeInput<'a>,
     found: Option<Alignment>,
-    reading: Reading,
+    reading: Reading<'a>,
     warnings: &mut Vec<Warning>,
 ) -> Result<Judge, Refused>
     requires { names.now ≡ naming_of proposal.now.station }
-    ensures silent { PassesNoneOf (files_of input.now) reading → warnings.new.items ≡ warnings.old.items }
-    ensures recorded { IsRecorded proposal.now (aligned_by found (files_of input.now)) reading result }
+    ensures silent { PassesNoneOf (files_of input.now) reading.entry → warnings.new.items ≡ warnings.old.items }
+    ensures recorded { IsRecorded proposal.now (aligned_by found (files_of input.now)) reading.entry result }
 {
     let heard = read_words(
         alloc,
@@ -250,12 +248,12 @@ fn judge_words<'a>(
     names: &Names,
     input: &'a JudgeInput<'a>,
     found: Option<Alignment>,
-    form: JudgeForm,
+    form: JudgeForm<'a>,
     warnings: &mut Vec<Warning>,
 ) -> Result<Sheeted, Refused>
     requires { names.now ≡ naming_of proposal.now.station }
-    ensures silent { PassesNoneOf (files_of input.now) form.reading → warnings.new.items ≡ warnings.old.items }
-    ensures printed { IsPrinting proposal.now (aligned_by found (files_of input.now)) form result }
+    ensures silent { PassesNoneOf (files_of input.now) form.entry.reading → warnings.new.items ≡ warnings.old.items }
+    ensures printed { IsPrinting proposal.now (aligned_by found (files_of input.now)) form.entry result }
 {
     let judge = read_notes(alloc, proposal, names, input, found, form.reading, warnings)?;
     let judging = Judging {
@@ -294,7 +292,7 @@ fn asked_clock<'a>(
     proposal: &Proposal<OUTPUTS>,
     names: &Names,
     input: &'a JudgeInput<'a>,
-    reading: Reading,
+    reading: Reading<'a>,
 ) -> Result<Option<Alignment>, AllocError>
     ensures { IfOk result (MayBeFound (files_of input.now)) }
 {
@@ -319,13 +317,13 @@ fn judge_plan<'a>(
     proposal: &Proposal<OUTPUTS>,
     names: &Names,
     input: &'a JudgeInput<'a>,
-    form: JudgeForm,
+    form: JudgeForm<'a>,
     warnings: &mut Vec<Warning>,
 ) -> Result<Judged, Refused>
     requires names { names.now ≡ naming_of proposal.now.station }
     requires groups { no_group_of (naming_of proposal.now.station) (texts_of input.now.tolerances.now) ≡ None }
-    ensures silent { PassesNoneOf (files_of input.now) form.reading → warnings.new.items ≡ warnings.old.items }
-    ensures judged { IsJudgingOf proposal.now (files_of input.now) form result }
+    ensures silent { PassesNoneOf (files_of input.now) form.entry.reading → warnings.new.items ≡ warnings.old.items }
+    ensures judged { IsJudgingOf proposal.now (files_of input.now) form.entry result }
 {
     let wide = is_any_wide(alloc, proposal, input.tolerances)?;
     if wide {
@@ -346,11 +344,11 @@ fn judge_box<'a>(
     alloc: Global,
     proposal: &Proposal<OUTPUTS>,
     input: &'a JudgeInput<'a>,
-    form: JudgeForm,
+    form: JudgeForm<'a>,
     warnings: &mut Vec<Warning>,
 ) -> Result<Judged, Refused>
-    ensures silent { PassesNoneOf (files_of input.now) form.reading → warnings.new.items ≡ warnings.old.items }
-    ensures judged { IsJudgingOf proposal.now (files_of input.now) form result }
+    ensures silent { PassesNoneOf (files_of input.now) form.entry.reading → warnings.new.items ≡ warnings.old.items }
+    ensures judged { IsJudgingOf proposal.now (files_of input.now) form.entry result }
 {
     let names = Names::of(alloc, proposal.equipment())?;
     match no_group_of(&names, input.tolerances) {
@@ -359,24 +357,23 @@ fn judge_box<'a>(
     }
 }
 
-/// What is said of a box, by the bytes of the files. Errors: the table or its plan; those of
-/// `judge_box`.
+/// What is said of a box, by the bytes of the files. Errors: there is no plan; those of `judge_box`.
 fn judge_input<'a>(
     alloc: Global,
     input: &'a JudgeInput<'a>,
-    form: JudgeForm,
+    form: JudgeForm<'a>,
     warnings: &mut Vec<Warning>,
 ) -> Result<Judged, Refused>
-    ensures silent { PassesNoneOf (files_of input.now) form.reading → warnings.new.items ≡ warnings.old.items }
-    ensures judged { IsJudging (files_of input.now) form result }
+    ensures silent { PassesNoneOf (files_of input.now) form.entry.reading → warnings.new.items ≡ warnings.old.items }
+    ensures judged { IsJudging (files_of input.now) form.entry result }
 {
-    let proposal = propose(alloc, &input.table)?;
+    let proposal = input.table.propose(alloc)?;
     let judged = judge_box(alloc, &proposal, input, form, warnings);
     with_plan(judged, proposal)
 }
 
 /// Whether what a box sent is right, as a sheet, by a log of what came in and one of what was sent. Each has further logs
-/// that are read after it. Errors, in this order: a file cannot be read; the table has a fault or no plan; a tolerance is
+/// that are read after it. Errors, in this order: a file cannot be read; the table has a fault or no plan; a line of the plan text is refused; a tolerance is
 /// given for a group that is not there, or is more than half the period of an output; the first faulty line of what came
 /// in, and then of what was sent; the two have no time in common. `Memory` if an allocation fails. What is passed over in a log
 /// is noted.
@@ -384,12 +381,12 @@ pub fn judge_logs<'a, F: FileReader>(
     alloc: Global,
     files: &mut F,
     names: JudgeNames<'a>,
-    form: JudgeForm,
+    form: JudgeForm<'a>,
     warnings: &mut Vec<Warning>,
 ) -> Result<Judged, Refused>
-    ensures silent { HasRead F.answers (λ file. PassesNoBoxLine file (names_of names.entry) form.reading
+    ensures silent { HasRead F.answers (λ file. PassesNoBoxLine file (names_of names.entry) form.entry.reading
         → warnings.new.items ≡ warnings.old.items) files.old files.new }
-    ensures answer { HasRead F.answers (λ file. IsJudgeAnswer file (names_of names.entry) form result) files.old files.new }
+    ensures answer { HasRead F.answers (λ file. IsJudgeAnswer file (names_of names.entry) form.entry result) files.old files.new }
 {
     let input = read_input(alloc, files, names)?;
     judge_input(alloc, &input, form, warnings)

@@ -8,7 +8,7 @@
 //! simulate(
 //!     alloc,
 //!     files,
-//!     first,
+//!     TableNames::of(asked),
 //!     simulated_logs(asked),
 //!     form,
 //!     warnings,

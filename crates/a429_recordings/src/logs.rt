@@ -1,12 +1,13 @@
 //! Logs: their names, which of their words are taken, and how they are read.
 ghost use Rattle.std.specs.Prelude.{◌≡◌};
 ghost use Rattle.a429_arguments.specs.Requests.{asked_of};
-ghost use Rattle.a429_recordings.specs.SimulationReplies.{clock_from, reading_for};
+ghost use Rattle.a429_recordings.specs.SimulationReplies.{IsReadingFor, clock_from};
 
 pub mod keeping;
 pub mod views;
 
 use crate::logs::views::LogView;
+use a429_arguments::options::OptionName;
 use a429_arguments::requests::Asked;
 use a429_arguments::times::LogOrigin;
 use a429_logs::{Clock, Reading};
@@ -30,8 +31,11 @@ fn clock_from(from: LogOrigin) -> Clock
 }
 
 /// How the first line of a log is read, as the request asks for it.
-pub fn reading_for(asked: &Asked) -> Reading
-    ensures { result ≡ reading_for (asked_of asked.now).given }
+pub fn reading_for<'a>(asked: &'a Asked<'_>) -> Reading<'a>
+    ensures { IsReadingFor (asked_of asked.now).given result }
 {
-    Reading::new(asked.unit(), clock_from(asked.origin())).with_order(asked.order())
+    Reading::new(asked.unit(), clock_from(asked.origin()))
+        .with_order(asked.order())
+        .with_dates(asked.dates())
+        .with_renames(asked.texts(OptionName::Map))
 }

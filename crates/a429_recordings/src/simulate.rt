@@ -4,11 +4,12 @@ ghost use Rattle.a429_console.specs.Readings.{HasRead};
 ghost use Rattle.a429_console.specs.Outputs.{CountsFault};
 ghost use Rattle.a429_console.specs.RefusalText.{OrMemory};
 ghost use Rattle.a429_console.specs.Replying.{HasReplied};
-ghost use Rattle.a429_console.specs.Tables.{IsTableRefusal};
+ghost use Rattle.a429_given.specs.GivenPlans.{IsNoGivenPlan};
+ghost use Rattle.a429_given.specs.GivenTables.{table_names, table_texts};
 ghost use Rattle.a429_recordings.specs.CellLines.{IsBeginOfSlot};
 ghost use Rattle.a429_recordings.specs.CloseWords.{AreSpaced};
 ghost use Rattle.a429_recordings.specs.LogItems.{PassesNoLine, PassesNone, logs_named, view_named};
-ghost use Rattle.a429_recordings.specs.SimulationReplies.{BeginsLog, BeginsNoLog, HasPrinted, HasPrintedLines, HasPrintedSummary, HasSummary, IsPreparedFor, IsSettingOf, IsSimulationOf, IsSimulationReading, IsUnsimulated, PutsLines, SimulatesSpacedWords, SimulationIsReady, files_of, line_style};
+ghost use Rattle.a429_recordings.specs.SimulationReplies.{BeginsLog, BeginsNoLog, HasPrinted, HasPrintedLines, HasPrintedSummary, HasSummary, IsPreparing, IsSettingOf, IsSimulationOf, IsSimulationReading, PutsLines, SimulatesSpacedWords, SimulationIsReady, files_of, line_style};
 ghost use Rattle.a429_recordings.specs.SimulationRuns.{CanBePlayed, HasStationNames};
 
 mod close;
@@ -35,12 +36,12 @@ use a429_arguments::options::OptionName;
 use a429_arguments::requests::Asked;
 use a429_console::answered::{Answered, plain_answer};
 use a429_console::files::FileReader;
-use a429_console::files::reading::{read_file, read_logs};
+use a429_console::files::reading::read_logs;
 use a429_console::hints::warnings::Warning;
 use a429_console::output::endings::{finish, refuse_memory};
 use a429_console::output::{Output, OutputFault};
-use a429_console::planning::propose;
 use a429_console::refusals::{Refused, refuse};
+use a429_given::{GivenTable, TableNames};
 use a429_logs::Reading;
 use a429_replay::{Names, put_if_full};
 use a429_text::SheetForm;
@@ -49,23 +50,22 @@ use std::alloc::{AllocError, Global};
 /// What a simulation prints, the summary or lines, and in which form or style; and until when in microseconds it asks for
 /// cells.
 #[derive(Clone, Copy)]
-pub struct SimulationForm {
+pub struct SimulationForm<'a> {
     pub until: Option<u64>,
     pub summary: bool,
     pub style: LineStyle,
     pub form: SheetForm,
     /// How the first line of the log is read.
-    pub reading: Reading,
+    pub reading: Reading<'a>,
 }
 
-impl SimulationForm {
-    ghost use Rattle.std.specs.Prelude.{◌≡◌};
+impl<'a> SimulationForm<'a> {
     ghost use Rattle.a429_arguments.specs.Requests.{asked_of};
-    ghost use Rattle.a429_recordings.specs.SimulationReplies.{simulation_form};
+    ghost use Rattle.a429_recordings.specs.SimulationReplies.{IsSimulationForm};
 
     /// The form that a request asks for.
-    pub fn of(asked: &Asked) -> SimulationForm
-        ensures { result ≡ simulation_form (asked_of asked.now).given }
+    pub fn of(asked: &'a Asked<'_>) -> SimulationForm<'a>
+        ensures { IsSimulationForm (asked_of asked.now).given result }
     {
         SimulationForm {
             until: asked.long_number(OptionName::Until),
@@ -91,7 +91,7 @@ fn line_style(sent: bool, form: SheetForm) -> LineStyle
 /// The bytes of the files that a simulation reads, and which words of the logs are taken.
 #[derive(Drop)]
 struct SimulationInput<'a> {
-    table: Vec<u8>,
+    table: GivenTable,
     logs: Vec<Vec<u8>>,
     view: LogView<'a>,
 }
@@ -116,12 +116,12 @@ impl Drop for Simulation {
 fn read_input<'a, F: FileReader>(
     alloc: Global,
     files: &mut F,
-    table: &str,
+    table: TableNames<'_>,
     names: LogNames<'a>,
 ) -> Result<SimulationInput<'a>, Refused>
-    ensures { HasRead F.answers (λ file. IsSimulationReading file table.now names.entry result) files.old files.new }
+    ensures { HasRead F.answers (λ file. IsSimulationReading file (table_names table.entry) names.entry result) files.old files.new }
 {
-    let table = read_file(alloc, files, table)?;
+    let table = GivenTable::read(alloc, files, table)?;
     let logs = read_logs(alloc, files, names.first, names.more)?;
     Ok(SimulationInput {
         table,
@@ -130,11 +130,11 @@ fn read_input<'a, F: FileReader>(
     })
 }
 
-/// The station of a table's bytes. Error: the table, or its plan, is refused.
-fn read_station(alloc: Global, table: &[u8], style: LineStyle) -> Result<Setting, Refused>
-    ensures { MatchResult result (IsSettingOf table.now style) (OrMemory (IsTableRefusal table.now)) }
+/// The station of a table. Error: there is no plan.
+fn read_station(alloc: Global, table: &GivenTable, style: LineStyle) -> Result<Setting, Refused>
+    ensures { MatchResult result (IsSettingOf (table_texts table.now) style) (OrMemory (IsNoGivenPlan (table_texts table.now))) }
 {
-    let proposal = propose(alloc, table)?;
+    let proposal = table.propose(alloc)?;
     let names = Names::of(alloc, proposal.equipment())?;
     Ok(Setting {
         proposal,
@@ -149,12 +149,12 @@ fn read_player<'a>(
     alloc: Global,
     setting: &Setting,
     input: &'a SimulationInput<'a>,
-    form: SimulationForm,
+    form: SimulationForm<'a>,
     warnings: &mut Vec<Warning>,
 ) -> Result<Player, Refused>
-    ensures silent { PassesNone form.reading (files_of input.now).logs → warnings.new.items ≡ warnings.old.items }
-    ensures player { MatchResult result (BeginsLog setting.now (files_of input.now) form)
-        (OrMemory (BeginsNoLog setting.now (files_of input.now) form)) }
+    ensures silent { PassesNone form.entry.reading (files_of input.now).logs → warnings.new.items ≡ warnings.old.items }
+    ensures player { MatchResult result (BeginsLog setting.now (files_of input.now) form.entry)
+        (OrMemory (BeginsNoLog setting.now (files_of input.now) form.entry)) }
 {
     let words = read_words(
         alloc,
@@ -171,11 +171,11 @@ fn read_player<'a>(
 fn prepare<'a>(
     alloc: Global,
     input: &'a SimulationInput<'a>,
-    form: SimulationForm,
+    form: SimulationForm<'a>,
     warnings: &mut Vec<Warning>,
 ) -> Result<Simulation, Refused>
-    ensures silent { PassesNone form.reading (files_of input.now).logs → warnings.new.items ≡ warnings.old.items }
-    ensures prepared { MatchResult result (IsPreparedFor (files_of input.now) form) (OrMemory (IsUnsimulated (files_of input.now) form)) }
+    ensures silent { PassesNone form.entry.reading (files_of input.now).logs → warnings.new.items ≡ warnings.old.items }
+    ensures prepared { IsPreparing (files_of input.now) form.entry result }
 {
     let setting = read_station(alloc, &input.table, form.style)?;
     let player = read_player(alloc, &setting, input, form, warnings)?;
@@ -280,12 +280,12 @@ fn print_summary<O: Output>(
 fn print_simulation<O: Output>(
     alloc: Global,
     simulation: &mut Simulation,
-    form: SimulationForm,
+    form: SimulationForm<'_>,
     out: &mut O,
 ) -> Result<u8, OutputFault>
     requires ready { SimulationIsReady simulation.old }
     requires style { simulation.old.setting.style ≡ form.style }
-    ensures printed { HasPrinted simulation.old form (O.contents out.old) (O.contents out.new) result }
+    ensures printed { HasPrinted simulation.old form.entry (O.contents out.old) (O.contents out.new) result }
     ensures status { IfOk result (λ status. status ≤ 1) }
     ensures flushed { OnOk result (IsTrue (O.is_flushed out.new)) }
     ensures faults { CountsFault result (O.failures out.old) (O.failures out.new) }
@@ -297,24 +297,24 @@ fn print_simulation<O: Output>(
     }
 }
 
-/// Plays the words of logs on the station of a table, at their times. It puts a line for each word that is sent or
+/// Plays the words of logs on the station of a table, by its own plan or that of a plan text, at their times. It puts a line for each word that is sent or
 /// refused, or only for those that are sent, or instead the summary of what each output sent. A refusal is one line
 /// instead. The status is 0, or 1 after a refusal, or if an allocation fails after the first lines. A receiver to which
 /// words come too closely is noted, and so is what is passed over in a log. Error: the output failed.
 pub fn simulate<'a, F: FileReader, O: Output>(
     alloc: Global,
     files: &mut F,
-    table: &str,
+    table: TableNames<'_>,
     names: LogNames<'a>,
-    form: SimulationForm,
+    form: SimulationForm<'a>,
     warnings: &mut Vec<Warning>,
     out: &mut O,
 ) -> Result<Answered, OutputFault>
-    ensures simulated { HasReplied F.answers O.contents (λ file. IsSimulationOf file table.now names.entry form)
+    ensures simulated { HasReplied F.answers O.contents (λ file. IsSimulationOf file (table_names table.entry) names.entry form.entry)
         files.old files.new out.old out.new result }
     ensures silent { HasRead F.answers
-        (λ file. PassesNoLine file (logs_named names.entry) form.reading
-        → SimulatesSpacedWords file table.now (logs_named names.entry) (view_named names.entry) form
+        (λ file. PassesNoLine file (logs_named names.entry) form.entry.reading
+        → SimulatesSpacedWords file (table_names table.entry) (logs_named names.entry) (view_named names.entry) form.entry
         → warnings.new.items ≡ warnings.old.items) files.old files.new }
     ensures status { IfOk result (λ status. status ≤ 1) }
     ensures flushed { OnOk result (IsTrue (O.is_flushed out.new)) }

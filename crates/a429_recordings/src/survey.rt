@@ -35,23 +35,22 @@ const USUAL_SLACK: u32 = 25;
 
 /// What a survey prints: its sheet in a form at a bit rate in bit/s, or the start of a table.
 #[derive(Clone, Copy)]
-pub struct SurveyForm {
+pub struct SurveyForm<'a> {
     pub rate: u32,
     /// Rows for `import` are printed, and their intervals are widened by this part of them, in per cent.
     pub slack: Option<u32>,
     pub form: SheetForm,
     /// How the first line of the first log is read.
-    pub reading: Reading,
+    pub reading: Reading<'a>,
 }
 
-impl SurveyForm {
-    ghost use Rattle.std.specs.Prelude.{◌≡◌};
+impl<'a> SurveyForm<'a> {
     ghost use Rattle.a429_arguments.specs.Requests.{asked_of};
-    ghost use Rattle.a429_recordings.specs.Surveys.{survey_form};
+    ghost use Rattle.a429_recordings.specs.Surveys.{IsSurveyForm};
 
     /// The form that a request asks for.
-    pub fn of(asked: &Asked) -> SurveyForm
-        ensures { result ≡ survey_form (asked_of asked.now).given }
+    pub fn of(asked: &'a Asked<'_>) -> SurveyForm<'a>
+        ensures { IsSurveyForm (asked_of asked.now).given result }
     {
         let slack = if asked.has(OptionName::Rows) {
             Some(asked.number(OptionName::Slack).unwrap_or(USUAL_SLACK))
@@ -109,13 +108,13 @@ impl WordKeeper for Survey {
 fn survey_of<'a>(
     alloc: Global,
     view: LogView<'a>,
-    reading: Reading,
+    reading: Reading<'a>,
     logs: &'a [Vec<u8>],
     warnings: &mut Vec<Warning>,
 ) -> Result<Survey, Refused>
-    ensures silent { PassesNone reading (bytes_of logs.now) → warnings.new.items ≡ warnings.old.items }
-    ensures survey { MatchResult result (λ survey. items_of (noted_by (view_of view.entry)) reading (bytes_of logs.now) ≡ Ok survey)
-        (OrMemory (IsItemFault (noted_by (view_of view.entry)) reading (bytes_of logs.now))) }
+    ensures silent { PassesNone reading.entry (bytes_of logs.now) → warnings.new.items ≡ warnings.old.items }
+    ensures survey { MatchResult result (λ survey. items_of (noted_by (view_of view.entry)) reading.entry (bytes_of logs.now) ≡ Ok survey)
+        (OrMemory (IsItemFault (noted_by (view_of view.entry)) reading.entry (bytes_of logs.now))) }
 {
     let mut survey = Survey::new(alloc);
     match keep_logs(alloc, &mut survey, view, reading, 0, logs, warnings) {
@@ -125,8 +124,8 @@ fn survey_of<'a>(
 }
 
 /// The sheet of a survey. Error: an allocation failed.
-fn text_of(alloc: Global, survey: &Survey, form: SurveyForm) -> Result<Vec<u8>, AllocError>
-    ensures { IfOk result (λ text. text.items ≡ survey_text form form.slack survey.now) }
+fn text_of(alloc: Global, survey: &Survey, form: SurveyForm<'_>) -> Result<Vec<u8>, AllocError>
+    ensures { IfOk result (λ text. text.items ≡ survey_text form.entry form.entry.slack survey.now) }
 {
     match form.slack {
         Some(slack) => {
@@ -147,12 +146,12 @@ pub fn survey_logs<'a, F: FileReader>(
     alloc: Global,
     files: &mut F,
     names: LogNames<'a>,
-    form: SurveyForm,
+    form: SurveyForm<'a>,
     warnings: &mut Vec<Warning>,
 ) -> Result<Vec<u8>, Refused>
-    ensures silent { HasRead F.answers (λ file. PassesNoLine file (logs_named names.entry) form.reading
+    ensures silent { HasRead F.answers (λ file. PassesNoLine file (logs_named names.entry) form.entry.reading
         → warnings.new.items ≡ warnings.old.items) files.old files.new }
-    ensures answer { HasRead F.answers (λ file. IsSurveyAnswer file names.entry form result) files.old files.new }
+    ensures answer { HasRead F.answers (λ file. IsSurveyAnswer file names.entry form.entry result) files.old files.new }
 {
     let logs = read_logs(alloc, files, names.first, names.more)?;
     let survey = survey_of(alloc, names.view, form.reading, &logs, warnings)?;

@@ -11,8 +11,10 @@ use Rattle.a429_console.specs.Outputs.{IsPut}
 use Rattle.a429_console.specs.RefusalText.{OrMemory}
 use Rattle.a429_replay.specs.Kept.{TakesAllTables, events_of}
 use Rattle.a429_replay.specs.Views.{AskedView, heading, view_of}
-use Rattle.a429_replay.specs.Replaying.{IsInput, IsOutcome, IsStart, ReplayInput}
-use Rattle.a429_console.specs.Tables.{IsProposedBy}
+use Rattle.a429_replay.specs.Replaying.{IsInput, IsInputUnread, IsOutcome, IsStart, ReplayInput}
+use Rattle.a429_given.specs.GivenPlans.{IsGivenPlan}
+use Rattle.a429_given.specs.GivenTables.{TableTexts, table_names, table_texts}
+use Rattle.a429_given.specs.declared.tables.TableNames.{TableNames}
 use Rattle.a429_console.specs.declared.refusals.CommandRefusal.{CommandRefusal}
 use Rattle.a429_console.specs.declared.refusals.CommandRefusal.TheVariants as refused
 use Rattle.a429_replay.specs.declared.replay.Input.{Input}
@@ -31,21 +33,21 @@ OpensMachine q result = MatchResult result (StandsForHistory count_bits (record 
 abbrev pub OpensStation : Proposed → Result ReplayStation CommandRefusal → Type 0
 OpensStation q result = MatchResult result (IsOpened q) (λ e. e ≡ refused.Memory)
 
--- the station of a table's bytes, just opened
-abbrev pub IsOpenedFrom : List ℕ → ReplayStation → Type 0
-IsOpenedFrom table s = (q : Proposed) × IsProposedBy table q × IsOpened q s
+-- the station of a table, just opened
+abbrev pub IsOpenedFrom : TableTexts → ReplayStation → Type 0
+IsOpenedFrom table s = (q : Proposed) × IsGivenPlan table q × IsOpened q s
 
 abbrev pub input_of : Input → ReplayInput
-input_of i = record { table = i.table.items; script = i.script.items; further = i.further.items }
+input_of i = record { table = table_texts i.table; script = i.script.items; further = i.further.items }
 
 -- what reading tables of these names gives: their bytes, or the first that cannot be read
 abbrev pub AreTablesRead : (List ℕ → Option (List ℕ)) → List (List ℕ) → Result (Vec (List ℕ) Global) CommandRefusal → Type 0
 AreTablesRead file names result = MatchResult result (λ tables. AreRead file names tables.items) (OrMemory (IsFirstUnread file names))
 
 -- what reading the files of these names gives: their bytes, or the first that cannot be read
-abbrev pub IsInputReading : (List ℕ → Option (List ℕ)) → List ℕ → List ℕ → List (List ℕ) → Result Input CommandRefusal → Type 0
+abbrev pub IsInputReading : (List ℕ → Option (List ℕ)) → TableNames → List ℕ → List (List ℕ) → Result Input CommandRefusal → Type 0
 IsInputReading file table script further result =
-    MatchResult result (λ i. IsInput file table script further (input_of i)) (OrMemory (IsFirstUnread file (table ∷ script ∷ further)))
+    MatchResult result (λ i. IsInput file (table_names table) script further (input_of i)) (OrMemory (IsInputUnread file (table_names table) script further))
 
 -- the station, just opened, from which a replay of these bytes starts, what is printed of it, and the events of the script, which has no faulty line
 pub record IsPrepared (i : ReplayInput) (asked : AskedView) (p : PreparedReplay) (q : Proposed) : Type 0 where

@@ -10,7 +10,8 @@
 //!     ..
 //!     Verb::Replay => {
 //!         let view = ReplayForm::of(asked);
-//!         replay(alloc, files, first, second, more, &view, warnings, out)
+//!         let table = TableNames::of(asked);
+//!         replay(alloc, files, table, second, more, &view, warnings, out)
 //!     }
 //!     ..
 //! }

@@ -4,6 +4,7 @@ ghost use Rattle.a429_arguments.specs.Texts.{texts_of};
 ghost use Rattle.a429_console.specs.Readings.{HasRead};
 ghost use Rattle.a429_console.specs.Outputs.{CountsFault};
 ghost use Rattle.a429_console.specs.RefusalText.{OrMemory};
+ghost use Rattle.a429_given.specs.GivenTables.{table_names};
 ghost use Rattle.a429_replay.specs.Kept.{TakesAllTables};
 ghost use Rattle.a429_replay.specs.Replaying.{HasReplayed, IsNoStart, TakesFurther};
 ghost use Rattle.a429_replay.specs.Opened.{AreTablesRead, IsInputReading, IsOutcomePut, IsPreparedFor, input_of};
@@ -23,12 +24,13 @@ use a429_console::hints::warnings::Warning;
 use a429_console::output::endings::finish;
 use a429_console::output::{Output, OutputFault};
 use a429_console::refusals::{Refused, refuse};
+use a429_given::{GivenTable, TableNames};
 use std::alloc::Global;
 
 /// The bytes of the files that a replay reads.
 #[derive(Drop)]
 struct Input {
-    table: Vec<u8>,
+    table: GivenTable,
     script: Vec<u8>,
     further: Vec<FurtherTable>,
 }
@@ -49,13 +51,13 @@ fn read_further<F: FileReader>(
 fn read_input<F: FileReader>(
     alloc: Global,
     files: &mut F,
-    table: &str,
+    table: TableNames<'_>,
     script: &str,
     further: &[&str],
 ) -> Result<Input, Refused>
-    ensures { HasRead F.answers (λ file. IsInputReading file table.now script.now (texts_of further.now) result) files.old files.new }
+    ensures { HasRead F.answers (λ file. IsInputReading file table.entry script.now (texts_of further.now) result) files.old files.new }
 {
-    let table = read_file(alloc, files, table)?;
+    let table = GivenTable::read(alloc, files, table)?;
     let script = read_file(alloc, files, script)?;
     let further = read_further(alloc, files, further)?;
     Ok(Input {
@@ -128,22 +130,23 @@ fn play_prepared<O: Output>(
     finish(&lines.text, sufficed, out)
 }
 
-/// Plays a script on the station of a table, and puts of the answer to each event what is asked for: its line or its row,
-/// or nothing. A refusal is one line instead. The status is 0, or 1 after a refusal, or if an allocation fails after the
+/// Plays a script on the station of a table, by its own plan or that of a plan text. It puts of the answer to each event what
+/// is asked for: its line or its row, or nothing. A refusal is one line instead. The status is 0, or 1 after a refusal, or if an allocation fails after the
 /// first lines. The further tables that were published, and that the station did not take, are noted. Error: the output
 /// failed.
 pub fn replay<F: FileReader, O: Output>(
     alloc: Global,
     files: &mut F,
-    table: &str,
+    table: TableNames<'_>,
     script: &str,
     more: &[&str],
     asked: &ReplayForm<'_>,
     warnings: &mut Vec<Warning>,
     out: &mut O,
 ) -> Result<Answered, OutputFault>
-    ensures replayed { HasReplayed F.answers O.contents asked.now table.now script.now more.now files.old files.new out.old out.new result }
-    ensures taken { HasRead F.answers (λ file. TakesFurther file table.now script.now (texts_of more.now)
+    ensures replayed { HasReplayed F.answers O.contents asked.now table.entry script.now more.now files.old files.new
+        out.old out.new result }
+    ensures taken { HasRead F.answers (λ file. TakesFurther file (table_names table.entry) script.now (texts_of more.now)
         → warnings.new.items ≡ warnings.old.items) files.old files.new }
     ensures status { IfOk result (λ status. status ≤ 1) }
     ensures flushed { OnOk result (IsTrue (O.is_flushed out.new)) }

@@ -3,14 +3,15 @@ ghost use Rattle.std.specs.Prelude.{MatchResult};
 ghost use Rattle.a429_slots.specs.Planned.{IsPlanOf};
 ghost use Rattle.a429_replay.specs.Opened.{IsOpenedFrom, OpensStation};
 ghost use Rattle.a429_console.specs.RefusalText.{OrMemory};
-ghost use Rattle.a429_console.specs.Tables.{IsTableRefusal};
+ghost use Rattle.a429_given.specs.GivenPlans.{IsNoGivenPlan};
+ghost use Rattle.a429_given.specs.GivenTables.{table_texts};
 
 use crate::names::Names;
 use crate::opening::open_machine;
-use a429_console::planning::propose;
 use a429_console::refusals::Refused;
 use a429_core::StationState;
 use a429_equipment::Equipment;
+use a429_given::GivenTable;
 use a429_slots::{OUTPUTS, Proposal};
 use std::alloc::Global;
 
@@ -23,12 +24,11 @@ pub struct ReplayStation {
 }
 
 impl ReplayStation {
-    /// Opens the station of a table's bytes at slot 0, with no event yet. Error: the fault of the table, otherwise the
-    /// first fault of its plan, or an allocation failed.
-    pub fn open(alloc: Global, table: &[u8]) -> Result<ReplayStation, Refused>
-        ensures { MatchResult result (IsOpenedFrom table.now) (OrMemory (IsTableRefusal table.now)) }
+    /// Opens the station of a table at slot 0, with no event yet. Error: there is no plan, or an allocation failed.
+    pub fn open(alloc: Global, table: &GivenTable) -> Result<ReplayStation, Refused>
+        ensures { MatchResult result (IsOpenedFrom (table_texts table.now)) (OrMemory (IsNoGivenPlan (table_texts table.now))) }
     {
-        let proposal = propose(alloc, table)?;
+        let proposal = table.propose(alloc)?;
         ReplayStation::of(alloc, proposal)
     }
 

@@ -1,5 +1,6 @@
 //! What was read of a refused text, for a hint.
 
+use crate::answered::Objection;
 use crate::files::FileTrouble;
 use crate::refusals::rows::RowsEvidence;
 use a429_equipment::Equipment;
@@ -23,6 +24,12 @@ pub enum Evidence {
     },
     /// The plan of a table that does not have what was asked for.
     Proposal(Proposal<OUTPUTS>),
+    /// What the check found wrong in a plan text, and whether it is that of the second of two tables.
+    Plan {
+        objection: Objection,
+        text: Vec<u8>,
+        is_second: bool,
+    },
     /// The refused line of a script or of a file of words.
     Line(LineEvidence),
     /// The line of a line file up to the refused byte, and that byte.
@@ -44,13 +51,11 @@ pub enum Evidence {
 impl Evidence {
     /// What was read of a table.
     pub fn of_table(table: TableEvidence) -> Evidence {
-        Evidence::Table {
-            table,
-            is_second: false,
-        }
+        let is_second = false;
+        Evidence::Table { table, is_second }
     }
 
-    /// A refused line of a script or of a file of words; nothing if `line` is `None`, since an allocation failed.
+    /// A refused line of a script or of a file of words; nothing if an allocation failed.
     pub fn of_line(line: Option<LineEvidence>) -> Evidence {
         match line {
             Some(line) => Evidence::Line(line),
@@ -74,12 +79,19 @@ impl Evidence {
         }
     }
 
-    /// This evidence, as that of the second of two tables if it is of a table.
+    /// This evidence, as that of the second of two tables if it is of a table or its plan text.
     pub fn of_second_table(self) -> Evidence {
+        let is_second = true;
         match self {
-            Evidence::Table { table, .. } => Evidence::Table {
-                table,
-                is_second: true,
+            Evidence::Table { table, .. } => Evidence::Table { table, is_second },
+            Evidence::Plan {
+                objection,
+                text,
+                ..
+            } => Evidence::Plan {
+                objection,
+                text,
+                is_second,
             },
             other => other,
         }

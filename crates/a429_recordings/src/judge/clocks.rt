@@ -69,7 +69,7 @@ fn recorded(spans: Vec<Span>) -> Recorded {
 
 /// The words of logs of what was sent, after those of what came in, by the times of their own clock. `None` if a line is faulty,
 /// or an allocation fails.
-fn sent_spans<'a>(alloc: Global, after: Reading, sent: BoxTexts<'a>) -> Option<Recorded> {
+fn sent_spans<'a>(alloc: Global, after: Reading<'a>, sent: BoxTexts<'a>) -> Option<Recorded> {
     let mut words = AnyWords {
         spans: Vec::new(alloc),
     };
@@ -192,7 +192,7 @@ pub fn found_clock<'a>(
     names: &Names,
     heard: BoxTexts<'a>,
     sent: BoxTexts<'a>,
-    reading: Reading,
+    reading: Reading<'a>,
 ) -> Result<Option<Alignment>, AllocError> {
     let mut unnoted: Vec<Warning> = Vec::new(alloc);
     let Ok(words) = read_words(

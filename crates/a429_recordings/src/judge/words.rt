@@ -44,9 +44,9 @@ pub struct BoxWord {
 
 /// The words of logs, and how the log after them would be read.
 #[derive(Drop)]
-pub struct BoxWords {
+pub struct BoxWords<'a> {
     pub words: Vec<BoxWord>,
-    pub next: Reading,
+    pub next: Reading<'a>,
 }
 
 /// A bus by its number; the plan need not have it. `None` if the text is no number below 2^32.
@@ -183,13 +183,13 @@ pub fn read_words<'a>(
     names: &Names,
     view: LogView<'a>,
     log: BoxLog,
-    reading: Reading,
+    reading: Reading<'a>,
     first: usize,
     texts: &'a [Vec<u8>],
     warnings: &mut Vec<Warning>,
-) -> Result<BoxWords, Refused>
-    ensures silent { PassesNone reading (bytes_of texts.now) → warnings.new.items ≡ warnings.old.items }
-    ensures read { IsLogsReading (box_word_by names.now (view_of view.entry) log) reading (bytes_of texts.now) result }
+) -> Result<BoxWords<'a>, Refused>
+    ensures silent { PassesNone reading.entry (bytes_of texts.now) → warnings.new.items ≡ warnings.old.items }
+    ensures read { IsLogsReading (box_word_by names.now (view_of view.entry) log) reading.entry (bytes_of texts.now) result }
     ensures ordered { IfOk result (λ read. AreOrdered read.words.items) }
 {
     let mut kept = PlaceWords {

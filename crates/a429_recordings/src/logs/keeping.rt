@@ -59,11 +59,11 @@ pub trait WordKeeper {
 struct NumberedLog<'a> {
     number: usize,
     text: &'a [u8],
-    reading: Reading,
+    reading: Reading<'a>,
 }
 
 /// The unit of the times of a log whose rows have this form so far.
-fn unit_in(shape: Option<Shape>, reading: Reading) -> TimeUnit {
+fn unit_in(shape: Option<Shape>, reading: Reading<'_>) -> TimeUnit {
     match shape {
         Some(shape) => shape.unit,
         None => reading.unit.unwrap_or(TimeUnit::Microseconds),
@@ -110,8 +110,8 @@ fn note_passed(log: usize, passed: PassedOver, warnings: &mut Vec<Warning>)
 
 /// How the log after a log is read, and what is passed over in that.
 #[derive(Clone, Copy)]
-struct LogEnd {
-    next: Reading,
+struct LogEnd<'a> {
+    next: Reading<'a>,
     passed: PassedOver,
 }
 
@@ -134,13 +134,13 @@ fn keep_taken<'a, T: WordKeeper>(
 
 /// Keeps the words of a log as they are taken. The answer is how the next log is read, and what is passed over. Error: the first faulty line of the
 /// log, or an allocation failed.
-#[tactic(auto, using(crate::proofs::LogLines::kept_more, crate::proofs::LogLines::kept_none))]
+#[tactic(auto, using(crate::proofs::LogLines::kept_more))]
 fn keep_log<'a, T: WordKeeper>(
     alloc: Global,
     keeper: &mut T,
     view: LogView<'a>,
     log: NumberedLog<'a>,
-) -> Result<LogEnd, Refused>
+) -> Result<LogEnd<'a>, Refused>
     ensures kept { KeepsLog (viewed (view_of view.entry) (T.item keeper.old)) log.entry.reading log.entry.text.now
         (T.kept keeper.old) (T.kept keeper.new) result }
     ensures titles { IfOk result (λ end. end.passed.titles ≡ titles_of log.entry.reading log.entry.text.now) }
@@ -177,14 +177,15 @@ pub fn keep_logs<'a, T: WordKeeper>(
     alloc: Global,
     keeper: &mut T,
     view: LogView<'a>,
-    reading: Reading,
+    reading: Reading<'a>,
     first: usize,
     logs: &'a [Vec<u8>],
     warnings: &mut Vec<Warning>,
-) -> Result<Reading, Refused>
+) -> Result<Reading<'a>, Refused>
     requires { T.kept keeper.old ≡ [] }
-    ensures silent { PassesNone reading (bytes_of logs.now) → warnings.new.items ≡ warnings.old.items }
-    ensures kept { KeepsLogs (viewed (view_of view.entry) (T.item keeper.old)) reading (bytes_of logs.now) (T.kept keeper.new) result }
+    ensures silent { PassesNone reading.entry (bytes_of logs.now) → warnings.new.items ≡ warnings.old.items }
+    ensures kept { KeepsLogs (viewed (view_of view.entry) (T.item keeper.old)) reading.entry (bytes_of logs.now)
+        (T.kept keeper.new) result }
 {
     let mut next = reading;
     for number in 0..logs.len() {

@@ -143,8 +143,8 @@ impl<'a> LogView<'a> {
 
     /// The same view of a log that is read after others: times are counted from the one that is given, otherwise from that of
     /// the first word of those.
-    pub fn after(self, reading: Reading) -> LogView<'a>
-        ensures { view_of result ≡ view_after reading (view_of self.entry) }
+    pub fn after(self, reading: Reading<'_>) -> LogView<'a>
+        ensures { view_of result ≡ view_after reading.entry (view_of self.entry) }
     {
         LogView {
             from: u64::max(self.from, reading.clock.base.unwrap_or(0)),

@@ -69,12 +69,12 @@ pub fn read_words<'a>(
     alloc: Global,
     names: &Names,
     view: LogView<'a>,
-    reading: Reading,
+    reading: Reading<'a>,
     logs: &'a [Vec<u8>],
     warnings: &mut Vec<Warning>,
 ) -> Result<Vec<LogWord>, Refused>
-    ensures silent { PassesNone reading (bytes_of logs.now) → warnings.new.items ≡ warnings.old.items }
-    ensures words { IsLogReading names.now (view_of view.entry) reading (bytes_of logs.now) result }
+    ensures silent { PassesNone reading.entry (bytes_of logs.now) → warnings.new.items ≡ warnings.old.items }
+    ensures words { IsLogReading names.now (view_of view.entry) reading.entry (bytes_of logs.now) result }
     ensures in_time { IfOk result (λ words. AreInTime words.items) }
 {
     let mut kept = ReceiverWords {

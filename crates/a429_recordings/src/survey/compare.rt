@@ -54,9 +54,9 @@ fn sheet_of(
     alloc: Global,
     survey: &Survey,
     equipment: &Equipment,
-    form: SurveyForm,
+    form: SurveyForm<'_>,
 ) -> Result<Compared, AllocError>
-    ensures { IfOk result (λ c. IsComparedSheet form equipment.now survey.now c.found c.text.items) }
+    ensures { IfOk result (λ c. IsComparedSheet form.entry equipment.now survey.now c.found c.text.items) }
 {
     let expected = expected_by(alloc, equipment)?;
     let sheet = survey.compared_sheet(alloc, form.rate, &expected)?;
@@ -71,11 +71,11 @@ fn compare_words<'a>(
     equipment: &Equipment,
     view: LogView<'a>,
     logs: &'a [Vec<u8>],
-    form: SurveyForm,
+    form: SurveyForm<'a>,
     warnings: &mut Vec<Warning>,
 ) -> Result<Compared, Refused>
-    ensures silent { PassesNone form.reading (bytes_of logs.now) → warnings.new.items ≡ warnings.old.items }
-    ensures compared { IsComparingOf equipment.now (view_of view.entry) form (bytes_of logs.now) result }
+    ensures silent { PassesNone form.entry.reading (bytes_of logs.now) → warnings.new.items ≡ warnings.old.items }
+    ensures compared { IsComparingOf equipment.now (view_of view.entry) form.entry (bytes_of logs.now) result }
 {
     let survey = survey_of(alloc, view, form.reading, logs, warnings)?;
     Ok(sheet_of(alloc, &survey, equipment, form)?)
@@ -86,11 +86,11 @@ fn compare_input<'a>(
     alloc: Global,
     input: &'a CompareInput,
     view: LogView<'a>,
-    form: SurveyForm,
+    form: SurveyForm<'a>,
     warnings: &mut Vec<Warning>,
 ) -> Result<Compared, Refused>
-    ensures silent { PassesNone form.reading (bytes_of input.now.logs.items) → warnings.new.items ≡ warnings.old.items }
-    ensures compared { IsComparing input.now.table.items (view_of view.entry) form (bytes_of input.now.logs.items) result }
+    ensures silent { PassesNone form.entry.reading (bytes_of input.now.logs.items) → warnings.new.items ≡ warnings.old.items }
+    ensures compared { IsComparing input.now.table.items (view_of view.entry) form.entry (bytes_of input.now.logs.items) result }
 {
     let equipment = read_table(alloc, &input.table)?;
     compare_words(alloc, &equipment, view, &input.logs, form, warnings)
@@ -104,12 +104,12 @@ pub fn compare_logs<'a, F: FileReader>(
     files: &mut F,
     table: &str,
     names: LogNames<'a>,
-    form: SurveyForm,
+    form: SurveyForm<'a>,
     warnings: &mut Vec<Warning>,
 ) -> Result<Compared, Refused>
-    ensures silent { HasRead F.answers (λ file. PassesNoLine file (logs_named names.entry) form.reading
+    ensures silent { HasRead F.answers (λ file. PassesNoLine file (logs_named names.entry) form.entry.reading
         → warnings.new.items ≡ warnings.old.items) files.old files.new }
-    ensures answer { HasRead F.answers (λ file. IsCompareAnswer file table.now names.entry form result) files.old files.new }
+    ensures answer { HasRead F.answers (λ file. IsCompareAnswer file table.now names.entry form.entry result) files.old files.new }
 {
     let input = read_input(alloc, files, table, names)?;
     compare_input(alloc, &input, names.view, form, warnings)

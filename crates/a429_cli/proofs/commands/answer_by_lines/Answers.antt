@@ -5,10 +5,10 @@ use Rattle.a429_arguments.specs.Texts.{texts_of}
 use Rattle.a429_arguments.specs.Requests.{asked_of}
 use Rattle.a429_recordings.specs.LogItems.{PassesNoLine, logs_named, view_named}
 use Rattle.a429_recordings.specs.LogViews.{View, whole_view}
-use Rattle.a429_recordings.specs.declared.simulate.SimulationForm.{SimulationForm}
-use Rattle.a429_recordings.specs.SimulationReplies.{IsSimulation, SimulatesSpacedWords, simulation_form}
+use Rattle.a429_recordings.specs.SimulationReplies.{IsSimulation, SimulatesSpacedWords}
 use Rattle.a429_arguments.specs.Given.{form_of}
 use Rattle.a429_text.specs.declared.sheets.SheetForm.{SheetForm}
+use Rattle.a429_given.specs.GivenTables.{TableTexts, named_table, table_names}
 use Rattle.a429_cli.specs.LineReplies.{IsLinesReply}
 use Rattle.a429_replay.specs.Replaying.{IsReplay, TakesFurther}
 use Rattle.a429_replay.specs.Views.{AskedView, asked_view, view_given}
@@ -28,10 +28,13 @@ pub returns-in-Replay-clause-read : goal.returns-in-Replay-clause-read
 returns-in-Replay-clause-read g c =
     rw c.in-Replay.is
     (read_weaker c.replay.ensures.replayed (λ file is. IfOk-weaker c.replay.result _ _ (λ status told.
-    let by_names : IsReplay file (asked_view c.of-view.result) c.args.asked.now.first.now c.args.asked.now.second.now (texts_of c.args.asked.now.more.items) status told.0 =
-    rw c.deref-in-Replay.ensures.value at told.1 in
-    let reply : IsReplay file (view_given (asked_of c.args.asked.now).given) c.args.asked.now.first.now c.args.asked.now.second.now (texts_of c.args.asked.now.more.items) status told.0 =
-    subst (λ (v : AskedView). IsReplay file v c.args.asked.now.first.now c.args.asked.now.second.now (texts_of c.args.asked.now.more.items) status told.0) c.of-view.ensures by_names in
+    let a = c.args.asked.now in
+    let table = named_table (asked_of a) in
+    let by_table : IsReplay file (asked_view c.of-view.result) table a.second.now (texts_of c.deref-in-Replay.result.now) status told.0 =
+    subst (λ (t : TableTexts). IsReplay file (asked_view c.of-view.result) t a.second.now (texts_of c.deref-in-Replay.result.now) status told.0) c.of-table.ensures told.1 in
+    let by_names : IsReplay file (asked_view c.of-view.result) table a.second.now (texts_of a.more.items) status told.0 = rw c.deref-in-Replay.ensures.value at by_table in
+    let reply : IsReplay file (view_given (asked_of a).given) table a.second.now (texts_of a.more.items) status told.0 =
+    subst (λ (v : AskedView). IsReplay file v table a.second.now (texts_of a.more.items) status told.0) c.of-view.ensures by_names in
     (told.0, inl reply, told.2))
     is))
 
@@ -39,15 +42,16 @@ pub returns-in-Simulate-clause-read : goal.returns-in-Simulate-clause-read
 returns-in-Simulate-clause-read g c =
     rw c.in-Simulate.is (read_weaker c.simulate.ensures.simulated (λ file is. IfOk-weaker c.simulate.result _ _ (λ status told.
     let a = c.args.asked.now in
+    let table = named_table (asked_of a) in
     let names = c.simulated_logs.result in
-    let form = simulation_form (asked_of a).given in
-    let by_form : IsSimulation file a.first.now (logs_named names) (view_named names) form status told.0 =
-    subst (λ (f : SimulationForm). IsSimulation file a.first.now (logs_named names) (view_named names) f status told.0) c.of-form.ensures told.1 in
-    let by_logs : IsSimulation file a.first.now (a.second.now ∷ texts_of a.more.items) (view_named names) form status told.0 =
-    subst (λ (logs : List (List ℕ)). IsSimulation file a.first.now logs (view_named names) form status told.0) c.simulated_logs.ensures.logs by_form in
-    let reply : IsSimulation file a.first.now (a.second.now ∷ texts_of a.more.items) (whole_view (asked_of a).given) form status told.0 =
-    subst (λ (view : View). IsSimulation file a.first.now (a.second.now ∷ texts_of a.more.items) view form status told.0) c.simulated_logs.ensures.view by_logs in
-    (told.0, inl reply, told.2))
+    let form = c.of-form.result in
+    let by_table : IsSimulation file table (logs_named names) (view_named names) form status told.0 =
+    subst (λ (t : TableTexts). IsSimulation file t (logs_named names) (view_named names) form status told.0) c.of.ensures told.1 in
+    let by_logs : IsSimulation file table (a.second.now ∷ texts_of a.more.items) (view_named names) form status told.0 =
+    subst (λ (logs : List (List ℕ)). IsSimulation file table logs (view_named names) form status told.0) c.simulated_logs.ensures.logs by_table in
+    let reply : IsSimulation file table (a.second.now ∷ texts_of a.more.items) (whole_view (asked_of a).given) form status told.0 =
+    subst (λ (view : View). IsSimulation file table (a.second.now ∷ texts_of a.more.items) view form status told.0) c.simulated_logs.ensures.view by_logs in
+    (told.0, inl (form, c.of-form.ensures, reply), told.2))
     is))
 
 pub returns-in-Lines-clause-silent : goal.returns-in-Lines-clause-silent
@@ -61,21 +65,23 @@ returns-in-Simulate-clause-silent g c =
     let names = c.simulated_logs.result in
     let logs = a.second.now ∷ texts_of a.more.items in
     let view = whole_view (asked_of a).given in
-    let by_reading : PassesNoLine file logs c.of-form.result.reading =
-    subst (λ (f : SimulationForm). PassesNoLine file logs f.reading) (sym c.of-form.ensures) none.0 in
-    let plain : PassesNoLine file (logs_named names) c.of-form.result.reading =
-    subst (λ (ls : List (List ℕ)). PassesNoLine file ls c.of-form.result.reading) (sym c.simulated_logs.ensures.logs) by_reading in
-    let by_form : SimulatesSpacedWords file a.first.now logs view c.of-form.result =
-    subst (λ (f : SimulationForm). SimulatesSpacedWords file a.first.now logs view f) (sym c.of-form.ensures) none.1 in
-    let by_logs : SimulatesSpacedWords file a.first.now (logs_named names) view c.of-form.result =
-    subst (λ (ls : List (List ℕ)). SimulatesSpacedWords file a.first.now ls view c.of-form.result) (sym c.simulated_logs.ensures.logs) by_form in
-    let these : SimulatesSpacedWords file a.first.now (logs_named names) (view_named names) c.of-form.result =
-    subst (λ (v : View). SimulatesSpacedWords file a.first.now (logs_named names) v c.of-form.result) (sym c.simulated_logs.ensures.view) by_logs in
+    let form = c.of-form.result in
+    let plain : PassesNoLine file (logs_named names) form.reading =
+    subst (λ (ls : List (List ℕ)). PassesNoLine file ls form.reading) (sym c.simulated_logs.ensures.logs) (none.0 form.reading c.of-form.ensures.reading) in
+    let by_table : SimulatesSpacedWords file (table_names c.of.result) logs view form =
+    subst (λ (t : TableTexts). SimulatesSpacedWords file t logs view form) (sym c.of.ensures) (none.1 form c.of-form.ensures) in
+    let by_logs : SimulatesSpacedWords file (table_names c.of.result) (logs_named names) view form =
+    subst (λ (ls : List (List ℕ)). SimulatesSpacedWords file (table_names c.of.result) ls view form) (sym c.simulated_logs.ensures.logs) by_table in
+    let these : SimulatesSpacedWords file (table_names c.of.result) (logs_named names) (view_named names) form =
+    subst (λ (v : View). SimulatesSpacedWords file (table_names c.of.result) (logs_named names) v form) (sym c.simulated_logs.ensures.view) by_logs in
     is plain these))
 
 pub returns-in-Replay-clause-silent : goal.returns-in-Replay-clause-silent
 returns-in-Replay-clause-silent g c =
     rw c.in-Replay.is
     (read_weaker c.replay.ensures.taken (λ file is takes.
-    let takes_these : TakesFurther file c.args.asked.now.first.now c.args.asked.now.second.now (texts_of c.deref-in-Replay.result.now) = rw c.deref-in-Replay.ensures.value takes in
+    let second = c.args.asked.now.second.now in
+    let by_table : TakesFurther file (table_names c.of-table.result) second (texts_of c.args.asked.now.more.items) =
+    subst (λ (t : TableTexts). TakesFurther file t second (texts_of c.args.asked.now.more.items)) (sym c.of-table.ensures) takes in
+    let takes_these : TakesFurther file (table_names c.of-table.result) second (texts_of c.deref-in-Replay.result.now) = rw c.deref-in-Replay.ensures.value by_table in
     is takes_these))

@@ -16,4 +16,4 @@ returns-in_err-proposal c =
     (or_memory_weaker (IsTableRefusal c.args.table.now) none e (λ one. inl one) c.in_err-proposal.ensures)
 
 pub returns-in-Ok : goal.returns-in-Ok
-returns-in-Ok c = (c.in_ok-proposal.proposal, c.in_ok-proposal.ensures, c.in-Ok.ensures.followed)
+returns-in-Ok c = (c.stays_planned.ensures, c.in_ok-proposal.proposal, c.in_ok-proposal.ensures, c.in-Ok.ensures.followed)

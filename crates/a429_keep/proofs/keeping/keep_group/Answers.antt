@@ -1,12 +1,12 @@
-use Rattle.std.proofs.Common.{◌≡◌, ◌≤◌, ◌∙◌, ◌^◌, ◌<◌, ℕ, Bool, List, true, ap, ap₂, arith, subst, sym, map}
-use Rattle.std.specs.Prelude.{Some, not, slice_get}
+use Rattle.std.proofs.Common.{◌≡◌, ◌∙◌, ℕ, Bool, List, true, ap, ap₂, arith, subst, sym, map}
+use Rattle.std.specs.Prelude.{Some, slice_get}
 use Rattle.std.specs.List.{list_all}
 use Rattle.a429_slots.specs.declared.group_plan.SlotPlace.{SlotPlace}
 use Rattle.a429_slots.specs.Moves.{AreFor}
 use Rattle.a429_slots.specs.Tables.{PlanTable, SlotTable, buses_of, frame_of, groups_of}
 use Rattle.a429_keep.specs.KeptPlans.{are_inside, is_inside}
 use Rattle.a429_keep.specs.Rows.{row_view}
-use Rattle.a429_keep.proofs.KeptGroups.{are_for, replaced_kept, unchanged_kept}
+use Rattle.a429_keep.proofs.KeptGroups.{are_for}
 use Rattle.a429_keep.proofs.keeping.keep_group.Goals as goal
 
 -- the test of the places, as it was asked for

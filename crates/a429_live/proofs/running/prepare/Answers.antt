@@ -4,7 +4,6 @@ use Rattle.std.proofs.lemmas.Result.{err_from_is_err_and}
 use Rattle.a429_live.specs.LiveReplies.{IsNoLiveStart, files_of}
 use Rattle.a429_console.specs.RefusalText.{OrMemory}
 use Rattle.a429_console.specs.Names.{Naming, naming_of}
-use Rattle.a429_console.specs.Tables.{IsProposedBy}
 use Rattle.a429_live.specs.WordsFile.{IsWordsFault}
 use Rattle.a429_console.proofs.Refused.{failed, or_memory_weaker}
 use Rattle.a429_live.proofs.running.prepare.Goals as goal
@@ -15,8 +14,7 @@ returns-in_err-arrivals c =
     let e = c.in_err-arrivals.field-0.0 in
     let p = err_from_is_err_and c.from_residual-in_err-arrivals.result c.from_residual-in_err-arrivals.ensures.1 in
     let q = c.in_ok-proposal.proposal in
-    let proposed = subst (λ (t : List ℕ). IsProposedBy t q) c.deref.ensures.value c.in_ok-proposal.ensures in
-    let of_names = subst (λ (n : Naming). OrMemory (IsWordsFault n c.deref-2.result.now) e) (ap naming_of c.equipment.ensures.equipment) c.in_err-arrivals.ensures in
-    let fault = subst (λ (t : List ℕ). OrMemory (IsWordsFault (naming_of q.station) t) e) c.deref-2.ensures.value of_names in
+    let of_names = subst (λ (n : Naming). OrMemory (IsWordsFault n c.deref.result.now) e) (ap naming_of c.equipment.ensures.equipment) c.in_err-arrivals.ensures in
+    let fault = subst (λ (t : List ℕ). OrMemory (IsWordsFault (naming_of q.station) t) e) c.deref.ensures.value of_names in
     failed c.from_residual-in_err-arrivals.result _ (OrMemory (IsNoLiveStart i)) e (p.1 ∙ ap Err p.2)
-    (or_memory_weaker (IsWordsFault (naming_of q.station) i.words) (IsNoLiveStart i) e (λ one. inr (q, proposed, one)) fault)
+    (or_memory_weaker (IsWordsFault (naming_of q.station) i.words) (IsNoLiveStart i) e (λ one. inr (q, c.in_ok-proposal.ensures.given, one)) fault)

@@ -7,8 +7,7 @@ use Rattle.a429_equipment.specs.TableRecord.{TableRecord}
 use Rattle.std.specs.declared.vec.Vec.{Vec}
 use Rattle.std.specs.declared.alloc.Global.{Global}
 use Rattle.a429_console.specs.Files.{bytes_of}
-use Rattle.a429_console.specs.FileReadings.{IsFirstUnread}
-use Rattle.a429_live.specs.LiveReplies.{IsLiveRefusal, IsNoLiveStart, IsReportOf, IsRunRefusal, IsRunReport, IsRunResult, files_of}
+use Rattle.a429_live.specs.LiveReplies.{IsLiveRefusal, IsLiveUnread, IsNoLiveStart, IsReportOf, IsRunRefusal, IsRunReport, IsRunResult, files_of}
 use Rattle.a429_live.specs.declared.words.Arrival.{Arrival}
 use Rattle.a429_arguments.specs.Requests.{asked_of}
 use Rattle.a429_console.specs.RefusalText.{OrMemory}
@@ -28,7 +27,7 @@ returns-in_err-input-clause-report g c =
     let e = c.in_err-input.field-0.0 in
     let p = err_from_is_err_and c.from_residual.result c.from_residual.ensures.1 in
     read_weaker c.in_err-input.ensures (λ file bad. failed c.from_residual.result _ (OrMemory (IsLiveRefusal file r)) e (p.1 ∙ ap Err p.2)
-    (or_memory_weaker (IsFirstUnread file (r.first ∷ r.second ∷ r.more)) (IsLiveRefusal file r) e (λ one. inl one) bad))
+    (or_memory_weaker (IsLiveUnread file r) (IsLiveRefusal file r) e (λ one. inl one) bad))
 
 pub returns-in_err-prepared-clause-report : goal.returns-in_err-prepared-clause-report
 returns-in_err-prepared-clause-report g c =

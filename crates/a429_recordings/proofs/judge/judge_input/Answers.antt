@@ -1,8 +1,8 @@
-use Rattle.std.proofs.Common.{◌∙◌, ap, inl, subst, List, ℕ}
+use Rattle.std.proofs.Common.{◌∙◌, ap, inl}
 use Rattle.std.specs.Prelude.{Err}
 use Rattle.std.proofs.lemmas.Result.{err_from_is_err_and}
 use Rattle.a429_console.specs.RefusalText.{OrMemory}
-use Rattle.a429_console.specs.Tables.{IsProposedBy, IsTableRefusal}
+use Rattle.a429_given.specs.GivenPlans.{IsNoGivenPlan}
 use Rattle.a429_console.proofs.Refused.{failed, or_memory_weaker}
 use Rattle.a429_recordings.specs.JudgeReplies.{IsUnjudged, files_of}
 use Rattle.a429_recordings.proofs.JudgedFiles.{judged_of}
@@ -13,13 +13,11 @@ returns-in_err-proposal-clause-judged c =
     let i = files_of c.args.input.now in
     let e = c.in_err-proposal.field-0.0 in
     let p = err_from_is_err_and c.from_residual.result c.from_residual.ensures.1 in
-    let fault = subst (λ (t : List ℕ). OrMemory (IsTableRefusal t) e) c.deref.ensures.value c.in_err-proposal.ensures in
     failed c.from_residual.result _ (OrMemory (IsUnjudged i c.args.form)) e (p.1 ∙ ap Err p.2)
-    (or_memory_weaker (IsTableRefusal i.table) (IsUnjudged i c.args.form) e (λ one. inl one) fault)
+    (or_memory_weaker (IsNoGivenPlan i.table) (IsUnjudged i c.args.form) e (λ one. inl one) c.in_err-proposal.ensures.given)
 
 pub returns-clause-judged : goal.returns-clause-judged
 returns-clause-judged c =
     let i = files_of c.args.input.now in
     let q = c.in_ok-proposal.proposal in
-    let proposed = subst (λ (t : List ℕ). IsProposedBy t q) c.deref.ensures.value c.in_ok-proposal.ensures in
-    rw c.with_plan.ensures (judged_of q i c.args.form c.judge_box-judged.result proposed c.judge_box-judged.ensures.judged)
+    rw c.with_plan.ensures (judged_of q i c.args.form c.judge_box-judged.result c.in_ok-proposal.ensures.given c.judge_box-judged.ensures.judged)

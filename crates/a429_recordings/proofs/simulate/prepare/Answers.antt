@@ -3,7 +3,7 @@ use Rattle.std.specs.Prelude.{Err, Ok}
 use Rattle.std.proofs.lemmas.Result.{err_from_is_err_and}
 use Rattle.a429_console.specs.RefusalText.{OrMemory}
 use Rattle.a429_console.specs.Names.{Naming}
-use Rattle.a429_console.specs.Tables.{IsProposedBy, IsTableRefusal}
+use Rattle.a429_given.specs.GivenPlans.{IsNoGivenPlan}
 use Rattle.a429_console.proofs.Refused.{failed, or_memory_weaker}
 use Rattle.a429_recordings.specs.SimulationLog.{IsLogFault, log_words}
 use Rattle.a429_recordings.specs.SimulationReplies.{BeginsNoLog, IsUnsimulated, files_of}
@@ -14,9 +14,8 @@ returns-in_err-setting-clause-prepared c =
     let i = files_of c.args.input.now in
     let e = c.in_err-setting.field-0.0 in
     let p = err_from_is_err_and c.from_residual.result c.from_residual.ensures.1 in
-    let fault = subst (λ (t : List ℕ). OrMemory (IsTableRefusal t) e) c.deref.ensures.value c.in_err-setting.ensures in
     failed c.from_residual.result _ (OrMemory (IsUnsimulated i c.args.form)) e (p.1 ∙ ap Err p.2)
-    (or_memory_weaker (IsTableRefusal i.table) (IsUnsimulated i c.args.form) e (λ one. inl (inl one)) fault)
+    (or_memory_weaker (IsNoGivenPlan i.table) (IsUnsimulated i c.args.form) e (λ one. inl (inl one)) c.in_err-setting.ensures)
 
 pub returns-in_err-player-clause-prepared : goal.returns-in_err-player-clause-prepared
 returns-in_err-player-clause-prepared c =
@@ -26,7 +25,7 @@ returns-in_err-player-clause-prepared c =
     let s = c.in_ok-setting.setting in
     let q = s.proposal in
     let names = c.in_ok-setting.ensures.1 in
-    let proposed = subst (λ (t : List ℕ). IsProposedBy t q) c.deref.ensures.value c.in_ok-setting.ensures.0 in
+    let proposed = c.in_ok-setting.ensures.0 in
     let why : BeginsNoLog s i c.args.form e → IsUnsimulated i c.args.form e = λ why. elim why [
       | inl one ↦ inl (inr (q, proposed, subst (λ (n : Naming). IsLogFault n i.view c.args.form.reading i.logs e) names one))
       | inr more ↦ inr (
@@ -45,7 +44,7 @@ returns-clause-prepared c =
     let i = files_of c.args.input.now in
     let s = c.in_ok-setting.setting in
     let names = c.in_ok-setting.ensures.1 in
-    let proposed = subst (λ (t : List ℕ). IsProposedBy t s.proposal) c.deref.ensures.value c.in_ok-setting.ensures.0 in
+    let proposed = c.in_ok-setting.ensures.0 in
     let start = c.in_ok-player.ensures.player in
     record {
       words = start.0;

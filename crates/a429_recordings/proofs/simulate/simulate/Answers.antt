@@ -3,6 +3,7 @@ use Rattle.std.proofs.lemmas.Result.{IfOk-weaker}
 use Rattle.a429_console.specs.RefusalText.{refusal_line}
 use Rattle.a429_console.proofs.ReadingParts.{read_weaker}
 use Rattle.a429_console.proofs.Refused.{both_ok, or_memory_weaker, told_or_memory}
+use Rattle.a429_given.specs.GivenTables.{table_names}
 use Rattle.a429_recordings.specs.CloseWords.{AreSpaced}
 use Rattle.a429_recordings.specs.LogItems.{logs_named, view_named}
 use Rattle.a429_recordings.specs.SimulationReplies.{IsSimulationRefusal, IsUnreadFile, IsUnsimulated, files_of}
@@ -13,8 +14,8 @@ use Rattle.a429_recordings.proofs.simulate.simulate.Goals as goal
 pub returns-in-Err-clause-simulated : goal.returns-in-Err-clause-simulated
 returns-in-Err-clause-simulated g c = read_weaker c.in-Err.ensures (λ file bad.
     let logs = logs_named c.args.names in
-    let begun = IsSimulationRefusal file c.args.table.now (logs_named c.args.names) (view_named c.args.names) c.args.form in
-    let why = or_memory_weaker (IsUnreadFile file c.args.table.now logs) begun c.in-Err.refusal (λ unread. inl unread) bad in
+    let begun = IsSimulationRefusal file (table_names c.args.table) (logs_named c.args.names) (view_named c.args.names) c.args.form in
+    let why = or_memory_weaker (IsUnreadFile file (table_names c.args.table) logs) begun c.in-Err.refusal (λ unread. inl unread) bad in
     both_ok c.refuse.result _ _ (λ status is line. (refusal_line line.0 ++ 10 ∷ [], inl (line.0, told_or_memory begun c.in-Err.refusal line.0 line.1 why, is, refl), line.2)) c.refuse.ensures.status c.refuse.ensures.line)
 
 pub returns-in-Ok-prepare-clause-simulated : goal.returns-in-Ok-prepare-clause-simulated
@@ -25,7 +26,7 @@ returns-in-Ok-prepare-clause-simulated g c =
     let i = files_of c.in-Ok.input in
     rw c.plain_answer.ensures (read_weaker c.in-Ok.ensures (λ file read. IfOk-weaker c.print_simulation.result _ _ (λ status put. (
       put.0,
-      simulated_reply file c.args.table.now (logs_named c.args.names) (view_named c.args.names) c.args.form i q P.words read P.simulated status put.0 put.1,
+      simulated_reply file (table_names c.args.table) (logs_named c.args.names) (view_named c.args.names) c.args.form i q P.words read P.simulated status put.0 put.1,
       put.2,
     ))
     (c.print_simulation.ensures.printed P.words (end_of q P.words c.args.form.until) P.begin)))
@@ -33,7 +34,7 @@ returns-in-Ok-prepare-clause-simulated g c =
 pub returns-clause-simulated : goal.returns-clause-simulated
 returns-clause-simulated g c = read_weaker c.in-Ok.ensures (λ file read.
     let i = files_of c.in-Ok.input in
-    let begun = IsSimulationRefusal file c.args.table.now (logs_named c.args.names) (view_named c.args.names) c.args.form in
+    let begun = IsSimulationRefusal file (table_names c.args.table) (logs_named c.args.names) (view_named c.args.names) c.args.form in
     let why = or_memory_weaker (IsUnsimulated i c.args.form) begun c.in-Err-prepare.refusal (λ cause. inr (i, read, cause)) c.in-Err-prepare.ensures.prepared in
     both_ok c.refuse-in-Err-prepare.result _ _ (λ status is line. (refusal_line line.0 ++ 10 ∷ [], inl (line.0, told_or_memory begun c.in-Err-prepare.refusal line.0 line.1 why, is, refl), line.2)) c.refuse-in-Err-prepare.ensures.status c.refuse-in-Err-prepare.ensures.line)
 

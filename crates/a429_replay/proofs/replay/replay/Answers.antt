@@ -3,11 +3,12 @@ use Rattle.std.proofs.Common.{◌≡◌, ◌∙◌, ◌⊎◌, ◌++◌, ◌∷�
 use Rattle.std.specs.List.{AllByRecursion}
 use Rattle.std.proofs.lemmas.Result.{IfOk-weaker}
 use Rattle.a429_equipment.specs.TableRecord.{TableRecord}
-use Rattle.a429_console.specs.FileReadings.{IsFirstUnread}
 use Rattle.a429_console.specs.RefusalText.{refusal_line}
-use Rattle.a429_console.specs.Tables.{IsTableRefusal, IsTakenBy}
+use Rattle.a429_console.specs.Tables.{IsTakenBy}
+use Rattle.a429_given.specs.GivenPlans.{IsNoGivenPlan}
+use Rattle.a429_given.specs.GivenTables.{table_names}
 use Rattle.a429_replay.specs.Kept.{events_of}
-use Rattle.a429_replay.specs.Replaying.{IsReplayRefusal, IsScriptRefusal, ReplayInput}
+use Rattle.a429_replay.specs.Replaying.{IsInputUnread, IsReplayRefusal, IsScriptRefusal, ReplayInput}
 use Rattle.a429_replay.specs.Opened.{input_of}
 use Rattle.a429_replay.specs.Views.{asked_view}
 use Rattle.a429_console.proofs.Refused.{both_ok, or_memory_weaker, told_or_memory}
@@ -16,8 +17,8 @@ use Rattle.a429_replay.proofs.replay.replay.Goals as goal
 pub returns-in-Err-clause-replayed : goal.returns-in-Err-clause-replayed
 returns-in-Err-clause-replayed g c = read_weaker c.in-Err.ensures (λ file bad.
     let names = map (λ n. n.now) c.args.more.now in
-    let begun = IsReplayRefusal file (asked_view c.args.asked.now) c.args.table.now c.args.script.now names in
-    let why = or_memory_weaker (IsFirstUnread file (c.args.table.now ∷ c.args.script.now ∷ names)) begun c.in-Err.refusal
+    let begun = IsReplayRefusal file (asked_view c.args.asked.now) (table_names c.args.table) c.args.script.now names in
+    let why = or_memory_weaker (IsInputUnread file (table_names c.args.table) c.args.script.now names) begun c.in-Err.refusal
     (λ unread. inl unread) bad in
     both_ok c.refuse.result _ _ (λ status is line. (refusal_line line.0 ++ 10 ∷ [], inl (line.0, told_or_memory begun c.in-Err.refusal line.0 line.1 why, is, refl), line.2)) c.refuse.ensures.status c.refuse.ensures.line)
 
@@ -33,8 +34,8 @@ pub returns-in-Err-prepare-clause-replayed : goal.returns-in-Err-prepare-clause-
 returns-in-Err-prepare-clause-replayed g c = read_weaker c.in-Ok.ensures (λ file read.
     let names = map (λ n. n.now) c.args.more.now in
     let i = input_of c.in-Ok.input in
-    let begun = IsReplayRefusal file (asked_view c.args.asked.now) c.args.table.now c.args.script.now names in
-    let why = or_memory_weaker (λ r. IsTableRefusal i.table r ⊎ IsScriptRefusal i (asked_view c.args.asked.now) r) begun c.in-Err-prepare.refusal
+    let begun = IsReplayRefusal file (asked_view c.args.asked.now) (table_names c.args.table) c.args.script.now names in
+    let why = or_memory_weaker (λ r. IsNoGivenPlan i.table r ⊎ IsScriptRefusal i (asked_view c.args.asked.now) r) begun c.in-Err-prepare.refusal
     (λ cause. inr (i, read, cause)) c.in-Err-prepare.ensures in
     both_ok c.refuse-in-Err-prepare.result _ _ (λ status is line. (refusal_line line.0 ++ 10 ∷ [], inl (line.0, told_or_memory begun c.in-Err-prepare.refusal line.0 line.1 why, is, refl), line.2)) c.refuse-in-Err-prepare.ensures.status c.refuse-in-Err-prepare.ensures.line)
 
