@@ -59,10 +59,10 @@ _a429() {
         lint) options="--csv --json --stamp $options" ;;
         diff) options="--plan --other-plan --all --csv --json --stamp $options" ;;
         replay) options="--plan --quiet --only --csv $options" ;;
-        simulate) options="--plan --time --tick --dates --from --map --channel --ignore --reversed --until --sent --summary --csv --json $options" ;;
-        live) options="--plan $options" ;;
-        survey) options="--table --time --tick --dates --from --until --map --channel --ignore --reversed --rate --rows --slack --csv --json $options" ;;
-        judge) options="--plan --in --tolerance --events --time --tick --dates --from --until --align --shift --drift --map --channel --ignore --reversed --csv --json $options" ;;
+        simulate) options="--plan --time --tick --dates --from --map --channel --ignore --reversed --until --sent --summary --quiet --csv --json $options" ;;
+        live) options="--plan --quiet $options" ;;
+        survey) options="--table --time --tick --dates --from --until --map --channel --ignore --reversed --rate --rows --slack --quiet --csv --json $options" ;;
+        judge) options="--plan --in --tolerance --events --time --tick --dates --from --until --align --shift --drift --map --channel --ignore --reversed --quiet --csv --json $options" ;;
         word) options="--csv --json $options" ;;
         encode) options="--sdi --ssm --data --bnr --bits --bcd --csv --json $options" ;;
         lines) options="--csv --json $options" ;;

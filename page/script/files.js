@@ -2,12 +2,12 @@
 
 const ROLES = {
   sheet: "spreadsheet", table: "equipment table", otherSheet: "other spreadsheet", otherTable: "other table", came: "what came in",
-  sent: "what was sent", unused: "not used",
+  sent: "what was sent", both: "what came in and was sent", unused: "not used",
 };
 const LARGEST_TABLE = 16 * 1024 * 1024, LARGEST_LOG = 1024 * 1024 * 1024;
 const isTable = (file) => file.role === "table" || file.role === "sheet";
 const isOther = (file) => file.role === "otherTable" || file.role === "otherSheet";
-const isLog = (file) => file.role === "came" || file.role === "sent";
+const isLog = (file) => ["came", "sent", "both"].includes(file.role);
 
 let files = [];
 let spreadsheets = new Map(); // by the files that they are of
@@ -96,6 +96,7 @@ function guessDirections(receivers, groups) {
     const isGroup = (name) => groups.has(name.replace(/\.\d+$/, ""));
     if (file.names.every((name) => receivers.has(name))) file.role = "came";
     else if (file.names.every(isGroup)) file.role = "sent";
+    else if (file.names.some((name) => receivers.has(name)) && file.names.some(isGroup)) file.role = "both";
     file.isGuessed = false;
   }
   listFiles();

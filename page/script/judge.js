@@ -27,7 +27,7 @@ function unknownNames(icd, groups) {
   const receivers = [...new Set(icd.map((row) => row.receiver))];
   const buses = groups.flatMap((group) => [group.name, ...Array.from({ length: group.buses }, (_, bus) => `${group.name}.${bus}`)]);
   return files.filter(isLog).flatMap((file) => {
-    const known = file.role === "came" ? receivers : buses;
+    const known = { came: receivers, sent: buses, both: [...receivers, ...buses] }[file.role];
     return file.names.filter((name) => !known.includes(name)).map((name) => [name, known]);
   });
 }
@@ -140,19 +140,20 @@ async function surveyed(file) {
 
 // Judges what was sent, or simulates what came in. Without a plan there is only the survey.
 async function showJudge(planned) {
-  const came = files.filter((file) => file.role === "came"), sent = files.filter((file) => file.role === "sent"), parts = [];
+  const [came, sent, both] = ["came", "sent", "both"].map((role) => files.filter((file) => file.role === role)), parts = [];
   setCount("judge", "");
   logForm(planned ? unknownNames(planned.icd, planned.groups) : []);
-  if (!came.length && !sent.length) {
+  if (!files.some(isLog)) {
     return panel("judge", element("p", { class: "dim" }, "Drop a recording of what came in, and one of what your box sent. Both need one "
       + "clock. A line is a time, a name and a word: 47000 adc e4b100c1. Files of bus analysers with a heading are taken too."));
   }
-  if (planned && came.length && sent.length) parts.push(...await judge(planned, came, sent));
+  if (planned && both.length) parts.push(...await judge(planned, both, []));
+  else if (planned && came.length && sent.length) parts.push(...await judge(planned, came, sent));
   else if (planned && came.length) parts.push(...await simulated(planned, came));
   else {
     parts.push(element("p", { class: "dim" }, planned ? "Drop a recording of what came in, too."
       : "Drop a spreadsheet or a table to judge the recordings."));
   }
-  for (const file of [...came, ...sent]) parts.push(await surveyed(file));
+  for (const file of [...came, ...sent, ...both]) parts.push(await surveyed(file));
   return panel("judge", ...parts);
 }

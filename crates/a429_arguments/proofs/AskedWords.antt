@@ -14,7 +14,7 @@ use Rattle.a429_arguments.specs.RequestRows.{AsksFor, IsAskedBy}
 use Rattle.a429_arguments.specs.Numbers.{number_of}
 use Rattle.a429_arguments.specs.declared.forms.Verb.{Verb}
 use Rattle.a429_arguments.specs.declared.forms.Verb.TheVariants as verb
-use Rattle.a429_arguments.proofs.CommandFacts.{Facts, new, plain_leaf, required, facts, ids_after, ids_if, name_at, name_is_single, number_at, number_is_single, number_place, position_after, shape, third_place, use_if, uses}
+use Rattle.a429_arguments.proofs.CommandFacts.{Facts, new, plain_leaf, required, facts, ids_after, ids_if, name_at, name_is_single, number_at, number_is_single, number_place, position_after, shape, use_if, uses}
 use Rattle.a429_arguments.proofs.CommandWords.{asks_for, ends_well}
 use Rattle.a429_arguments.proofs.Decimals.{decimal_is_name, number_of_decimal}
 use Rattle.a429_arguments.proofs.FoundRows.{required_given, use_row, with_defaults}
@@ -44,28 +44,21 @@ module _ (r : AskedBytes) (text : Text) (has : HasWords r) (number_is : NumberTe
   row_here = row_of r.verb
 
   abbrev us : List (Rule × Text)
-  us = uses r.verb r.first r.second r.third text
+  us = uses r.verb r.first r.second text
 
   abbrev place : ℕ
   place = number_place r.verb
 
-  abbrev third_at : ℕ
-  third_at = third_place r.verb
-
   -- the words after the second name
   abbrev after_second : List (Rule × Text)
-  after_second = use_if (name_at third_at) row_here.third r.third ++ use_if (number_at place) row_here.number text
+  after_second = use_if (number_at place) row_here.number text
 
   f : Facts r.verb us
-  f = facts r.first r.second r.third text r.verb
+  f = facts r.first r.second text r.verb
 
   second_plain : (given : Option Text) → IsNameIf given r.second → ArePlain (use_if (name_at 2) given r.second)
   second_plain None none = tt
   second_plain (Some id) name = ((name_is_single 2 id, (name_is_plain r.second name, refl)), tt)
-
-  third_plain : (given : Option Text) → IsNameIf given r.third → ArePlain (use_if (name_at third_at) given r.third)
-  third_plain None none = tt
-  third_plain (Some id) name = ((name_is_single third_at id, (name_is_plain r.third name, refl)), tt)
 
   number_plain : (given : Option (Text × ℕ)) → NumberText given text r.number → ArePlain (use_if (number_at place) given text)
   number_plain None is = tt
@@ -74,8 +67,7 @@ module _ (r : AskedBytes) (text : Text) (has : HasWords r) (number_is : NumberTe
   plain : ArePlain us
   plain = (
     (name_is_single 1 row_here.first, (name_is_plain r.first has.first, refl)),
-    all_append (use_if (name_at 2) row_here.second r.second) after_second (second_plain row_here.second has.second)
-        (all_append (use_if (name_at third_at) row_here.third r.third) (use_if (number_at place) row_here.number text) (third_plain row_here.third has.third) (number_plain row_here.number number_is)),
+    all_append (use_if (name_at 2) row_here.second r.second) after_second (second_plain row_here.second has.second) (number_plain row_here.number number_is),
   )
 
   -- the words pass, and come to these rows
@@ -116,16 +108,9 @@ module _ (r : AskedBytes) (text : Text) (has : HasWords r) (number_is : NumberTe
   others_there : AllByRecursion IsThere (use_if (name_at 2) row_here.second r.second) × AllByRecursion IsThere after_second
   others_there = all_parts IsThere (use_if (name_at 2) row_here.second r.second) after_second there.1
 
-  rest_there : AllByRecursion IsThere (use_if (name_at third_at) row_here.third r.third) × AllByRecursion IsThere (use_if (number_at place) row_here.number text)
-  rest_there = all_parts IsThere (use_if (name_at third_at) row_here.third r.third) (use_if (number_at place) row_here.number text) others_there.1
-
   second_field : (given : Option Text) → IsNameIf given r.second → AllByRecursion IsThere (use_if (name_at 2) given r.second) → MatchOption given (r.second ≡ []) (λ id. first_of id found_rows ≡ Some r.second)
   second_field None none all = none
   second_field (Some id) name (found, all) = rw found refl
-
-  third_field : (given : Option Text) → IsNameIf given r.third → AllByRecursion IsThere (use_if (name_at third_at) given r.third) → MatchOption given (r.third ≡ []) (λ id. first_of id found_rows ≡ Some r.third)
-  third_field None none all = none
-  third_field (Some id) name (found, all) = rw found refl
 
   number_field : (given : Option (Text × ℕ)) → IsNumberIf given r.number → NumberText given text r.number → AllByRecursion IsThere (use_if (number_at place) given text) → MatchOption given (r.number ≡ 0) (λ n. number_of 0 n.1 (one_of n.0 found_rows) ≡ Some (Some r.number))
   number_field None none is all = none
@@ -135,30 +120,24 @@ module _ (r : AskedBytes) (text : Text) (has : HasWords r) (number_is : NumberTe
   asked = record {
     first = rw there.0 refl;
     second = second_field row_here.second has.second others_there.0;
-    third = third_field row_here.third has.third rest_there.0;
-    number = number_field row_here.number has.number number_is rest_there.1;
+    number = number_field row_here.number has.number number_is others_there.1;
     more = more_field r us f has row_here.more refl has.more;
     options = options_are_read r us f has;
     taken = has.rules;
   }
 
-  words_after : (third : Option Text) (number : Option (Text × ℕ)) (more : List Text)
-      → map word_of (use_if (name_at third_at) third r.third ++ use_if (number_at place) number text) ++ more ≡ words_if third (r.third ∷ []) ++ (words_if number (text ∷ []) ++ more)
-  words_after None None more = refl
-  words_after (Some id) None more = refl
-  words_after None (Some number) more = refl
-  words_after (Some id) (Some number) more = refl
-
-  words_are : (second third : Option Text) (number : Option (Text × ℕ)) (more : List Text)
-      → map word_of (use_if (name_at 2) second r.second ++ (use_if (name_at third_at) third r.third ++ use_if (number_at place) number text)) ++ more
-      ≡ words_if second (r.second ∷ []) ++ (words_if third (r.third ∷ []) ++ (words_if number (text ∷ []) ++ more))
-  words_are None third number more = words_after third number more
-  words_are (Some id) third number more = ap (λ (words : List Text). r.second ∷ words) (words_after third number more)
+  words_are : (second : Option Text) (number : Option (Text × ℕ)) (more : List Text)
+      → map word_of (use_if (name_at 2) second r.second ++ use_if (number_at place) number text) ++ more
+      ≡ words_if second (r.second ∷ []) ++ (words_if number (text ∷ []) ++ more)
+  words_are None None more = refl
+  words_are (Some id) None more = refl
+  words_are None (Some number) more = refl
+  words_are (Some id) (Some number) more = refl
 
   pub asks_with : AsksFor (words_with text r) r
   asks_with =
       let rest = r.more ++ words_of_options r.given (options_of r.verb) in
-      subst (λ (words : List Text). AsksFor (row_here.name ∷ r.first ∷ words) r) (words_are row_here.second row_here.third row_here.number rest)
+      subst (λ (words : List Text). AsksFor (row_here.name ∷ r.first ∷ words) r) (words_are row_here.second row_here.number rest)
       (asks_for row_here.name (shape r.verb) (map word_of us ++ rest) all_read.to r f.named refl all_read.walks well (subst (λ (found : List Row). IsAskedBy found r) (sym comes) asked))
 
 -- ---- with its number in decimal digits

@@ -44,17 +44,13 @@ abbrev pub next_if : {A : Type 0} → ℕ → Option A → ℕ
 next_if i None = i
 next_if i (Some x) = min (i + 1) usize_max
 
--- the place after the second name, and that after the third
-abbrev pub third_place : Verb → ℕ
-third_place v = next_if 2 (row_of v).second
-
+-- the place after the second name
 abbrev pub number_place : Verb → ℕ
-number_place v = next_if (third_place v) (row_of v).third
+number_place v = next_if 2 (row_of v).second
 
-abbrev pub uses : Verb → Text → Text → Text → Text → List (Rule × Text)
-uses v first second third number =
-    (name_at 1 (row_of v).first, first)
-    ∷ (use_if (name_at 2) (row_of v).second second ++ (use_if (name_at (third_place v)) (row_of v).third third ++ use_if (number_at (number_place v)) (row_of v).number number))
+abbrev pub uses : Verb → Text → Text → Text → List (Rule × Text)
+uses v first second number =
+    (name_at 1 (row_of v).first, first) ∷ (use_if (name_at 2) (row_of v).second second ++ use_if (number_at (number_place v)) (row_of v).number number)
 
 pub name_is_single : (i : ℕ) (id : Text) → IsSingle (name_at i id)
 name_is_single i id = record { range = refl; action = refl; reading = refl; trailing = refl }
@@ -176,9 +172,9 @@ verb_found _ = refl
 pub same_verb : (v w : Verb) → (row_of v).name ≡ (row_of w).name → v ≡ w
 same_verb v w named = same_Some v w (sym (verb_found v) ∙ ap verb_named named ∙ verb_found w)
 
-module _ (first second third number : Text) where
+module _ (first second number : Text) where
   -- of each: its arguments with one word each, the repeated names, its options, and the default value of each of its rules
-  pub facts : (v : Verb) → Facts v (uses v first second third number)
+  pub facts : (v : Verb) → Facts v (uses v first second number)
   unfolding command_line clap_on_literals
   facts verb.Word = known (record { met = refl; leads = refl; label = refl; no_help = refl }) (refl, refl, tt) tt refl refl refl refl
   facts verb.Encode = known (record { met = refl; leads = refl; label = refl; no_help = refl }) (refl, refl, tt) tt refl refl refl refl
@@ -197,5 +193,5 @@ module _ (first second third number : Text) where
   facts verb.Replay = known (record { met = refl; leads = refl; label = refl; no_help = refl }) (refl, refl, (refl, refl, tt)) (refl, refl) refl refl refl refl
   facts verb.Simulate = known (record { met = refl; leads = refl; label = refl; no_help = refl }) (refl, refl, (refl, refl, tt)) (refl, refl) refl refl refl refl
   facts verb.Survey = known (record { met = refl; leads = refl; label = refl; no_help = refl }) (refl, refl, tt) (refl, refl) refl refl refl refl
-  facts verb.Judge = known (record { met = refl; leads = refl; label = refl; no_help = refl }) (refl, refl, (refl, refl, (refl, refl, tt))) (refl, refl) refl refl refl refl
+  facts verb.Judge = known (record { met = refl; leads = refl; label = refl; no_help = refl }) (refl, refl, (refl, refl, tt)) (refl, refl) refl refl refl refl
   facts verb.Live = known (record { met = refl; leads = refl; label = refl; no_help = refl }) (refl, refl, (refl, refl, (refl, refl, tt))) (refl, refl) refl refl refl refl

@@ -40,10 +40,9 @@ pub row_is_plain : (row : CommandRow) → (row_app row).top.is_plain ≡ true
 row_is_plain row =
     let one = with_rule (new_app row.name) (required_rule row.first) in
     let two = with_any required_rule one row.second in
-    let three = with_any required_rule two row.third in
-    let four = with_any number_rule three row.number in
-    rules_keep_plain row.options (with_any many_rule four row.more)
-    ∙ (any_keeps_plain many_rule four row.more ∙ (any_keeps_plain number_rule three row.number ∙ (any_keeps_plain required_rule two row.third ∙ any_keeps_plain required_rule one row.second)))
+    let three = with_any number_rule two row.number in
+    rules_keep_plain row.options (with_any many_rule three row.more)
+    ∙ (any_keeps_plain many_rule three row.more ∙ (any_keeps_plain number_rule two row.number ∙ any_keeps_plain required_rule one row.second))
 
 -- a text that is read as true or false sets an option if and only if it is that of true
 set_by : (E : Type 0) (t : Text) (read : Option Bool) → ReadsOne {E = E} ParsesBool t read → unwrap_or read false ≡ bytes_eq t (codes "true")
@@ -84,6 +83,6 @@ name_is None default text is = absurd (cc is)
 name_is (Some t) default text is = same_Some t.now text is
 
 -- all that is asked for is read as it
-pub asked_is : (r : AskedBytes) (v : Verb) (first second third : Text) (number : ℕ) (more : List Text) (given : Given) → v ≡ r.verb → first ≡ r.first → second ≡ r.second → third ≡ r.third → number ≡ r.number
-    → more ≡ r.more → given ≡ r.given → record { verb = v; first = first; second = second; third = third; number = number; more = more; given = given } ≡ r
-asked_is r v first second third number more given a b c d e f g = rw (a, b, c, d, e, f, g) refl
+pub asked_is : (r : AskedBytes) (v : Verb) (first second : Text) (number : ℕ) (more : List Text) (given : Given) → v ≡ r.verb → first ≡ r.first → second ≡ r.second → number ≡ r.number
+    → more ≡ r.more → given ≡ r.given → record { verb = v; first = first; second = second; number = number; more = more; given = given } ≡ r
+asked_is r v first second number more given a b c d e f = rw (a, b, c, d, e, f) refl

@@ -109,19 +109,18 @@ options_of verb.Survey = SURVEY_OPTIONS.now
 options_of verb.Judge = JUDGE_OPTIONS.now
 options_of verb.Live = LIVE_OPTIONS.now
 
--- what a command is given: one to three names, perhaps a number up to the most, perhaps as many names as one likes, and options
+-- what a command is given: one or two names, perhaps a number up to the most, perhaps as many names as one likes, and options
 pub record CommandRow : Type 0 where
   pub name : Text
   pub first : Text
   pub second : Option Text
-  pub third : Option Text
   pub number : Option (Text × ℕ)
   pub more : Option Text
   pub options : List Rule
 
 -- a command of this name that is given one name and its options
 abbrev pub with_one : Verb → Text → Text → CommandRow
-with_one v name first = record { name = name; first = first; second = None; third = None; number = None; more = None; options = map option_rule (options_of v) }
+with_one v name first = record { name = name; first = first; second = None; number = None; more = None; options = map option_rule (options_of v) }
 
 -- a command that is given a table
 abbrev pub with_table : Verb → Text → CommandRow
@@ -145,7 +144,7 @@ row_of verb.Live =
     record (with_table verb.Live (codes "live")) { second = Some (codes "WORDS"); number = Some (codes "FRAMES", most_frames); more = Some (codes "FURTHER") }
 row_of verb.Survey = record (with_one verb.Survey (codes "survey") (codes "LOG")) { more = Some (codes "LOGS") }
 row_of verb.Judge =
-    record (with_table verb.Judge (codes "judge")) { second = Some (codes "IN"); third = Some (codes "OUT"); more = Some (codes "OUTS") }
+    record (with_table verb.Judge (codes "judge")) { second = Some (codes "IN"); more = Some (codes "OUT") }
 row_of verb.Word = with_one verb.Word (codes "word") (codes "HEX")
 row_of verb.Encode = with_one verb.Encode (codes "encode") (codes "LABEL")
 row_of verb.Lines = record (with_one verb.Lines (codes "lines") (codes "FILE")) { more = Some (codes "FILTER") }
@@ -165,7 +164,7 @@ with_any rule app (Some x) = with_rule app (rule x)
 
 -- the names that are given once each
 abbrev pub with_texts : App → CommandRow → App
-with_texts app row = with_any required_rule (with_any required_rule (with_rule app (required_rule row.first)) row.second) row.third
+with_texts app row = with_any required_rule (with_rule app (required_rule row.first)) row.second
 
 -- what is given apart from options
 abbrev pub with_names : App → CommandRow → App
@@ -212,7 +211,6 @@ form_row form = record {
   name = form.name.now;
   first = form.first.id.now;
   second = name_id form.second;
-  third = name_id form.third;
   number = number_id form.number;
   more = name_id form.more;
   options = map option_rule form.options.now;

@@ -23,7 +23,6 @@ AreGivenTexts rows argument texts = MatchOption argument (texts ≡ []) (λ id. 
 pub record IsAskedBy (rows : List Row) (r : AskedBytes) : Type 0 where
   pub first : first_of (row_of r.verb).first rows ≡ Some r.first
   pub second : IsGivenText rows (row_of r.verb).second r.second
-  pub third : IsGivenText rows (row_of r.verb).third r.third
   pub number : IsGivenNumber rows (row_of r.verb).number r.number
   pub more : AreGivenTexts rows (row_of r.verb).more r.more
   pub options : (name : OptionName) → given_in rows name ≡ r.given name

@@ -18,12 +18,11 @@ use Rattle.a429_arguments.specs.declared.forms.Verb.{Verb}
 use Rattle.a429_arguments.specs.declared.requests.Asked.{Asked}
 
 -- What is asked for, by the bytes of its texts: what contracts see of an `Asked`. A command that is given one name has no second one, and so with the
--- third one, the number (of frames) and further names.
+-- number (of frames) and further names.
 pub record AskedBytes : Type 0 where
   pub verb : Verb
   pub first : Text
   pub second : Text
-  pub third : Text
   pub number : ℕ
   pub more : List Text
   pub given : Given
@@ -34,7 +33,6 @@ asked_by_names v first second more = record {
   verb = v;
   first = first;
   second = second;
-  third = [];
   number = 0;
   more = more;
   given = nothing;
@@ -61,8 +59,8 @@ words_if (Some _) words = words
 abbrev pub words_with : Text → AskedBytes → List Text
 words_with number r =
     (row_of r.verb).name ∷ r.first
-    ∷ (words_if (row_of r.verb).second (r.second ∷ []) ++ (words_if (row_of r.verb).third (r.third ∷ []) ++ (words_if (row_of r.verb).number (number ∷ [])
-    ++ (r.more ++ words_of_options r.given (options_of r.verb)))))
+    ∷ (words_if (row_of r.verb).second (r.second ∷ []) ++ (words_if (row_of r.verb).number (number ∷ [])
+    ++ (r.more ++ words_of_options r.given (options_of r.verb))))
 
 abbrev pub words_of : AskedBytes → List Text
 words_of r = words_with (decimal r.number) r
@@ -93,7 +91,6 @@ has_option names name = list_any (λ x. bytes_eq (id_of x) (id_of name)) names
 pub record HasWords (r : AskedBytes) : Type 0 where
   pub first : IsName r.first
   pub second : MatchOption (row_of r.verb).second (r.second ≡ []) (λ _. IsName r.second)
-  pub third : MatchOption (row_of r.verb).third (r.third ≡ []) (λ _. IsName r.third)
   pub number : MatchOption (row_of r.verb).number (r.number ≡ 0) (λ number. r.number ≤ number.1)
   pub more : MatchOption (row_of r.verb).more (r.more ≡ []) (λ _. AllByRecursion IsName r.more)
   pub options : (name : OptionName) → CanBeGiven (kind_of name) (r.given name)
@@ -108,7 +105,6 @@ asked_of q = record {
   verb = q.verb;
   first = q.first.now;
   second = q.second.now;
-  third = q.third.now;
   number = q.number;
   more = texts_of q.more.items;
   given = given_in (rows_of (found_of q.found));

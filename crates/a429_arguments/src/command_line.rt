@@ -91,13 +91,12 @@ fn names_given(form: Option<NameForm>) -> Option<Given>
 }
 
 /// All that a command is given that is no option, in order.
-fn all_given(form: &CommandForm) -> [Option<Given>; 5]
+fn all_given(form: &CommandForm) -> [Option<Given>; 4]
     ensures { (app : App) → fold (with_any given_rule) app result ≡ with_names app (form_row form.now) }
 {
     [
         Some(Given::Name(form.first)),
         name_given(form.second),
-        name_given(form.third),
         number_given(form.number),
         names_given(form.more),
     ]

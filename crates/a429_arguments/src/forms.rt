@@ -50,7 +50,7 @@ pub struct NumberForm {
     pub help: NameHelp,
 }
 
-/// A command: its name, and what it is given: one to three names, perhaps a number, perhaps any number of further names,
+/// A command: its name, and what it is given: one or two names, perhaps a number, perhaps any number of further names,
 /// and options. `help_of` has its help.
 #[derive(Clone, Copy)]
 pub struct CommandForm {
@@ -58,7 +58,6 @@ pub struct CommandForm {
     pub name: &'static str,
     pub first: NameForm,
     pub second: Option<NameForm>,
-    pub third: Option<NameForm>,
     pub number: Option<NumberForm>,
     pub more: Option<NameForm>,
     pub options: &'static [OptionName],
@@ -89,7 +88,6 @@ const OF_TABLE: CommandForm = CommandForm {
     name: "plan",
     first: name!("TABLE", NameHelp::Table),
     second: None,
-    third: None,
     number: None,
     more: None,
     options: &[],
@@ -202,8 +200,7 @@ static COMMANDS: [CommandForm; 19] = [
         verb: Verb::Judge,
         name: "judge",
         second: Some(name!("IN", NameHelp::HeardLog)),
-        third: Some(name!("OUT", NameHelp::SentLog)),
-        more: Some(name!("OUTS", NameHelp::SentLogs)),
+        more: Some(name!("OUT", NameHelp::SentLogs)),
         options: JUDGE_OPTIONS,
         ..OF_TABLE
     },

@@ -5,8 +5,9 @@ use crate::options::OptionName;
 use crate::plan_help::{KEEP, ON_PLAN, OTHER_PLAN};
 use crate::recording_help::{
     ALIGN, CHANNEL, DATES, DRIFT, EVENTS, FROM, HEARD_LOGS, IGNORE, IMPORT_ROWS, JUDGE, JUDGE_END,
-    LAST_TIME, LOG, LOG_MAP, ONLY, QUIET, RATE, REVERSED, SENT, SHIFT, SIMULATE, SIMULATE_END,
-    SLACK, SUMMARY, SUMMARY_JSON, SURVEY, SURVEY_END, SURVEY_TABLE, TICK, TIME, TOLERANCE, UNTIL,
+    LAST_TIME, LOG, LOG_MAP, NO_PROGRESS, ONLY, QUIET, RATE, REVERSED, SENT, SHIFT, SIMULATE,
+    SIMULATE_END, SLACK, SUMMARY, SUMMARY_JSON, SURVEY, SURVEY_END, SURVEY_TABLE, TICK, TIME,
+    TOLERANCE, UNTIL,
 };
 
 /// The help of a command: its first line, and its end, which has an example.
@@ -73,6 +74,8 @@ pub fn option_help(verb: Verb, option: OptionName) -> OptionHelp {
         OptionName::Reversed => ("BITS", REVERSED),
         OptionName::Until if verb == Verb::Simulate => ("US", UNTIL),
         OptionName::Until => ("US", LAST_TIME),
+        OptionName::Quiet if verb == Verb::Replay => ("", QUIET),
+        OptionName::Quiet => ("", NO_PROGRESS),
         OptionName::Sent => ("", SENT),
         OptionName::Summary => ("", SUMMARY),
         OptionName::Code => ("", CODE),
@@ -85,8 +88,6 @@ pub fn option_help(verb: Verb, option: OptionName) -> OptionHelp {
         OptionName::Ssm => ("N", SSM),
         OptionName::Data => ("HEX", DATA),
         OptionName::Bnr => ("N", BNR),
-        OptionName::Bits => ("K", BITS),
-        OptionName::Bcd => ("DIGITS", BCD),
         _ => own_help(option),
     };
     OptionHelp { value, text }
@@ -95,10 +96,11 @@ pub fn option_help(verb: Verb, option: OptionName) -> OptionHelp {
 /// The help of an option that few commands have.
 fn own_help(option: OptionName) -> (&'static str, &'static str) {
     match option {
+        OptionName::Bits => ("K", BITS),
+        OptionName::Bcd => ("DIGITS", BCD),
         OptionName::In => ("LOG", HEARD_LOGS),
         OptionName::Slack => ("PERCENT", SLACK),
         OptionName::Tolerance => ("US", TOLERANCE),
-        OptionName::Quiet => ("", QUIET),
         OptionName::Only => ("GROUP", ONLY),
         OptionName::Keep => ("PLAN", KEEP),
         OptionName::Plan => ("PLAN", ON_PLAN),

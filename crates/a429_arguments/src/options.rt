@@ -204,24 +204,25 @@ pub const LOAD_OPTIONS: &[OptionName] = options![Plan, Limit, Csv, Json, Stamp];
 pub const DIFF_OPTIONS: &[OptionName] = options![Plan, OtherPlan, All, Csv, Json, Stamp];
 
 pub const SIMULATE_OPTIONS: &[OptionName] = options![
-    Plan, Time, Tick, Dates, From, Map, Channel, Ignore, Reversed, Until, Sent, Summary, Csv, Json
+    Plan, Time, Tick, Dates, From, Map, Channel, Ignore, Reversed, Until, Sent, Summary, Quiet,
+    Csv, Json
 ];
 
 pub const SURVEY_OPTIONS: &[OptionName] = options![
-    Table, Time, Tick, Dates, From, Until, Map, Channel, Ignore, Reversed, Rate, Rows, Slack, Csv,
-    Json
+    Table, Time, Tick, Dates, From, Until, Map, Channel, Ignore, Reversed, Rate, Rows, Slack,
+    Quiet, Csv, Json
 ];
 
 pub const JUDGE_OPTIONS: &[OptionName] = options![
     Plan, In, Tolerance, Events, Time, Tick, Dates, From, Until, Align, Shift, Drift, Map, Channel,
-    Ignore, Reversed, Csv, Json
+    Ignore, Reversed, Quiet, Csv, Json
 ];
 
 pub const ENCODE_OPTIONS: &[OptionName] = options![Sdi, Ssm, Data, Bnr, Bits, Bcd, Csv, Json];
 
 pub const REPLAY_OPTIONS: &[OptionName] = options![Plan, Quiet, Only, Csv];
 
-pub const LIVE_OPTIONS: &[OptionName] = options![Plan];
+pub const LIVE_OPTIONS: &[OptionName] = options![Plan, Quiet];
 
 impl OptionName {
     /// The name without the two hyphens.

@@ -24,7 +24,8 @@ and a row for each name with all its words:
   least_us, mean_us, greatest_us  the time from one word to the next
   first_us, last_us, last_word    the first time, and the last, with its word
   load                            per cent of the time taken, at the bit rate
-With --table, `ssm_0` to `ssm_3` count words by SSM, and `table` says:
+With --table, `ssm_0` to `ssm_3` count words by SSM, the next four columns have
+the least and the greatest data as BNR and as BCD, and `table` says:
   expected    its receiver or group has it, and the intervals are right
   unexpected  its receiver or group has none such, or there is no such name
   fast, slow  the least interval is below the minimum of the output, or the
@@ -39,9 +40,9 @@ pub const JUDGE: &str = "Judge whether what a box sent is right, by logs of its 
 
 pub const HEARD_LOG: &str = "What came in, `TIME RECEIVER HEX` on each line";
 
-pub const SENT_LOG: &str = "What the box sent, with GROUP or GROUP.BUS for RECEIVER";
-
-pub const SENT_LOGS: &str = "Further logs of what it sent, read as if they were one";
+pub const SENT_LOGS: &str = "\
+What the box sent, with GROUP or GROUP.BUS for
+RECEIVER. Without OUT, the logs of IN have both";
 
 pub const HEARD_LOGS: &str = "A further log of what came in; may be given again";
 
@@ -54,10 +55,10 @@ shortest period if that is less]";
 pub const EVENTS: &str = "A row for each finding instead of each output";
 
 pub const JUDGE_END: &str = "\
-Both logs are on one clock, or OUT is moved to that of IN. With `--from first`
-times are counted from the first word of IN. There is a row for each output, and
-a row for each group that counts its foreign words. The status is 1 if something
-is found:
+Several logs of OUT are read as if they were one. All are on one clock, or OUT
+is moved to that of IN. With `--from first` times are counted from the first word
+of IN. There is a row for each output, and a row for each group that counts its
+foreign words. The status is 1 if something is found:
   wrong    the word that was sent did not come in before
   stale    a later word came in before
   soon     it was sent before the minimum interval was over
@@ -103,6 +104,8 @@ Bits of the words in a log that are written the other
 way round: those of the label, or all of the word";
 
 pub const QUIET: &str = "Only the answers of cells that are sent";
+
+pub const NO_PROGRESS: &str = "No line of progress on a terminal";
 
 pub const ONLY: &str = "Only the answers for cells and frames of this group";
 

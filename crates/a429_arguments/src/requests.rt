@@ -30,8 +30,6 @@ pub struct Asked<'a> {
     pub first: &'a str,
     /// Empty, if the command is given one name.
     pub second: &'a str,
-    /// Empty, if it is given fewer than three.
-    pub third: &'a str,
     /// How many frames; 0, if the command is given no number.
     pub number: u32,
     /// Filters, further tables, or further logs.
@@ -246,7 +244,6 @@ fn read_asked<'a>(
         verb: form.verb,
         first: name_in(&found, Some(form.first)),
         second: name_in(&found, form.second),
-        third: name_in(&found, form.third),
         number: frames_in(&found, form.number),
         more,
         found,

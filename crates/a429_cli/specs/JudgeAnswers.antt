@@ -21,13 +21,13 @@ finding_status found = if found then 1 else 0
 abbrev pub given_clock : Given → ClockMove
 given_clock given = record { drift = drift_of given; shift = shift_of given }
 
--- the names that a request has: TABLE, IN with those of `--in`, and OUT with those after it; which words of both are judged, those of OUT on the clock
+-- the names that a request has: TABLE, IN with those of `--in`, and those of OUT; which words of both are judged, those of OUT on the clock
 -- that is given; whether its clock is looked for (`--align`); and the values of `--tolerance`
 abbrev pub box_names : AskedBytes → BoxFiles (List ℕ)
 box_names r = record {
   table = named_table r;
   heard = r.second ∷ r.given option.In;
-  sent = r.third ∷ r.more;
+  sent = r.more;
   heard_view = window_view r.given same_clock;
   sent_view = window_view r.given (given_clock r.given);
   aligned = has_given r.given option.Align;

@@ -78,6 +78,7 @@ pub fn command<'a, H: Hints, F: FileReader, O: Output, V: Output>(
     };
     let mut warnings = Vec::new(alloc);
     let answered = answer(alloc, &asked, files, &mut warnings, out);
+    files.show_end();
     let status = ended(alloc, &asked, &answered, &warnings, hints, err);
     // `drop` keeps the proof short: a drop in place goes through all parts.
     drop(answered);

@@ -5,12 +5,13 @@
 //! and threads, and answers the status. So tests run it over files in memory. A folder of `src/` is a command.
 //!
 //! ```text
-//! let mut files = DiskFiles::new(&rt);
 //! let mut out = CountedWriter::new(rt.stdout());
 //! ..
 //! let mut err = CountedWriter::new(rt.stderr());
+//! let disk = DiskFiles::new(&rt);
 //! ..
 //! let line = ProgressLine::new(rt.alloc(), rt.stderr());
+//! let mut files = ShownFiles::new(rt.alloc(), disk, &rt, rt.stderr());
 //! run_program(&rt, &rt, &HintLines, &mut files, &mut out, &mut err, &line)
 //! ..
 //! ExitCode::from(status)
@@ -47,6 +48,7 @@ pub use a429_arguments::requests::Asked;
 pub use a429_console::answered::Answered;
 pub use a429_console::files::disk::DiskFiles;
 pub use a429_console::files::memory::MemoryFiles;
+pub use a429_console::files::shown::ShownFiles;
 pub use a429_console::files::{FileFault, FileReader, FileTrouble, LARGEST_FILE};
 pub use a429_console::hints::Hints;
 pub use a429_console::output::{CountedWriter, Output, OutputFault};

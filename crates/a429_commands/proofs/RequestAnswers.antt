@@ -30,7 +30,6 @@ pub replay_has_words : (table script : List ℕ) → IsName table → IsName scr
 replay_has_words table script a b = record {
   first = a;
   second = b;
-  third = refl;
   number = refl;
   more = tt;
   options = can_give_nothing;

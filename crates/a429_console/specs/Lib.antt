@@ -4,6 +4,7 @@ pub mod Outputs
 pub mod UsageReplies
 pub mod Ends
 pub mod Readings
+pub mod Shown
 pub mod Replying
 pub mod Names
 pub mod FileReadings

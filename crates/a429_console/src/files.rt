@@ -7,6 +7,7 @@ pub mod disk;
 pub mod lines;
 pub mod memory;
 pub mod reading;
+pub mod shown;
 
 use thiserror::Error;
 
@@ -61,6 +62,12 @@ pub trait FileReader {
         ensures refused { IsTrue (tells self.old) → result ≡ Err FileFault.Refused → file self.old name.now ≡ None }
         ensures tells { tells self.new ≡ tells self.old }
         ensures keeps { (other : List ℕ) → file self.new other ≡ file self.old other };
+
+    /// Shows how many of all bytes that were read are done, to a person who waits. No contract rests on it.
+    fn show_done(&self, _done: usize, _all: usize) {}
+
+    /// The work on what was read has ended: nothing is shown any more.
+    fn show_end(&self) {}
 
     /// Why the file of this name, the last that was read, is refused: for a hint to a person. No contract rests on it.
     fn trouble(&self, _name: &str) -> FileTrouble {

@@ -5,6 +5,7 @@ ghost use Rattle.a429_console.specs.RefusalText.{IsRefusalPut};
 
 pub mod evidence;
 pub mod kinds;
+pub mod logs;
 pub mod names;
 pub mod rows;
 pub mod tables;

@@ -7,7 +7,12 @@ use a429_logs::TimeUnit;
 use a429_text::{Sheet, SheetForm};
 
 /// Says that a log has no time in common with that of the words that came in.
-pub fn tell_apart(heard: &str, hint: &HintText) {
+pub fn tell_apart(heard: &str, is_mixed: bool, hint: &HintText) {
+    if is_mixed {
+        return hint.say_line(
+            "no time is within the words of receivers and within those of groups; without OUT this log must have both",
+        );
+    }
     hint.line_one(
         "no time is within this log and within {?}; both logs need times of one clock; --align finds how to move this one",
         heard,

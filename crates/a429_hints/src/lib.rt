@@ -4,7 +4,7 @@
 //! is about hints. `run_program` of `a429_cli` takes them as `HintLines`.
 //!
 //! ```text
-//! let line = ProgressLine::new(rt.alloc(), rt.stderr());
+//! let mut files = ShownFiles::new(rt.alloc(), disk, &rt, rt.stderr());
 //! run_program(&rt, &rt, &HintLines, &mut files, &mut out, &mut err, &line)
 //! ```
 #![tactic(auto)]

@@ -1,6 +1,6 @@
-//! The forms of the fields of a word in a log.
+//! The names of the columns of a log, and the forms of its fields.
 
-use a429_logs::{Base, PartsPlaces, RowFault};
+use a429_logs::{Base, Column, PartsPlaces, RowFault};
 
 /// What the digits of a label are.
 fn label_form(base: Base) -> &'static str {
@@ -58,4 +58,31 @@ pub fn field_form(parts: &PartsPlaces, fault: RowFault) -> FieldForm {
             form: value_form(parts.value.base),
         },
     }
+}
+
+/// The names that a column can have.
+pub fn names_of(column: Column) -> &'static str {
+    match column {
+        Column::Time | Column::TimeIn(_) => "time",
+        Column::Name => "receiver, channel, bus, group or name",
+        Column::Word => "word, hex or data",
+        Column::Hex => "data or data_dec",
+        Column::Octal => "data_oct",
+        Column::Binary => "data_bin",
+        Column::Decimal => "data_dec",
+        Column::Label => "label",
+        Column::HexLabel => "label_hex",
+        Column::DecimalLabel => "label_dec",
+        Column::Sdi => "sdi",
+        Column::Ssm => "ssm",
+        Column::Parity => "parity",
+    }
+}
+
+/// The first name that a column can have.
+pub fn first_name(column: Column) -> &'static str {
+    let (first, _) = names_of(column)
+        .split_once([',', ' '])
+        .unwrap_or((names_of(column), ""));
+    first
 }

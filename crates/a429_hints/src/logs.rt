@@ -3,7 +3,7 @@
 use crate::files::other_file;
 use crate::hint::HintText;
 use crate::lists::{begin_names, has_name, nearest_of};
-use crate::log_parts::field_form;
+use crate::log_parts::{field_form, first_name, names_of};
 use crate::rows::short_text;
 use crate::scripts::{NOT_UTF8, is_script_word, tell_no_word};
 use a429_console::refusals::evidence::{LineEvidence, LogEvidence, LogRefusal};
@@ -76,6 +76,14 @@ fn tell_why(line: &LineEvidence, read: &ReadLine<'_>, why: LogRefusal, hint: &Hi
             tell_unknown("receiver", name_in(read), None, read, &line.receivers, hint);
         }
         LogRefusal::Group => tell_group(line, read, hint),
+        LogRefusal::Neither => {
+            tell_unknown("receiver", name_in(read), None, read, &line.receivers, hint);
+            tell_group(line, read, hint);
+        }
+        LogRefusal::Both => hint.line_one(
+            "{?} is a receiver and a group: name the bus as GROUP.BUS, or give what was sent as a log of its own",
+            name_in(read),
+        ),
         LogRefusal::Name => hint.say_line(NOT_UTF8),
         LogRefusal::Late => hint.say_line(
             "the time is 100000000000000 us or more; to count times from the first word, give --from first",
@@ -213,33 +221,6 @@ fn tell_group(line: &LineEvidence, read: &ReadLine<'_>, hint: &HintText) {
         }
         _ => tell_unknown("group", group, bus, read, &line.groups, hint),
     }
-}
-
-/// The names that a column can have.
-fn names_of(column: Column) -> &'static str {
-    match column {
-        Column::Time | Column::TimeIn(_) => "time",
-        Column::Name => "receiver, channel, bus, group or name",
-        Column::Word => "word, hex or data",
-        Column::Hex => "data or data_dec",
-        Column::Octal => "data_oct",
-        Column::Binary => "data_bin",
-        Column::Decimal => "data_dec",
-        Column::Label => "label",
-        Column::HexLabel => "label_hex",
-        Column::DecimalLabel => "label_dec",
-        Column::Sdi => "sdi",
-        Column::Ssm => "ssm",
-        Column::Parity => "parity",
-    }
-}
-
-/// The first name that a column can have.
-fn first_name(column: Column) -> &'static str {
-    let (first, _) = names_of(column)
-        .split_once([',', ' '])
-        .unwrap_or((names_of(column), ""));
-    first
 }
 
 /// Says that a line belongs to another kind of file, by its first field, and answers whether it does.

@@ -35,7 +35,7 @@ fn is_known_by(row: &Row, says: usize, name: &str) -> bool {
     }
 }
 
-/// Whether a row shows that the table expects something under a name.
+/// Whether one of these rows shows it.
 fn is_known(rows: &[Row], says: usize, name: &str) -> bool {
     rows.iter().any(|row| is_known_by(row, says, name))
 }

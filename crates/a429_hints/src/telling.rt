@@ -86,7 +86,7 @@ fn tell_answered(asked: &Asked, answered: &Answered, hint: &HintText) {
 fn tell_found(asked: &Asked, found: &Sheet, hint: &HintText) {
     match asked.verb {
         Verb::Judge => {
-            hint.turn_to(asked.third);
+            hint.turn_to(sent_name(asked));
             let aligned = asked.has(OptionName::Align);
             tell_clocks(asked.second, asked.unit(), aligned, found, hint);
         }
@@ -110,7 +110,7 @@ fn tell_warning(asked: &Asked, warning: &Warning, hint: &HintText) {
     hint.turn_to(match warning {
         Warning::Further(fault) => nth(&asked.more, fault.number),
         Warning::Kept(_) | Warning::Moved(_) => asked.text(OptionName::Keep).unwrap_or(""),
-        Warning::Clock(_) => asked.third,
+        Warning::Clock(_) => sent_name(asked),
         Warning::Passed(lines) => log_name(asked, lines.log),
         _ => text_name(asked),
     });
@@ -189,8 +189,8 @@ fn tell_plain(asked: &Asked, refusal: &CommandRefusal, hint: &HintText) {
             hint.say_line(kept_line(*kind));
         }
         CommandRefusal::Apart => {
-            hint.turn_to(asked.third);
-            tell_apart(asked.second, hint);
+            hint.turn_to(sent_name(asked));
+            tell_apart(asked.second, asked.more.is_empty(), hint);
         }
         _ => tell_of_words(asked, refusal, hint),
     }
@@ -344,9 +344,6 @@ fn say_names(form: &CommandForm, hint: &HintText) {
     if let Some(second) = form.second {
         hint.say_one(" {}", second.id);
     }
-    if let Some(third) = form.third {
-        hint.say_one(" {}", third.id);
-    }
     if let Some(number) = form.number {
         hint.say_one(" {}", number.id);
     }
@@ -384,16 +381,18 @@ fn text_name<'a>(asked: &Asked<'a>) -> &'a str {
 /// The name of the log with this number, counted from 0.
 fn log_name<'a>(asked: &Asked<'a>, number: usize) -> &'a str {
     let heard = asked.texts(OptionName::In);
-    let inputs = heard.len();
     if number == 0 {
         text_name(asked)
     } else if asked.verb != Verb::Judge {
         nth(&asked.more, number)
-    } else if number <= inputs {
+    } else if number <= heard.len() {
         nth(heard, number)
-    } else if number == inputs + 1 {
-        asked.third
     } else {
-        nth(&asked.more, number - inputs - 1)
+        nth(&asked.more, number - heard.len())
     }
+}
+
+/// The name of the first log of what a box sent.
+fn sent_name<'a>(asked: &Asked<'a>) -> &'a str {
+    asked.more.first().unwrap_or(&asked.second)
 }

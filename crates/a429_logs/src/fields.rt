@@ -205,6 +205,14 @@ impl<'a> Parts<'a> {
             }
         }
     }
+
+    /// How many bytes are left.
+    pub fn bytes_left(&self) -> usize {
+        match self.left {
+            Some(text) => text.len(),
+            None => 0,
+        }
+    }
 }
 
 /// The field of a part between two marks: between blanks nothing is no field.

@@ -131,6 +131,11 @@ impl<'a> LogReader<'a> {
         }
     }
 
+    /// How many bytes of the log are left, to show how far the work is. No contract rests on it.
+    pub fn bytes_left(&self) -> usize {
+        self.lines.bytes_left()
+    }
+
     /// What is passed over.
     pub fn passed_over(&self) -> PassedOver
         ensures titles { result.titles ≡ titles_now self.now }

@@ -13,7 +13,7 @@ use Rattle.a429_console.specs.declared.refusals.CommandRefusal.{CommandRefusal}
 use Rattle.a429_console.specs.declared.refusals.CommandRefusal.TheVariants as refused
 use Rattle.a429_console.proofs.EntryLines.{entries_before-nil}
 use Rattle.a429_recordings.specs.LogItems.{AreKept, IsItemFault, IsKept, RefusesLog, items_from, items_of, items_then}
-use Rattle.a429_recordings.specs.LogViews.{items_by}
+use Rattle.a429_recordings.specs.LogViews.{items_by, one_item}
 use Rattle.a429_recordings.specs.declared.logs.keeping.KeepFault.{KeepFault}
 use Rattle.a429_recordings.specs.declared.logs.keeping.KeepFault.TheVariants as fault
 
@@ -95,17 +95,22 @@ module _ {A : Type 0} (item : Stated → Option (List A)) where
       (items_joined (log_entries next text) (series_entries (reading_after next text) left)
       ∙ ap (λ (r : Result (List A) ℕ). joined r (items_of item (reading_after next text) left)) bad))
 
-module _ {A B : Type 0} (item : Stated → Option A) where
+-- the one item of a word
+pub kept_one : {A B : Type 0} (item : Stated → Option A) (w : Stated) (old new : List A) (r : Result B KeepFault) → IsKept (item w) old new r
+    → AreKept (one_item item w) old new r
+kept_one {A} item w old new (Ok b) (x, its, added) = (x ∷ [], ap (option_map (λ (a : A). a ∷ [])) its, added)
+kept_one {A} item w old new (Err (fault.Line why)) none = ap (option_map (λ (a : A). a ∷ [])) none
+kept_one item w old new (Err fault.NoMemory) kept = tt
+
+module _ {A B : Type 0} (items : Stated → Option (List A)) where
   -- what is kept of a word, as it is taken
-  pub kept_items : (v : Option Stated) (w : Stated) (old new : List A) (r : Result B KeepFault) → v ≡ Some w → IsKept (item w) old new r
-      → AreKept (items_by item v) old new r
-  kept_items v w old new (Ok b) is (x, its, added) = (x ∷ [], ap (items_by item) is ∙ ap (option_map (λ (a : A). a ∷ [])) its, added)
-  kept_items v w old new (Err (fault.Line why)) is none = ap (items_by item) is ∙ ap (option_map (λ (a : A). a ∷ [])) none
-  kept_items v w old new (Err fault.NoMemory) is kept = tt
+  pub kept_items : (v : Option Stated) (w : Stated) (old new : List A) (r : Result B KeepFault) → v ≡ Some w → AreKept (items w) old new r
+      → AreKept (items_by items v) old new r
+  kept_items v w old new r is kept = subst (λ (o : Option Stated). AreKept (items_by items o) old new r) (sym is) kept
 
   -- nothing, if it is passed over
-  pub kept_nothing : (v : Option Stated) (old : List A) (b : B) → v ≡ None → AreKept {B = B} (items_by item v) old old (Ok b)
-  kept_nothing v old b is = ([], ap (items_by item) is, sym (append-nil old))
+  pub kept_nothing : (v : Option Stated) (old : List A) (b : B) → v ≡ None → AreKept {B = B} (items_by items v) old old (Ok b)
+  kept_nothing v old b is = ([], ap (items_by items) is, sym (append-nil old))
 
 -- the bytes of the logs that are left, from one on
 pub logs_left : (logs : List (Vec ℕ Global)) (k : ℕ) (log : Vec ℕ Global) (text : List ℕ) → k < length logs → log ≡ slice_index_or logs k log → text ≡ log.items

@@ -144,19 +144,25 @@ module _ {A : Type 0} (time : A → ℕ) where
 
   -- ---- words as they are taken
 
-  items_have : (t : ℕ) (o : Option A) (xs : List A) → ((x : A) → o ≡ Some x → HasTime t x) → option_map (λ x. x ∷ []) o ≡ Some xs → HaveTime t xs
-  items_have t None xs has is = absurd (cc is)
-  items_have t (Some x) xs has is = subst (HaveTime t) (same_Some (x ∷ []) xs is) (has x refl, tt)
+  -- a word that becomes no item
+  pub none_have : (t : ℕ) (xs : List A) → Some [] ≡ Some xs → HaveTime t xs
+  none_have t xs is = subst (HaveTime t) (same_Some [] xs is) tt
 
-  taken_have : (view : View) (item : Stated → Option A) (s : ℕ) (v : Option Stated) (xs : List A) → ((w : Stated) (x : A) → item w ≡ Some x → HasTime w.time x)
-      → ((w : Stated) → v ≡ Some w → w.time ≡ moved_to view s) → items_by item v ≡ Some xs → HaveTime (moved_to view s) xs
-  taken_have view item s None xs has at is = subst (HaveTime (moved_to view s)) (same_Some [] xs is) tt
-  taken_have view item s (Some w) xs has at is = subst (λ (t : ℕ). HaveTime t xs) (at w refl) (items_have w.time (item w) xs (has w) is)
+  -- the one item of a word
+  pub one_has : (t : ℕ) (o : Option A) (xs : List A) → ((x : A) → o ≡ Some x → HasTime t x) → option_map (λ x. x ∷ []) o ≡ Some xs → HaveTime t xs
+  one_has t None xs has is = absurd (cc is)
+  one_has t (Some x) xs has is = subst (HaveTime t) (same_Some (x ∷ []) xs is) (has x refl, tt)
 
-  viewed_have : (view : View) (item : Stated → Option A) → ((w : Stated) (x : A) → item w ≡ Some x → HasTime w.time x)
-      → (w : Stated) (xs : List A) → viewed view item w ≡ Some xs → HaveTime (moved_to view w.time) xs
-  viewed_have view item has w xs is =
-      taken_have view item w.time (taken view w) xs has
+  taken_have : (view : View) (items : Stated → Option (List A)) (s : ℕ) (v : Option Stated) (xs : List A)
+      → ((w : Stated) (ys : List A) → items w ≡ Some ys → HaveTime w.time ys) → ((w : Stated) → v ≡ Some w → w.time ≡ moved_to view s)
+      → items_by items v ≡ Some xs → HaveTime (moved_to view s) xs
+  taken_have view items s None xs has at is = none_have (moved_to view s) xs is
+  taken_have view items s (Some w) xs has at is = subst (λ (t : ℕ). HaveTime t xs) (at w refl) (has w xs is)
+
+  viewed_have : (view : View) (items : Stated → Option (List A)) → ((w : Stated) (ys : List A) → items w ≡ Some ys → HaveTime w.time ys)
+      → (w : Stated) (xs : List A) → viewed view items w ≡ Some xs → HaveTime (moved_to view w.time) xs
+  viewed_have view items has w xs is =
+      taken_have view items w.time (taken view w) xs has
       (λ v taken_is. has_moved view w v (is_ignored view.ignored w.name) (time_in view w.time) refl taken_is) is
 
   -- ---- all words
@@ -190,11 +196,11 @@ module _ {A : Type 0} (time : A → ℕ) where
       (later_moved view last w.word.time fall.0) (λ more its. timed_from view item has w.word.time entries more fall.1 its) is
 
   -- the items of logs
-  pub items_timed : (view : View) (item : Stated → Option A) (reading : Reading) (logs : List (List ℕ)) (xs : List A)
-      → ((w : Stated) (x : A) → item w ≡ Some x → HasTime w.time x) → items_of (viewed view item) reading logs ≡ Ok xs
+  pub items_timed : (view : View) (items : Stated → Option (List A)) (reading : Reading) (logs : List (List ℕ)) (xs : List A)
+      → ((w : Stated) (ys : List A) → items w ≡ Some ys → HaveTime w.time ys) → items_of (viewed view items) reading logs ≡ Ok xs
       → AreTimed (moved_to view reading.clock.last) xs
-  items_timed view item reading logs xs has is =
-      timed_from view (viewed view item) (viewed_have view item has) reading.clock.last (series_entries reading logs) xs (series_fall reading logs) is
+  items_timed view items reading logs xs has is =
+      timed_from view (viewed view items) (viewed_have view items has) reading.clock.last (series_entries reading logs) xs (series_fall reading logs) is
 
   -- ---- by their places
 

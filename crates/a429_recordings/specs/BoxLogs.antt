@@ -1,5 +1,5 @@
 -- The logs of a box: what came in, and what it sent (profile: log of what was sent).
-use Rattle.std.specs.Prelude.{◌≡◌, ◌≤◌, ◌∷◌, [], ⊤, true, MatchResult, ◌==◌, ◌&&◌, ◌+◌, ℕ, List, Bool, length, false, Option, Some, None, Result, Ok, Err, drop, fold, if◌then◌else◌, nat_le, nat_lt, option_and_then, option_map, position, slice_get, take}
+use Rattle.std.specs.Prelude.{◌≡◌, ◌≤◌, ◌∷◌, [], ⊤, true, MatchResult, ◌==◌, ◌&&◌, ◌+◌, ℕ, List, Bool, length, false, Option, Some, None, Result, Ok, Err, drop, fold, if◌then◌else◌, is_some, nat_le, nat_lt, option_and_then, option_map, position, slice_get, take}
 use Rattle.std.specs.Option.{option_map_or}
 use Rattle.a429_word.specs.Decimal.{decimal_number}
 use Rattle.a429_logs.specs.Calendars.{begun_again}
@@ -10,7 +10,6 @@ use Rattle.a429_equipment.specs.Arrivals.{sorted}
 use Rattle.a429_equipment.specs.TableRecord.{TableRecord}
 use Rattle.a429_equipment.specs.declared.arrivals.ArrivalRefusal.{ArrivalRefusal}
 use Rattle.a429_console.specs.Names.{Naming, number_named}
-use Rattle.a429_align.specs.declared.spans.Span.{Span}
 use Rattle.a429_judge.specs.Recordings.{Recording, no_words, with_heard, with_sent}
 use Rattle.a429_judge.specs.declared.duties.Sent.{Sent}
 use Rattle.a429_judge.specs.declared.facts.Mark.{Mark}
@@ -18,9 +17,10 @@ use Rattle.a429_console.specs.RefusalText.{OrMemory}
 use Rattle.a429_console.specs.declared.refusals.CommandRefusal.{CommandRefusal}
 use Rattle.a429_console.specs.declared.refusals.CommandRefusal.TheVariants as refused
 use Rattle.a429_recordings.specs.LogItems.{IsItemFault, items_of, reading_behind}
-use Rattle.a429_recordings.specs.LogViews.{View, view_after, viewed}
+use Rattle.a429_recordings.specs.LogViews.{View, one_item, view_after, viewed}
 use Rattle.a429_recordings.specs.declared.judge.words.BoxLog.{BoxLog}
 use Rattle.a429_recordings.specs.declared.judge.words.BoxLog.TheVariants as log
+use Rattle.a429_recordings.specs.declared.judge.words.BoxPart.{BoxPart}
 use Rattle.a429_recordings.specs.declared.judge.words.BoxWord.{BoxWord}
 use Rattle.a429_recordings.specs.declared.judge.words.BoxWords.{BoxWords}
 use Rattle.a429_recordings.specs.declared.judge.words.Place.{Place}
@@ -60,9 +60,28 @@ box_word names l w =
     if nat_lt w.time 100000000000000 then option_map (λ place. record { time = w.time; place = place; raw = w.raw }) (place_named names l w.name)
     else None
 
+-- the other kind of words
+abbrev pub other_log : BoxLog → BoxLog
+other_log log.Heard = log.Sent
+other_log log.Sent = log.Heard
+
+-- a name stands for a place of this kind
+abbrev pub has_place : Naming → BoxLog → List ℕ → Bool
+has_place names l name = is_some (place_named names l name)
+
+-- A word of a log that has both what came in and what was sent. Its name says which it is: a word of the other kind is passed over, and a name that
+-- stands for places of both kinds makes its line faulty.
+unfoldable pub mixed_word : Naming → BoxLog → Stated → Option (List BoxWord)
+mixed_word names l w =
+    if has_place names (other_log l) w.name then (if has_place names l w.name then None else Some []) else one_item (box_word names l) w
+
+-- a word of a log that has this kind alone, or both
+abbrev pub part_word : Naming → BoxPart → Stated → Option (List BoxWord)
+part_word names part w = if part.is_mixed then mixed_word names part.log w else one_item (box_word names part.log) w
+
 -- the same, of a word as it is taken
-abbrev pub box_word_by : Naming → View → BoxLog → Stated → Option (List BoxWord)
-box_word_by names view l = viewed view (box_word names l)
+abbrev pub part_word_by : Naming → View → BoxPart → Stated → Option (List BoxWord)
+part_word_by names view part = viewed view (part_word names part)
 
 -- ---- how logs are read
 
@@ -89,9 +108,10 @@ abbrev pub IsLogsReading : (Stated → Option (List BoxWord)) → Reading → Li
 IsLogsReading item reading texts result =
     MatchResult result (λ read. (items_of item reading texts ≡ Ok read.words.items) × (read.next ≡ reading_behind reading texts)) (OrMemory (IsItemFault item reading texts))
 
--- the words of what was sent, in logs after those that are read so
-abbrev pub IsSentReading : Naming → View → Reading → List (List ℕ) → Result BoxWords CommandRefusal → Type 0
-IsSentReading names view after texts result = IsLogsReading (box_word_by names (view_after after view) log.Sent) (restarted after) texts result
+-- the words of what was sent, in logs after those that are read so; the logs may have both kinds of words
+abbrev pub IsSentReading : Naming → View → Bool → Reading → List (List ℕ) → Result BoxWords CommandRefusal → Type 0
+IsSentReading names view mixed after texts result =
+    IsLogsReading (part_word_by names (view_after after view) (record { log = log.Sent; is_mixed = mixed })) (restarted after) texts result
 
 -- no word comes before the one above it, nor before this time
 abbrev pub AreFrom : ℕ → List BoxWord → Type 0
@@ -100,10 +120,6 @@ AreFrom last (w ∷ words) = (last ≤ w.time) × AreFrom w.time words
 
 abbrev pub AreOrdered : List BoxWord → Type 0
 AreOrdered words = AreFrom 0 words
-
--- a word, whatever its name is
-abbrev pub span_of : Stated → Option Span
-span_of w = Some (record { raw = w.raw; from = w.time; until = w.time })
 
 -- ---- the words as they are judged
 

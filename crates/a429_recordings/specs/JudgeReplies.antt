@@ -1,5 +1,5 @@
 -- The command `judge`: what it prints, and why it prints nothing (profile: docs/FORMATS.md, Output of `judge`).
-use Rattle.std.specs.Prelude.{◌≡◌, ◌==◌, ◌∷◌, ◌⊎◌, ℕ, Bool, true, false, is_some, not, List, None, Option, Some, Ok, Result, MatchResult, length, option_and_then}
+use Rattle.std.specs.Prelude.{◌≡◌, ◌==◌, ◌∷◌, ◌⊎◌, ℕ, Bool, true, false, if◌then◌else◌, is_some, not, List, None, Option, Some, Ok, Result, MatchResult, length, option_and_then}
 use Rattle.std.specs.List.{find}
 use Rattle.std.specs.Option.{option_map_or}
 use Rattle.a429_text.specs.Sheets.{sheet_text}
@@ -22,14 +22,14 @@ use Rattle.a429_console.specs.declared.refusals.CommandRefusal.{CommandRefusal}
 use Rattle.a429_console.specs.declared.refusals.CommandRefusal.TheVariants as refused
 use Rattle.a429_align.specs.declared.search.Alignment.{Alignment}
 use Rattle.a429_judge.specs.Recordings.{Recording}
-use Rattle.a429_recordings.specs.BoxLogs.{box_word_by, overlap, recording_of, restarted}
+use Rattle.a429_recordings.specs.BoxLogs.{overlap, part_word_by, recording_of, restarted}
 use Rattle.a429_recordings.specs.JudgedPlans.{event_columns, is_any_wide, is_found, judge_columns, judge_events, judged_rows}
 use Rattle.a429_recordings.specs.LogItems.{IsItemFault, PassesNone, items_of, reading_behind}
 use Rattle.a429_recordings.specs.LogViews.{View, view_after, view_of}
 use Rattle.a429_recordings.specs.SimulationReplies.{IsReadingFor}
 use Rattle.a429_recordings.specs.declared.judge.JudgeForm.{JudgeForm}
-use Rattle.a429_recordings.specs.declared.judge.JudgeInput.{JudgeInput}
-use Rattle.a429_recordings.specs.declared.judge.JudgeNames.{JudgeNames}
+use Rattle.a429_recordings.specs.declared.judge.input.JudgeInput.{JudgeInput}
+use Rattle.a429_recordings.specs.declared.judge.input.JudgeNames.{JudgeNames}
 use Rattle.a429_recordings.specs.declared.judge.duties.Judging.{Judging}
 use Rattle.a429_recordings.specs.declared.judge.Judged.{Judged}
 use Rattle.a429_recordings.specs.declared.judge.sheets.Sheeted.{Sheeted}
@@ -46,8 +46,8 @@ pub record IsJudgeForm (given : Given) (f : JudgeForm) : Type 0 where
 
 -- ---- files
 
--- the names of the files: a table, the logs of what came in, and those of what was sent; or their bytes. And which words of either are taken, whether the
--- clock of what was sent is looked for, and the tolerances that are given.
+-- the names of the files: a table, the logs of what came in, and those of what was sent; or their bytes. Without one of those, the logs of what came in
+-- have both. And which words of either are taken, whether the clock of what was sent is looked for, and the tolerances that are given.
 pub record BoxFiles (A : Type 0) : Type 0 where
   pub table : TableTexts
   pub heard : List A
@@ -94,45 +94,60 @@ MayBeFound i found = i.aligned ≡ false → found ≡ None
 
 -- ---- logs
 
+-- the logs of what came in have both kinds of words
+abbrev pub has_both : {A : Type 0} → List A → Bool
+has_both sent = length sent == 0
+
+abbrev pub is_mixed : {A : Type 0} → BoxFiles A → Bool
+is_mixed i = has_both i.sent
+
+-- the logs that have what was sent
+abbrev pub logs_of_sent : BoxFiles (List ℕ) → List (List ℕ)
+logs_of_sent i = if is_mixed i then i.heard else i.sent
+
 -- a word of a log, as it is taken
-abbrev pub word_by : Proposed → View → BoxLog → Stated → Option (List BoxWord)
-word_by q view l = box_word_by (naming_of q.station) view l
+abbrev pub word_by : Proposed → View → BoxLog → Bool → Stated → Option (List BoxWord)
+word_by q view l mixed = part_word_by (naming_of q.station) view (record { log = l; is_mixed = mixed })
+
+-- a word that came in
+abbrev pub heard_by : Proposed → BoxFiles (List ℕ) → Stated → Option (List BoxWord)
+heard_by q i = word_by q i.heard_view log.Heard (is_mixed i)
 
 -- the words that came in, or the first faulty line
-abbrev pub heard_words : Proposed → View → Reading → List (List ℕ) → Result (List BoxWord) ℕ
-heard_words q view reading texts = items_of (word_by q view log.Heard) reading texts
+abbrev pub heard_words : Proposed → BoxFiles (List ℕ) → Reading → Result (List BoxWord) ℕ
+heard_words q i reading = items_of (heard_by q i) reading i.heard
 
 -- a word that was sent, in a log after those that are read so
-abbrev pub sent_by : Proposed → View → Reading → Stated → Option (List BoxWord)
-sent_by q view after = word_by q (view_after after view) log.Sent
+abbrev pub sent_by : Proposed → BoxFiles (List ℕ) → Reading → Stated → Option (List BoxWord)
+sent_by q i after = word_by q (view_after after i.sent_view) log.Sent (is_mixed i)
 
 -- the words that were sent
-abbrev pub sent_words : Proposed → View → Reading → List (List ℕ) → Result (List BoxWord) ℕ
-sent_words q view after texts = items_of (sent_by q view after) (restarted after) texts
+abbrev pub sent_words : Proposed → BoxFiles (List ℕ) → Reading → Result (List BoxWord) ℕ
+sent_words q i after = items_of (sent_by q i after) (restarted after) (logs_of_sent i)
 
 -- the logs have these words, and a time in common; this is the recording of them
 pub record IsRecording (q : Proposed) (i : BoxFiles (List ℕ)) (reading : Reading) (r : Recording) : Type 0 where
   pub heard : List BoxWord
   pub sent : List BoxWord
-  pub heard_are : heard_words q i.heard_view reading i.heard ≡ Ok heard
-  pub sent_are : sent_words q i.sent_view (reading_behind reading i.heard) i.sent ≡ Ok sent
+  pub heard_are : heard_words q i reading ≡ Ok heard
+  pub sent_are : sent_words q i (reading_behind reading i.heard) ≡ Ok sent
   pub common : overlap heard sent ≡ true
   pub recorded : r ≡ recording_of q.station heard sent
 
 -- a line of what came in is faulty
 abbrev pub IsHeardFault : Proposed → BoxFiles (List ℕ) → Reading → CommandRefusal → Type 0
-IsHeardFault q i reading refusal = IsItemFault (word_by q i.heard_view log.Heard) reading i.heard refusal
+IsHeardFault q i reading refusal = IsItemFault (heard_by q i) reading i.heard refusal
 
 -- none is, but a line of what was sent
 abbrev pub IsSentFault : Proposed → BoxFiles (List ℕ) → Reading → CommandRefusal → Type 0
 IsSentFault q i reading refusal =
-    (heard : List BoxWord) × (heard_words q i.heard_view reading i.heard ≡ Ok heard)
-    × IsItemFault (sent_by q i.sent_view (reading_behind reading i.heard)) (restarted (reading_behind reading i.heard)) i.sent refusal
+    (heard : List BoxWord) × (heard_words q i reading ≡ Ok heard)
+    × IsItemFault (sent_by q i (reading_behind reading i.heard)) (restarted (reading_behind reading i.heard)) (logs_of_sent i) refusal
 
 -- no line is faulty, but the logs have no time in common
 abbrev pub AreApart : Proposed → BoxFiles (List ℕ) → Reading → CommandRefusal → Type 0
 AreApart q i reading refusal =
-    (heard sent : List BoxWord) × (heard_words q i.heard_view reading i.heard ≡ Ok heard) × (sent_words q i.sent_view (reading_behind reading i.heard) i.sent ≡ Ok sent)
+    (heard sent : List BoxWord) × (heard_words q i reading ≡ Ok heard) × (sent_words q i (reading_behind reading i.heard) ≡ Ok sent)
     × (overlap heard sent ≡ false) × (refusal ≡ refused.Apart)
 
 abbrev pub IsNoRecording : Proposed → BoxFiles (List ℕ) → Reading → CommandRefusal → Type 0
@@ -215,7 +230,7 @@ abbrev pub names_of : JudgeNames → BoxFiles (List ℕ)
 names_of n = record {
   table = table_names n.table;
   heard = n.heard.now ∷ texts_of n.more_heard.now;
-  sent = n.sent.now ∷ texts_of n.more_sent.now;
+  sent = texts_of n.sent.now;
   heard_view = view_of n.heard_view;
   sent_view = view_of n.sent_view;
   aligned = n.aligned;

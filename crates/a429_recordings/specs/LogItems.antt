@@ -63,7 +63,7 @@ PassesNoLine file names reading = (logs : List (List ℕ)) → AreReadLogs file 
 
 -- ---- what calls answer
 
--- what is kept of a word comes after what was kept before, unless the word makes its line faulty
+-- the item of a word comes after what was kept before, unless the word makes its line faulty
 abbrev pub IsKept : {A B : Type 0} → Option A → List A → List A → Result B KeepFault → Type 0
 IsKept {A = A} item old new (Ok _) = (x : A) × (item ≡ Some x) × (new ≡ old ++ x ∷ [])
 IsKept item old new (Err (fault.Line why)) = item ≡ None

@@ -96,10 +96,14 @@ taken view w = if is_ignored view.ignored w.name then None else option_map (take
 
 -- ---- items
 
-abbrev pub items_by : {A : Type 0} → (Stated → Option A) → Option Stated → Option (List A)
-items_by item None = Some []
-items_by item (Some w) = option_map (λ x. x ∷ []) (item w)
+-- a word that becomes one item, or makes its line faulty
+abbrev pub one_item : {A : Type 0} → (Stated → Option A) → Stated → Option (List A)
+one_item item w = option_map (λ x. x ∷ []) (item w)
 
--- what a word becomes that makes an item as it is taken: no item if it is passed over
-abbrev pub viewed : {A : Type 0} → View → (Stated → Option A) → Stated → Option (List A)
-viewed view item w = items_by item (taken view w)
+abbrev pub items_by : {A : Type 0} → (Stated → Option (List A)) → Option Stated → Option (List A)
+items_by items None = Some []
+items_by items (Some w) = items w
+
+-- what a word becomes that makes these items as it is taken: no item if it is passed over
+abbrev pub viewed : {A : Type 0} → View → (Stated → Option (List A)) → Stated → Option (List A)
+viewed view items w = items_by items (taken view w)

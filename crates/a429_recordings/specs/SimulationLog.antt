@@ -8,7 +8,7 @@ use Rattle.a429_console.specs.Names.{Naming, number_named}
 use Rattle.a429_console.specs.RefusalText.{OrMemory}
 use Rattle.a429_console.specs.declared.refusals.CommandRefusal.{CommandRefusal}
 use Rattle.a429_recordings.specs.LogItems.{IsItemFault, items_of}
-use Rattle.a429_recordings.specs.LogViews.{View, viewed}
+use Rattle.a429_recordings.specs.LogViews.{View, one_item, viewed}
 use Rattle.a429_recordings.specs.declared.simulate.log.LogWord.{LogWord}
 
 -- a word at the receiver of this name; its time is below 10^14 microseconds
@@ -19,7 +19,7 @@ word_for names w =
 
 -- the same, of a word as it is taken
 abbrev pub log_word_by : Naming → View → Stated → Option (List LogWord)
-log_word_by names view = viewed view (word_for names)
+log_word_by names view = viewed view (one_item (word_for names))
 
 -- the words of logs in order, as they are taken, or the number of the first faulty line, from 1
 unfoldable pub log_words : Naming → View → Reading → List (List ℕ) → Result (List LogWord) ℕ

@@ -15,7 +15,7 @@ use Rattle.a429_arguments.specs.Given.{Given, form_of, has_given, number_given}
 use Rattle.a429_arguments.specs.declared.options.OptionName.TheVariants as option
 use Rattle.a429_console.specs.declared.refusals.CommandRefusal.{CommandRefusal}
 use Rattle.a429_recordings.specs.LogItems.{IsItemFault, items_of, logs_named, view_named}
-use Rattle.a429_recordings.specs.LogViews.{View, viewed}
+use Rattle.a429_recordings.specs.LogViews.{View, one_item, viewed}
 use Rattle.a429_recordings.specs.SimulationReplies.{IsReadingFor}
 use Rattle.a429_recordings.specs.declared.logs.LogNames.{LogNames}
 use Rattle.a429_recordings.specs.declared.survey.SurveyForm.{SurveyForm}
@@ -30,7 +30,7 @@ noted_of w = option_map (λ name. record { time = w.time; name = name; raw = w.r
 
 -- the same, of a word as it is taken
 abbrev pub noted_by : View → Stated → Option (List Noted)
-noted_by view = viewed view noted_of
+noted_by view = viewed view (one_item noted_of)
 
 -- the form is what the options ask for: a bit rate of 100000 bit/s, and intervals widened by 25 per cent, unless others are given
 -- (profile: docs/RULES.md, Limits)

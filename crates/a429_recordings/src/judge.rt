@@ -5,13 +5,14 @@ ghost use Rattle.a429_arguments.specs.Texts.{texts_of};
 ghost use Rattle.a429_console.specs.Names.{naming_of};
 ghost use Rattle.a429_console.specs.Readings.{HasRead};
 ghost use Rattle.a429_recordings.specs.BoxLogs.{AreOrdered, IsNoting, IsSentReading, restarted};
-ghost use Rattle.a429_recordings.specs.JudgeReplies.{IsBoxReading, IsJudgeAnswer, IsJudging, IsJudgingOf, IsPrinting, IsRecorded, MayBeFound, PassesNoBoxLine, PassesNoneOf, aligned_by, aligned_view, files_of, is_no_group, names_of, no_group_of};
+ghost use Rattle.a429_recordings.specs.JudgeReplies.{IsJudgeAnswer, IsJudging, IsJudgingOf, IsPrinting, IsRecorded, MayBeFound, PassesNoBoxLine, PassesNoneOf, aligned_by, aligned_view, files_of, is_mixed, is_no_group, logs_of_sent, names_of, no_group_of};
 ghost use Rattle.a429_recordings.specs.LogItems.{PassesNone};
 ghost use Rattle.a429_recordings.specs.LogViews.{view_of};
 
 mod clocks;
 mod duties;
 mod events;
+mod input;
 mod noting;
 mod rows;
 mod sheets;
@@ -19,10 +20,12 @@ mod words;
 
 use crate::judge::clocks::{BoxTexts, found_clock};
 use crate::judge::duties::{Judging, is_any_wide};
+pub use crate::judge::input::JudgeNames;
+use crate::judge::input::{JudgeInput, read_input};
 use crate::judge::noting::{notes_of, overlap};
 pub use crate::judge::sheets::Sheeted;
 use crate::judge::sheets::judge_sheet;
-use crate::judge::words::{BoxLog, BoxWord, BoxWords, read_words};
+use crate::judge::words::{BoxLog, BoxWord, BoxWords, read_again, read_words};
 use crate::logs::reading_for;
 pub use crate::logs::views::{ClockMove, LogView};
 use a429_align::Alignment;
@@ -30,13 +33,11 @@ use a429_arguments::options::OptionName;
 use a429_arguments::requests::Asked;
 use a429_arguments::tolerances::tolerance_group;
 use a429_console::files::FileReader;
-use a429_console::files::reading::read_logs;
 use a429_console::hints::warnings::Warning;
 use a429_console::planning::with_plan;
 use a429_console::refusals::tables::no_group;
 use a429_console::refusals::{CommandRefusal, Refused};
 use a429_equipment::Equipment;
-use a429_given::{GivenTable, TableNames};
 use a429_judge::Judge;
 use a429_logs::{Clock, Reading};
 use a429_replay::Names;
@@ -68,59 +69,6 @@ impl<'a> JudgeForm<'a> {
             reading: reading_for(asked),
         }
     }
-}
-
-/// The names of the files that are judged, which words of the logs are taken, and how far times may be wrong.
-#[derive(Clone, Copy)]
-pub struct JudgeNames<'a> {
-    pub table: TableNames<'a>,
-    /// The first log of what came in, and the others.
-    pub heard: &'a str,
-    pub more_heard: &'a [&'a str],
-    /// The first log of what was sent, and the others.
-    pub sent: &'a str,
-    pub more_sent: &'a [&'a str],
-    pub heard_view: LogView<'a>,
-    pub sent_view: LogView<'a>,
-    /// Whether the clock of what was sent is looked for. If one is found, it counts instead of that of the view.
-    pub aligned: bool,
-    /// Each is US, or GROUP=US for one group, in microseconds. The tolerance of a group without one is two slots, or half its
-    /// shortest period if that is less.
-    pub tolerances: &'a [&'a str],
-}
-
-/// The bytes of those files, which words of the logs are taken, and these tolerances.
-#[derive(Drop)]
-struct JudgeInput<'a> {
-    table: GivenTable,
-    heard: Vec<Vec<u8>>,
-    sent: Vec<Vec<u8>>,
-    heard_view: LogView<'a>,
-    sent_view: LogView<'a>,
-    aligned: bool,
-    tolerances: &'a [&'a str],
-}
-
-/// Reads the files of these names.
-fn read_input<'a, F: FileReader>(
-    alloc: Global,
-    files: &mut F,
-    names: JudgeNames<'a>,
-) -> Result<JudgeInput<'a>, Refused>
-    ensures { HasRead F.answers (λ file. IsBoxReading file (names_of names.entry) result) files.old files.new }
-{
-    let table = GivenTable::read(alloc, files, names.table)?;
-    let heard = read_logs(alloc, files, names.heard, names.more_heard)?;
-    let sent = read_logs(alloc, files, names.sent, names.more_sent)?;
-    Ok(JudgeInput {
-        table,
-        heard,
-        sent,
-        heard_view: names.heard_view,
-        sent_view: names.sent_view,
-        aligned: names.aligned,
-        tolerances: names.tolerances,
-    })
 }
 
 /// What is said of a box, and the clock of what it sent, if one was found.
@@ -164,8 +112,9 @@ fn sent_view<'a>(input: &'a JudgeInput<'a>, found: Option<Alignment>) -> LogView
 }
 
 /// Reads the logs of what was sent, after those of what came in. Error: the first faulty line.
-fn read_sent<'a>(
+fn read_sent<'a, F: FileReader>(
     alloc: Global,
+    files: &F,
     names: &Names,
     after: Reading<'a>,
     input: &'a JudgeInput<'a>,
@@ -173,17 +122,23 @@ fn read_sent<'a>(
     warnings: &mut Vec<Warning>,
 ) -> Result<BoxWords<'a>, Refused>
     ensures silent { PassesNone (restarted after.entry) (files_of input.now).sent → warnings.new.items ≡ warnings.old.items }
-    ensures read { IsSentReading names.now (aligned_view found (files_of input.now)) after.entry (bytes_of input.now.sent.items) result }
+    ensures read { IsSentReading names.now (aligned_view found (files_of input.now)) (is_mixed (files_of input.now))
+        after.entry (logs_of_sent (files_of input.now)) result }
     ensures ordered { IfOk result (λ read. AreOrdered read.words.items) }
 {
     let view = sent_view(input, found).after(after);
     let next = restarted(after);
+    let part = input.part(BoxLog::Sent);
+    if part.is_mixed {
+        return read_again(alloc, files, names, view, part, next, &input.heard);
+    }
     let first = input.heard.len();
     match read_words(
         alloc,
+        files,
         names,
         view,
-        BoxLog::Sent,
+        part,
         next,
         first,
         &input.sent,
@@ -213,8 +168,9 @@ fn note_words(
 
 /// The words of the logs, noted, on the clock that is found, otherwise on that which is given. Errors: the first faulty line;
 /// the two logs have no time in common.
-fn read_notes<'a>(
+fn read_notes<'a, F: FileReader>(
     alloc: Global,
+    files: &F,
     proposal: &Proposal<OUTPUTS>,
     names: &Names,
     input: &'a JudgeInput<'a>,
@@ -228,22 +184,24 @@ fn read_notes<'a>(
 {
     let heard = read_words(
         alloc,
+        files,
         names,
         input.heard_view,
-        BoxLog::Heard,
+        input.part(BoxLog::Heard),
         reading,
         0,
         &input.heard,
         warnings,
     )?;
-    let sent = read_sent(alloc, names, heard.next, input, found, warnings)?;
+    let sent = read_sent(alloc, files, names, heard.next, input, found, warnings)?;
     note_words(alloc, proposal.equipment(), &heard.words, &sent.words)
 }
 
 /// What is said of the words of the logs, on the clock that is found, otherwise on that which is given. Error: a log is
 /// refused.
-fn judge_words<'a>(
+fn judge_words<'a, F: FileReader>(
     alloc: Global,
+    files: &F,
     proposal: &Proposal<OUTPUTS>,
     names: &Names,
     input: &'a JudgeInput<'a>,
@@ -255,7 +213,16 @@ fn judge_words<'a>(
     ensures silent { PassesNoneOf (files_of input.now) form.entry.reading → warnings.new.items ≡ warnings.old.items }
     ensures printed { IsPrinting proposal.now (aligned_by found (files_of input.now)) form.entry result }
 {
-    let judge = read_notes(alloc, proposal, names, input, found, form.reading, warnings)?;
+    let judge = read_notes(
+        alloc,
+        files,
+        proposal,
+        names,
+        input,
+        found,
+        form.reading,
+        warnings,
+    )?;
     let judging = Judging {
         proposal,
         judge: &judge,
@@ -287,8 +254,9 @@ fn no_group_of<'a>(names: &Names, tolerances: &'a [&'a str]) -> Option<&'a str>
 }
 
 /// The clock of what was sent, if it is looked for and found. Error: an allocation failed.
-fn asked_clock<'a>(
+fn asked_clock<'a, F: FileReader>(
     alloc: Global,
+    files: &F,
     proposal: &Proposal<OUTPUTS>,
     names: &Names,
     input: &'a JudgeInput<'a>,
@@ -301,19 +269,22 @@ fn asked_clock<'a>(
     }
     let heard = BoxTexts {
         view: input.heard_view,
+        part: input.part(BoxLog::Heard),
         texts: &input.heard,
     };
     let sent = BoxTexts {
         view: input.sent_view,
-        texts: &input.sent,
+        part: input.part(BoxLog::Sent),
+        texts: input.logs_of_sent(),
     };
-    found_clock(alloc, proposal, names, heard, sent, reading)
+    found_clock(alloc, files, proposal, names, heard, sent, reading)
 }
 
 /// What is said of a box with this plan, in which each group is there for which a tolerance is given. Errors: a tolerance is
 /// too great; a log is refused.
-fn judge_plan<'a>(
+fn judge_plan<'a, F: FileReader>(
     alloc: Global,
+    files: &F,
     proposal: &Proposal<OUTPUTS>,
     names: &Names,
     input: &'a JudgeInput<'a>,
@@ -329,8 +300,8 @@ fn judge_plan<'a>(
     if wide {
         return Err(Refused::plain(CommandRefusal::Tolerance));
     }
-    let found = asked_clock(alloc, proposal, names, input, form.reading)?;
-    match judge_words(alloc, proposal, names, input, found, form, warnings) {
+    let found = asked_clock(alloc, files, proposal, names, input, form.reading)?;
+    match judge_words(alloc, files, proposal, names, input, found, form, warnings) {
         Ok(sheet) => Ok(Judged {
             sheet,
             alignment: found,
@@ -340,8 +311,9 @@ fn judge_plan<'a>(
 }
 
 /// What is said of a box with this plan. Errors: a group is not there; a tolerance is too great; a log is refused.
-fn judge_box<'a>(
+fn judge_box<'a, F: FileReader>(
     alloc: Global,
+    files: &F,
     proposal: &Proposal<OUTPUTS>,
     input: &'a JudgeInput<'a>,
     form: JudgeForm<'a>,
@@ -353,13 +325,14 @@ fn judge_box<'a>(
     let names = Names::of(alloc, proposal.equipment())?;
     match no_group_of(&names, input.tolerances) {
         Some(group) => Err(Refused::plain(no_group(alloc, group))),
-        None => judge_plan(alloc, proposal, &names, input, form, warnings),
+        None => judge_plan(alloc, files, proposal, &names, input, form, warnings),
     }
 }
 
 /// What is said of a box, by the bytes of the files. Errors: there is no plan; those of `judge_box`.
-fn judge_input<'a>(
+fn judge_input<'a, F: FileReader>(
     alloc: Global,
+    files: &F,
     input: &'a JudgeInput<'a>,
     form: JudgeForm<'a>,
     warnings: &mut Vec<Warning>,
@@ -368,12 +341,11 @@ fn judge_input<'a>(
     ensures judged { IsJudging (files_of input.now) form.entry result }
 {
     let proposal = input.table.propose(alloc)?;
-    let judged = judge_box(alloc, &proposal, input, form, warnings);
+    let judged = judge_box(alloc, files, &proposal, input, form, warnings);
     with_plan(judged, proposal)
 }
 
-/// Whether what a box sent is right, as a sheet, by a log of what came in and one of what was sent. Each has further logs
-/// that are read after it. Errors, in this order: a file cannot be read; the table has a fault or no plan; a line of the plan text is refused; a tolerance is
+/// Whether what a box sent is right, as a sheet, by logs of what came in and of what was sent, or by logs that have both. Errors, in this order: a file cannot be read; the table has a fault or no plan; a line of the plan text is refused; a tolerance is
 /// given for a group that is not there, or is more than half the period of an output; the first faulty line of what came
 /// in, and then of what was sent; the two have no time in common. `Memory` if an allocation fails. What is passed over in a log
 /// is noted.
@@ -389,5 +361,5 @@ pub fn judge_logs<'a, F: FileReader>(
     ensures answer { HasRead F.answers (λ file. IsJudgeAnswer file (names_of names.entry) form.entry result) files.old files.new }
 {
     let input = read_input(alloc, files, names)?;
-    judge_input(alloc, &input, form, warnings)
+    judge_input(alloc, files, &input, form, warnings)
 }

@@ -23,6 +23,7 @@ mod summary_rows;
 mod tracks;
 
 pub use crate::logs::LogNames;
+use crate::logs::keeping::bytes_in;
 use crate::logs::reading_for;
 pub use crate::logs::views::LogView;
 use crate::simulate::close::close_receiver;
@@ -145,8 +146,9 @@ fn read_station(alloc: Global, table: &GivenTable, style: LineStyle) -> Result<S
 
 /// Logs on a station, with slots up to the time that the form asks for. Error: the log is refused, or a group would send
 /// too much.
-fn read_player<'a>(
+fn read_player<'a, F: FileReader>(
     alloc: Global,
+    files: &F,
     setting: &Setting,
     input: &'a SimulationInput<'a>,
     form: SimulationForm<'a>,
@@ -158,6 +160,7 @@ fn read_player<'a>(
 {
     let words = read_words(
         alloc,
+        files,
         &setting.names,
         input.view,
         form.reading,
@@ -168,8 +171,9 @@ fn read_player<'a>(
 }
 
 /// What is simulated. Error: the table, its plan or the log is refused, or a group would send too much.
-fn prepare<'a>(
+fn prepare<'a, F: FileReader>(
     alloc: Global,
+    files: &F,
     input: &'a SimulationInput<'a>,
     form: SimulationForm<'a>,
     warnings: &mut Vec<Warning>,
@@ -178,7 +182,7 @@ fn prepare<'a>(
     ensures prepared { IsPreparing (files_of input.now) form.entry result }
 {
     let setting = read_station(alloc, &input.table, form.style)?;
-    let player = read_player(alloc, &setting, input, form, warnings)?;
+    let player = read_player(alloc, files, &setting, input, form, warnings)?;
     Ok(Simulation { setting, player })
 }
 
@@ -195,9 +199,30 @@ fn note_close_words(simulation: &Simulation, warnings: &mut Vec<Warning>)
     }
 }
 
+/// After how many steps it is shown again how much is done.
+const STRIDE: usize = 1 << 14;
+
+/// The files of a simulation, and how many bytes its logs have, to show how much is done.
+#[derive(Clone, Copy)]
+struct PlayedFiles<'a, F> {
+    files: &'a F,
+    bytes: usize,
+}
+
+impl<F: FileReader> PlayedFiles<'_, F> {
+    /// Shows how much is done after this number of steps, now and then.
+    fn show(&self, steps: usize, player: &Player) {
+        if steps % STRIDE == 0 {
+            self.files
+                .show_done(player.bytes_played(self.bytes), self.bytes);
+        }
+    }
+}
+
 /// Plays what is simulated to its end, and puts lines out when they have become many; those that are left are in `lines`.
 /// Whether memory sufficed for all.
-fn put_lines<O: Output>(
+fn put_lines<F: FileReader, O: Output>(
+    played: PlayedFiles<'_, F>,
     setting: &Setting,
     player: &mut Player,
     lines: &mut PendingLines,
@@ -210,19 +235,24 @@ fn put_lines<O: Output>(
         lines.old.text.items lines.new.text.items result }
     ensures faults { CountsFault result (O.failures out.old) (O.failures out.new) }
 {
+    let mut steps: usize = 0;
     while let Some(happening) = player.next(&setting.proposal) {
         let Ok(()) = setting.push(lines, happening) else {
             return Ok(false);
         };
         put_if_full(&mut lines.text, out)?;
+        steps = steps.wrapping_add(1);
+        played.show(steps, player);
     }
+    played.files.show_end();
     Ok(true)
 }
 
 /// Plays what is simulated, and puts the lines of that. If an allocation fails before the end, these lines end with
 /// `refused memory`.
-fn print_lines<O: Output>(
+fn print_lines<F: FileReader, O: Output>(
     alloc: Global,
+    played: PlayedFiles<'_, F>,
     simulation: &mut Simulation,
     out: &mut O,
 ) -> Result<u8, OutputFault>
@@ -236,13 +266,14 @@ fn print_lines<O: Output>(
     let Ok(mut lines) = PendingLines::open(alloc, setting.style) else {
         return refuse_memory(out);
     };
-    let sufficed = put_lines(setting, &mut simulation.player, &mut lines, out)?;
+    let sufficed = put_lines(played, setting, &mut simulation.player, &mut lines, out)?;
     finish(&lines.text, sufficed, out)
 }
 
 /// Plays what is simulated to its end: the summary of that in a form. Error: an allocation failed.
-fn summarize(
+fn summarize<F: FileReader>(
     alloc: Global,
+    played: PlayedFiles<'_, F>,
     setting: &Setting,
     player: &mut Player,
     form: SheetForm,
@@ -251,15 +282,20 @@ fn summarize(
     ensures { IfOk result (λ text. HasSummary setting.now player.old form text.items) }
 {
     let mut summary = Summary::open(alloc)?;
+    let mut steps: usize = 0;
     while let Some(happening) = player.next(&setting.proposal) {
         summary.note(&setting.proposal, happening);
+        steps = steps.wrapping_add(1);
+        played.show(steps, player);
     }
+    played.files.show_end();
     summary_sheet(alloc, &setting.proposal, &summary).render(alloc, form)
 }
 
 /// Plays what is simulated, and puts the summary of that in a form.
-fn print_summary<O: Output>(
+fn print_summary<F: FileReader, O: Output>(
     alloc: Global,
+    played: PlayedFiles<'_, F>,
     simulation: &mut Simulation,
     form: SheetForm,
     out: &mut O,
@@ -270,15 +306,22 @@ fn print_summary<O: Output>(
     ensures flushed { OnOk result (IsTrue (O.is_flushed out.new)) }
     ensures faults { CountsFault result (O.failures out.old) (O.failures out.new) }
 {
-    match summarize(alloc, &simulation.setting, &mut simulation.player, form) {
+    match summarize(
+        alloc,
+        played,
+        &simulation.setting,
+        &mut simulation.player,
+        form,
+    ) {
         Ok(text) => finish(&text, true, out),
         Err(_) => refuse_memory(out),
     }
 }
 
 /// Plays what is simulated, and puts the summary of that, or its lines.
-fn print_simulation<O: Output>(
+fn print_simulation<F: FileReader, O: Output>(
     alloc: Global,
+    played: PlayedFiles<'_, F>,
     simulation: &mut Simulation,
     form: SimulationForm<'_>,
     out: &mut O,
@@ -291,9 +334,9 @@ fn print_simulation<O: Output>(
     ensures faults { CountsFault result (O.failures out.old) (O.failures out.new) }
 {
     if form.summary {
-        print_summary(alloc, simulation, form.form, out)
+        print_summary(alloc, played, simulation, form.form, out)
     } else {
-        print_lines(alloc, simulation, out)
+        print_lines(alloc, played, simulation, out)
     }
 }
 
@@ -324,10 +367,12 @@ pub fn simulate<'a, F: FileReader, O: Output>(
         Ok(input) => input,
         Err(refusal) => return refuse(alloc, refusal, out),
     };
-    match prepare(alloc, &input, form, warnings) {
+    match prepare(alloc, files, &input, form, warnings) {
         Ok(mut simulation) => {
             note_close_words(&simulation, warnings);
-            plain_answer(print_simulation(alloc, &mut simulation, form, out))
+            let bytes = bytes_in(&input.logs);
+            let played = PlayedFiles { files, bytes };
+            plain_answer(print_simulation(alloc, played, &mut simulation, form, out))
         }
         Err(refusal) => refuse(alloc, refusal, out),
     }

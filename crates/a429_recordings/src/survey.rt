@@ -79,16 +79,17 @@ fn text_in(name: &[u8]) -> Option<&str>
 
 impl WordKeeper for Survey {
     ghost use Rattle.a429_survey.specs.Figures.{Noted};
+    ghost use Rattle.a429_recordings.specs.LogViews.{one_item};
     ghost use Rattle.a429_recordings.specs.Surveys.{noted_of};
 
     ghost Item = { Noted };
 
-    ghost item = { λ _. noted_of };
+    ghost items = { λ _. one_item noted_of };
 
     ghost kept = { λ noted. noted };
 
     /// Notes a word. Error: its name is not UTF-8, or an allocation failed.
-    #[tactic(auto, unfolding(crate::specs::Surveys::noted_of))]
+    #[tactic(auto, using(crate::proofs::LogLines::kept_one), unfolding(crate::specs::Surveys::noted_of))]
     fn keep(&mut self, word: StatedWord<'_>) -> Result<(), KeepFault> {
         let Some(name) = text_in(word.name) else {
             return Err(KeepFault::Line(LogRefusal::Name));
@@ -105,8 +106,9 @@ impl WordKeeper for Survey {
 }
 
 /// The survey of logs, read one after another as if they were one. What is passed over is noted. Error: the first faulty line.
-fn survey_of<'a>(
+fn survey_of<'a, F: FileReader>(
     alloc: Global,
+    files: &F,
     view: LogView<'a>,
     reading: Reading<'a>,
     logs: &'a [Vec<u8>],
@@ -117,7 +119,7 @@ fn survey_of<'a>(
         (OrMemory (IsItemFault (noted_by (view_of view.entry)) reading.entry (bytes_of logs.now))) }
 {
     let mut survey = Survey::new(alloc);
-    match keep_logs(alloc, &mut survey, view, reading, 0, logs, warnings) {
+    match keep_logs(alloc, files, &mut survey, view, reading, 0, logs, warnings) {
         Ok(_) => Ok(survey),
         Err(refusal) => Err(refusal),
     }
@@ -154,6 +156,6 @@ pub fn survey_logs<'a, F: FileReader>(
     ensures answer { HasRead F.answers (λ file. IsSurveyAnswer file names.entry form.entry result) files.old files.new }
 {
     let logs = read_logs(alloc, files, names.first, names.more)?;
-    let survey = survey_of(alloc, names.view, form.reading, &logs, warnings)?;
+    let survey = survey_of(alloc, files, names.view, form.reading, &logs, warnings)?;
     Ok(text_of(alloc, &survey, form)?)
 }

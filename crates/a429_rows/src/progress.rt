@@ -1,9 +1,14 @@
-//! The line that shows the progress of a run.
+//! The lines that show the progress of a run, and of the work on files.
 
+use a429_console::files::FileReader;
+use a429_console::files::memory::MemoryFiles;
+use a429_console::files::shown::ShownFiles;
 use a429_live::{Progress, ProgressLine};
 use std::io;
 use std::io::Write;
+use std::rt::Clock;
 use std::sync::atomic::{AtomicU64, Ordering};
+use std::time::Duration;
 
 /// Counts the pieces that are written to it, and their bytes.
 #[derive(Clone, Copy)]
@@ -56,4 +61,60 @@ fn a_line_is_written_at_the_beginning_now_and_then_and_wiped(rt: HostRuntime) {
     line.end();
     drop(line);
     assert!(rt; is_written && screen.shows(3, 97));
+}
+
+/// A clock that a test sets, in milliseconds.
+#[derive(Drop)]
+struct SetClock {
+    millis: AtomicU64,
+}
+
+impl Clock for SetClock {
+    fn monotonic(&self) -> io::Result<Duration> {
+        Ok(Duration::from_millis(self.millis.load(Ordering::SeqCst)))
+    }
+
+    fn since_1970(&self) -> io::Result<Duration> {
+        self.monotonic()
+    }
+}
+
+/// Whether nothing is shown for a second, then a line, and the next one after 200 ms.
+fn is_shown_after_a_second(files: &impl FileReader, clock: &SetClock, screen: &Screen<'_>) -> bool {
+    clock.millis.store(5000, Ordering::SeqCst);
+    files.show_done(1 << 19, 1 << 22);
+    clock.millis.store(5999, Ordering::SeqCst);
+    files.show_done(1 << 20, 1 << 22);
+    let is_silent = screen.shows(0, 0);
+    clock.millis.store(6000, Ordering::SeqCst);
+    files.show_done(1 << 20, 1 << 22);
+    // "\r1 of 4 MiB, 25 %, 3 s left\x1b[K"
+    let is_shown = screen.shows(1, 30);
+    clock.millis.store(6199, Ordering::SeqCst);
+    files.show_done(2 << 20, 1 << 22);
+    let is_kept = screen.shows(1, 30);
+    clock.millis.store(6200, Ordering::SeqCst);
+    files.show_done(2 << 20, 1 << 22);
+    is_silent && is_shown && is_kept && screen.shows(2, 60)
+}
+
+#[test]
+fn work_on_files_is_shown_after_a_second_and_wiped(rt: HostRuntime) {
+    let (pieces, bytes) = (AtomicU64::new(0), AtomicU64::new(0));
+    let screen = Screen {
+        pieces: &pieces,
+        bytes: &bytes,
+    };
+    let clock = SetClock {
+        millis: AtomicU64::new(0),
+    };
+    let none = MemoryFiles {
+        files: Vec::new(rt.alloc()),
+    };
+    let files = ShownFiles::new(rt.alloc(), none, &clock, screen);
+    let is_shown = is_shown_after_a_second(&files, &clock, &screen);
+    files.show_end();
+    files.show_end();
+    drop(files);
+    assert!(rt; is_shown && screen.shows(3, 64));
 }

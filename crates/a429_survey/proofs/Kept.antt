@@ -9,7 +9,8 @@ use Rattle.std.proofs.lemmas.Slice.Eq.{bytes_eq-Decides}
 use Rattle.a429_survey.specs.Figures.{Noted}
 use Rattle.a429_survey.specs.Survey.{names_of, with_name, words_of}
 use Rattle.a429_survey.specs.Kept.{Ascend, IsKept, LineKept, line_of, line_with, lines_of, names_in, with_line}
-use Rattle.a429_survey.proofs.FiguresMore.{filter_more, line_more}
+use Rattle.a429_survey.proofs.FiguresMore.{filter_more}
+use Rattle.a429_survey.proofs.LineMore.{line_more}
 use Rattle.a429_survey.proofs.NamesMore.{ascend_with, line_with_name, names_more, none_with, set_named}
 use Rattle.a429_survey.proofs.Places.{named_at, no_line}
 

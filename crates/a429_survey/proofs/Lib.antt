@@ -1,6 +1,9 @@
+pub mod DataBits
+pub mod DataMore
 pub mod FiguresMore
 pub mod Kept
 pub mod LineFigures
+pub mod LineMore
 pub mod NamesMore
 pub mod Order
 pub mod Pairs

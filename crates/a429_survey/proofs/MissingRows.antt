@@ -9,9 +9,9 @@ use Rattle.a429_text.specs.Fields.{Field}
 use Rattle.a429_survey.specs.Expected.{Expectation, compared_name, compared_rows, has_its, is_missing, is_on, is_seen, missing_if, takes_sdi}
 use Rattle.a429_survey.specs.Figures.{Noted}
 use Rattle.a429_survey.specs.Survey.{names_of, words_of, words_with}
-use Rattle.a429_survey.specs.Kept.{LineKept, figures_of, has_at, has_in, is_seen_in, line_of, lines_of, missing_in, no_figures, place_of, words_at}
-use Rattle.a429_survey.specs.declared.figures.Figures.{Figures}
-use Rattle.a429_survey.proofs.FiguresMore.{place_small}
+use Rattle.a429_survey.specs.Kept.{LineKept, figures_of, has_at, has_in, is_seen_in, line_of, lines_of, missing_in, no_row_figures, place_of, row_figures, words_at}
+use Rattle.a429_survey.specs.declared.lines.RowFigures.{RowFigures}
+use Rattle.a429_survey.proofs.LineMore.{place_small}
 use Rattle.a429_survey.proofs.SheetRows.{words_same}
 
 -- no word is at a place from 1024 on
@@ -21,22 +21,22 @@ none_at place (w ∷ ws) far =
     let other : (place_of w.raw == place) ≡ false = grind (arith, nat_tests, place_small w.raw, far) in
     ap (λ (b : Bool). cond b (w ∷ words_at place ws) (words_at place ws)) other ∙ none_at place ws far
 
-figures_far : (b : Bool) (place : ℕ) (ws : List Noted) → nat_lt place 1024 ≡ b → slice_index_or (map (λ (i : ℕ). figures_of (words_at i ws)) (range_with_len 0 1024)) place no_figures ≡ figures_of (words_at place ws)
-unfolding figures_of
+figures_far : (b : Bool) (place : ℕ) (ws : List Noted) → nat_lt place 1024 ≡ b → slice_index_or (map (λ (i : ℕ). row_figures (words_at i ws)) (range_with_len 0 1024)) place no_row_figures ≡ row_figures (words_at place ws)
+unfolding figures_of row_figures
 figures_far true place ws near =
     let within : place < 1024 = grind (arith, nat_tests, near) in
-    get_or-map-range_with_len (λ (i : ℕ). figures_of (words_at i ws)) 0 1024 place place no_figures within (zero-add place)
+    get_or-map-range_with_len (λ (i : ℕ). row_figures (words_at i ws)) 0 1024 place place no_row_figures within (zero-add place)
 figures_far false place ws far =
     let past : 1024 ≤ place = grind (arith, nat_tests, far) in
-    let all : List Figures = map (λ (i : ℕ). figures_of (words_at i ws)) (range_with_len 0 1024) in
-    let count : length all ≡ 1024 = length-map-range_with_len (λ (i : ℕ). figures_of (words_at i ws)) 0 1024 in
-    get_or_past all place no_figures (omega (arith, count, past)) ∙ sym (ap figures_of (none_at place ws past))
+    let all : List RowFigures = map (λ (i : ℕ). row_figures (words_at i ws)) (range_with_len 0 1024) in
+    let count : length all ≡ 1024 = length-map-range_with_len (λ (i : ℕ). row_figures (words_at i ws)) 0 1024 in
+    get_or_past all place no_row_figures (omega (arith, count, past)) ∙ sym (ap row_figures (none_at place ws past))
 
 at_is : (e : Expectation) (name : List ℕ) (ws : List Noted) (sdi : ℕ) → sdi < 4 → has_at e (line_of name ws) sdi ≡ (takes_sdi e sdi && nat_lt 0 (length (words_with e.label sdi ws)))
-unfolding line_of figures_of
+unfolding line_of figures_of row_figures
 at_is e name ws sdi small =
     let place : ℕ = 4 * e.label + sdi in
-    ap (λ (f : Figures). takes_sdi e sdi && nat_lt 0 f.words) (figures_far (nat_lt place 1024) place ws refl)
+    ap (λ (p : RowFigures). takes_sdi e sdi && nat_lt 0 p.common.words) (figures_far (nat_lt place 1024) place ws refl)
     ∙ ap (λ (vs : List Noted). takes_sdi e sdi && nat_lt 0 (length vs)) (words_same e.label sdi ws small)
 
 four : (a b c d p q r s : Bool) → a ≡ p → b ≡ q → c ≡ r → d ≡ s → (a || (b || (c || d))) ≡ (p || (q || (r || (s || false))))

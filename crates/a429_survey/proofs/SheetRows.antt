@@ -1,5 +1,5 @@
 -- The rows by figures are those of the words.
-use Rattle.std.proofs.Common.{◌≡◌, ℕ, zero, suc, ◌+◌, ◌-◌, ◌*◌, ◌<◌, List, [], ◌∷◌, ◌++◌, Bool, true, false, cond, length, map, refl, ap, ap₂, sym, ◌∙◌, arith, zero-add, append-nil}
+use Rattle.std.proofs.Common.{◌≡◌, ℕ, ℤ, zero, suc, ◌+◌, ◌-◌, ◌*◌, ◌<◌, List, [], ◌∷◌, ◌++◌, Bool, true, false, cond, length, map, refl, ap, ap₂, sym, ◌∙◌, arith, zero-add, append-nil}
 use Rattle.std.specs.Prelude.{None, Option, Some, codes, count_by, filter, flat_map, fold, if◌then◌else◌, max, nat_lt, ◌==◌, ◌&&◌}
 use Rattle.std.specs.Int.{div_ceil}
 use Rattle.std.specs.List.{range_with_len}
@@ -10,11 +10,12 @@ use Rattle.a429_text.specs.Texts.{octal}
 use Rattle.a429_word.proofs.Ones.{number_is}
 use Rattle.a429_word.specs.Bits.{label_of, sdi_of}
 use Rattle.a429_word.specs.Hexadecimal.{hex}
+use Rattle.a429_survey.specs.Data.{bcd_data, bnr_data, data_fields, greatest_said, least_said, no_data_fields, said_by}
 use Rattle.a429_survey.specs.Figures.{Noted, first_of, greatest_field, intervals, intervals_after, is_even, last_of, least_field, load_field, mean_field, times_of}
 use Rattle.a429_survey.specs.Survey.{label_rows, name_rows, names_of, pair_row, pair_rows, rows_if_any, sdi_text, survey_row, survey_rows, words_of, words_with}
 use Rattle.a429_survey.specs.Starts.{interval_field, longer_field, shorter_field, source_name, start_row, start_rows}
 use Rattle.a429_survey.specs.Expected.{Expectation, comes_faster, comes_slower, compared_name, compared_row, expectation_for, pace_of, ssm_fields, verdict_of}
-use Rattle.a429_survey.specs.Kept.{LineKept, figures_of, is_above, label_in, least_of, line_of, lines_of, load_in, longer_in, no_figures, pair_by, pair_in, place_of, row_in, rows_by, rows_in, shorter_in, start_in, verdict_in, words_at}
+use Rattle.a429_survey.specs.Kept.{LineKept, extent_fields, extent_of, extents_of, figures_of, greatest_in, is_above, label_in, least_in, least_of, line_of, lines_of, load_in, longer_in, no_row_figures, pair_by, pair_in, place_of, row_figures, row_in, rows_by, rows_in, shorter_in, start_in, verdict_in, words_at}
 use Rattle.a429_survey.specs.declared.rows.RowKind.{RowKind}
 use Rattle.a429_survey.specs.declared.rows.RowKind.TheVariants as kind
 
@@ -92,27 +93,45 @@ verdict_is (Some e) (w ∷ v ∷ ws) =
     let ns : List ℕ = intervals_after v.time (times_of ws) in
     rw several (ap (λ (slow : Bool). if comes_faster e.least (n ∷ ns) then codes "fast" else (if slow then codes "slow" else codes "expected")) (slow_is e.greatest n ns))
 
+-- ---- the data
+
+low_is : (ns : List ℤ) → least_in (extent_of ns) ≡ least_said ns
+low_is [] = refl
+low_is (n ∷ ns) = refl
+
+high_is : (ns : List ℤ) → greatest_in (extent_of ns) ≡ greatest_said ns
+high_is [] = refl
+high_is (n ∷ ns) = refl
+
+same_fields : (a b c d a' b' c' d' : Field) → a ≡ a' → b ≡ b' → c ≡ c' → d ≡ d' → a ∷ b ∷ c ∷ d ∷ [] ≡ a' ∷ b' ∷ c' ∷ d' ∷ []
+same_fields a b c d a' b' c' d' p q r s = rw (p, q, r, s) refl
+
+data_is : (ws : List Noted) → extent_fields (extents_of ws) ≡ data_fields ws
+data_is ws =
+    same_fields _ _ _ _ _ _ _ _ (low_is (said_by bnr_data ws)) (high_is (said_by bnr_data ws)) (low_is (said_by bcd_data ws)) (high_is (said_by bcd_data ws))
+
 -- ---- the row of a label and an SDI, by what is asked for
 
-abbrev pair_of : RowKind → ℕ → List ℕ → ℕ → ℕ → List Noted → List Field
-pair_of kind.Figures rate name = pair_row name
-pair_of (kind.Starts slack) rate name = start_row slack rate name
-pair_of (kind.Compared expected) rate name = compared_row expected.now name
+abbrev asked_pair : RowKind → ℕ → List ℕ → ℕ → ℕ → List Noted → List Field
+asked_pair kind.Figures rate name = pair_row name
+asked_pair (kind.Starts slack) rate name = start_row slack rate name
+asked_pair (kind.Compared expected) rate name = compared_row expected.now name
 
-pair_by_is : (k : RowKind) (rate : ℕ) (name : List ℕ) (label sdi : ℕ) (ws : List Noted) → pair_by k rate name label sdi (figures_of ws) ≡ pair_of k rate name label sdi ws
-unfolding figures_of
+pair_by_is : (k : RowKind) (rate : ℕ) (name : List ℕ) (label sdi : ℕ) (ws : List Noted) → pair_by k rate name label sdi (row_figures ws) ≡ asked_pair k rate name label sdi ws
+unfolding figures_of row_figures
 pair_by_is kind.Figures rate name label sdi ws = row_is name (Text (octal label)) (Text (sdi_text sdi)) Absent ws
 pair_by_is (kind.Starts slack) rate name label sdi ws = start_is slack rate name label sdi ws
 pair_by_is (kind.Compared expected) rate name label sdi ws =
-    ap₂ (λ (row : List Field) (text : List ℕ). row ++ (ssm_fields ws ++ Text text ∷ [])) (row_is name (Text (octal label)) (Text (sdi_text sdi)) Absent ws)
-    (verdict_is (expectation_for expected.now name label sdi) ws)
+    let e : Option Expectation = expectation_for expected.now name label sdi in
+    ap₂ (λ (row fields : List Field). row ++ (ssm_fields ws ++ (fields ++ Text (verdict_in e (figures_of ws)) ∷ []))) (row_is name (Text (octal label)) (Text (sdi_text sdi)) Absent ws) (data_is ws)
+    ∙ ap (λ (text : List ℕ). pair_row name label sdi ws ++ (ssm_fields ws ++ (data_fields ws ++ Text text ∷ []))) (verdict_is e ws)
 
-rows_by_is : (k : RowKind) (rate : ℕ) (name : List ℕ) (label sdi : ℕ) (ws : List Noted) → rows_by k rate name label sdi (figures_of ws) ≡ rows_if_any (pair_of k rate name label sdi) ws
-unfolding figures_of
+rows_by_is : (k : RowKind) (rate : ℕ) (name : List ℕ) (label sdi : ℕ) (ws : List Noted) → rows_by k rate name label sdi (row_figures ws) ≡ rows_if_any (asked_pair k rate name label sdi) ws
+unfolding figures_of row_figures
 rows_by_is k rate name label sdi [] = refl
 rows_by_is k rate name label sdi (w ∷ ws) =
     let some : (length (w ∷ ws) == 0) ≡ false = grind (arith, nat_tests) in
-    ap (λ (b : Bool). if b then [] else pair_by k rate name label sdi (figures_of (w ∷ ws)) ∷ []) some
+    ap (λ (b : Bool). if b then [] else pair_by k rate name label sdi (row_figures (w ∷ ws)) ∷ []) some
     ∙ ap (λ (r : List Field). r ∷ []) (pair_by_is k rate name label sdi (w ∷ ws))
 
 -- ---- the words of a row
@@ -131,13 +150,13 @@ words_same label sdi ws small =
     (λ w. place_tests (label_of w.raw) (sdi_of w.raw) label sdi (omega (arith, number_is 8 2 w.raw)) small)
 
 pair_is : (k : RowKind) (rate : ℕ) (name : List ℕ) (ws : List Noted) (label sdi : ℕ) → label < 256 → sdi < 4
-    → pair_in k rate (line_of name ws) label sdi ≡ rows_if_any (pair_of k rate name label sdi) (words_with label sdi ws)
+    → pair_in k rate (line_of name ws) label sdi ≡ rows_if_any (asked_pair k rate name label sdi) (words_with label sdi ws)
 unfolding pair_in line_of
 pair_is k rate name ws label sdi within small =
     let place : ℕ = 4 * label + sdi in
     ap (rows_by k rate name label sdi)
-    (get_or-map-range_with_len (λ (i : ℕ). figures_of (words_at i ws)) 0 1024 (4 * label + sdi) (4 * label + sdi) no_figures (omega (arith, within, small)) (zero-add (4 * label + sdi))
-    ∙ ap figures_of (words_same label sdi ws small))
+    (get_or-map-range_with_len (λ (i : ℕ). row_figures (words_at i ws)) 0 1024 (4 * label + sdi) (4 * label + sdi) no_row_figures (omega (arith, within, small)) (zero-add (4 * label + sdi))
+    ∙ ap row_figures (words_same label sdi ws small))
     ∙ rows_by_is k rate name label sdi (words_with label sdi ws)
 
 -- ---- all rows
@@ -148,14 +167,14 @@ flat_range {Y} f g from (suc n) same =
     ap (λ (ys : List Y). ys ++ flat_map f (range_with_len (from + 1) n)) (same from (omega arith))
     ∙ ap (λ (ys : List Y). g from ++ ys) (flat_range f g (from + 1) n (λ k within. same k (omega (arith, within))))
 
-label_is : (k : RowKind) (rate : ℕ) (name : List ℕ) (ws : List Noted) (label : ℕ) → label < 256 → label_in k rate (line_of name ws) label ≡ label_rows (pair_of k rate name) ws label
+label_is : (k : RowKind) (rate : ℕ) (name : List ℕ) (ws : List Noted) (label : ℕ) → label < 256 → label_in k rate (line_of name ws) label ≡ label_rows (asked_pair k rate name) ws label
 label_is k rate name ws label within =
-    flat_range (pair_in k rate (line_of name ws) label) (λ (sdi : ℕ). rows_if_any (pair_of k rate name label sdi) (words_with label sdi ws)) 0 4
+    flat_range (pair_in k rate (line_of name ws) label) (λ (sdi : ℕ). rows_if_any (asked_pair k rate name label sdi) (words_with label sdi ws)) 0 4
     (λ sdi small. pair_is k rate name ws label sdi within (omega (arith, small)))
 
-labels_are : (k : RowKind) (rate : ℕ) (name : List ℕ) (ws : List Noted) → flat_map (label_in k rate (line_of name ws)) (range_with_len 0 256) ≡ pair_rows (pair_of k rate name) ws
+labels_are : (k : RowKind) (rate : ℕ) (name : List ℕ) (ws : List Noted) → flat_map (label_in k rate (line_of name ws)) (range_with_len 0 256) ≡ pair_rows (asked_pair k rate name) ws
 labels_are k rate name ws =
-    flat_range (label_in k rate (line_of name ws)) (label_rows (pair_of k rate name) ws) 0 256 (λ label within. label_is k rate name ws label (omega (arith, within)))
+    flat_range (label_in k rate (line_of name ws)) (label_rows (asked_pair k rate name) ws) 0 256 (λ label within. label_is k rate name ws label (omega (arith, within)))
 
 last_row : (rate : ℕ) (name : List ℕ) (ws : List Noted) → row_in name Absent Absent (load_in rate (figures_of ws)) (figures_of ws) ≡ survey_row name Absent Absent (load_field rate ws) ws
 unfolding figures_of
@@ -174,7 +193,7 @@ line_is kind.Figures rate name ws =
 line_is (kind.Starts slack) rate name ws =
     append-nil (flat_map (label_in (kind.Starts slack) rate (line_of name ws)) (range_with_len 0 256)) ∙ labels_are (kind.Starts slack) rate name ws
 line_is (kind.Compared expected) rate name ws =
-    ap₂ (λ (rs : List (List Field)) (r : List Field). rs ++ (r ++ (ssm_fields ws ++ Absent ∷ [])) ∷ []) (labels_are (kind.Compared expected) rate name ws) (last_row rate name ws)
+    ap₂ (λ (rs : List (List Field)) (r : List Field). rs ++ (r ++ (ssm_fields ws ++ (no_data_fields ++ Absent ∷ []))) ∷ []) (labels_are (kind.Compared expected) rate name ws) (last_row rate name ws)
 
 flat_mapped : (k : RowKind) (rate : ℕ) (ws : List Noted) (names : List (List ℕ)) → flat_map (rows_in k rate) (lines_of names ws) ≡ flat_map (λ name. asked_rows k rate name (words_of name ws)) names
 flat_mapped k rate ws [] = refl

@@ -6,6 +6,7 @@ use Rattle.std.specs.Str.{bytes_eq}
 use Rattle.a429_text.specs.Fields.{Absent, Field, Number, Text}
 use Rattle.a429_text.specs.Sheets.{text_in}
 use Rattle.a429_text.specs.Texts.{octal}
+use Rattle.a429_survey.specs.Data.{data_fields, no_data_fields}
 use Rattle.a429_survey.specs.Figures.{Noted, has_ssm, intervals, load_field, times_of}
 use Rattle.a429_survey.specs.Survey.{names_of, pair_row, pair_rows, sdi_text, survey_columns, survey_row, words_of, words_with}
 
@@ -95,7 +96,10 @@ is_missing words e = list_any (is_on e) (names_of words) && not (list_any (is_se
 -- ---- the rows
 
 abbrev pub compared_columns : List (List ℕ)
-compared_columns = survey_columns ++ codes "ssm_0" ∷ codes "ssm_1" ∷ codes "ssm_2" ∷ codes "ssm_3" ∷ codes "table" ∷ []
+compared_columns =
+    survey_columns
+    ++ codes "ssm_0" ∷ codes "ssm_1" ∷ codes "ssm_2" ∷ codes "ssm_3" ∷ codes "least_bnr" ∷ codes "greatest_bnr" ∷ codes "least_bcd" ∷ codes "greatest_bcd"
+    ∷ codes "table" ∷ []
 
 -- how many of some words have each SSM
 abbrev pub ssm_fields : List Noted → List Field
@@ -104,12 +108,13 @@ ssm_fields words = map (λ ssm. Number (count_by (has_ssm ssm) words)) (range_wi
 -- the row of a label and an SDI of a name
 abbrev pub compared_row : List Expectation → List ℕ → ℕ → ℕ → List Noted → List Field
 compared_row expected name label sdi words =
-    pair_row name label sdi words ++ (ssm_fields words ++ Text (verdict_of (expectation_for expected name label sdi) words) ∷ [])
+    pair_row name label sdi words ++ (ssm_fields words ++ (data_fields words ++ Text (verdict_of (expectation_for expected name label sdi) words) ∷ []))
 
--- the rows of the words of a name, and then that of all these words, of which nothing is said
+-- the rows of the words of a name, and then that of all these words, which says nothing of their data and of the table
 abbrev pub compared_name : List Expectation → ℕ → List ℕ → List Noted → List (List Field)
 compared_name expected rate name words =
-    pair_rows (compared_row expected name) words ++ (survey_row name Absent Absent (load_field rate words) words ++ (ssm_fields words ++ Absent ∷ [])) ∷ []
+    pair_rows (compared_row expected name) words
+    ++ (survey_row name Absent Absent (load_field rate words) words ++ (ssm_fields words ++ (no_data_fields ++ Absent ∷ []))) ∷ []
 
 -- the SDI that is expected
 abbrev pub expected_sdi : Option ℕ → List ℕ
@@ -120,7 +125,7 @@ expected_sdi (Some sdi) = sdi_text sdi
 abbrev pub missing_row : Expectation → List Field
 missing_row e =
     Text e.line ∷ Text (octal e.label) ∷ Text (expected_sdi e.sdi) ∷ Number 0 ∷ Absent ∷ Absent ∷ Absent ∷ Absent ∷ Absent ∷ Absent ∷ Absent ∷ Absent
-    ∷ Absent ∷ Absent ∷ Absent ∷ Absent ∷ Text (codes "missing") ∷ []
+    ∷ Absent ∷ Absent ∷ Absent ∷ Absent ∷ (no_data_fields ++ Text (codes "missing") ∷ [])
 
 -- the row, if they are missing
 abbrev pub missing_if : Expectation → Bool → List (List Field)
@@ -142,7 +147,7 @@ is_finding_text None = false
 is_finding_text (Some text) = not (bytes_eq text (codes "expected"))
 
 abbrev pub is_finding : List Field → Bool
-is_finding row = is_finding_text (text_in 16 row)
+is_finding row = is_finding_text (text_in 20 row)
 
 -- a row has a finding
 abbrev pub has_finding : List (List Field) → Bool

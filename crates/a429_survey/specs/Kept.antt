@@ -1,17 +1,21 @@
 -- What a survey keeps of the words that were noted (vocabulary of contracts).
-use Rattle.std.specs.Prelude.{◌≡◌, ◌&&◌, ◌||◌, ℕ, suc, ◌+◌, ◌-◌, ◌*◌, ◌/◌, ◌^◌, ◌==◌, List, [], ◌∷◌, ◌++◌, Bool, None, Option, Some, true, false, bytes_eq, codes, count_by, filter, flat_map, fold, if◌then◌else◌, length, map, max, min, nat_lt, not, set, slice_index_or}
-use Rattle.std.specs.Int.{div_ceil}
+use Rattle.std.specs.Prelude.{◌≡◌, ◌&&◌, ◌||◌, ℕ, ℤ, suc, ◌+◌, ◌-◌, ◌*◌, ◌/◌, ◌^◌, ◌==◌, List, [], ◌∷◌, ◌++◌, Bool, None, Option, Some, true, false, bytes_eq, codes, count_by, filter, flat_map, fold, if◌then◌else◌, int_le, length, map, max, min, nat_lt, not, set, slice_index_or}
+use Rattle.std.specs.Int.{div_ceil, int_max, int_min}
 use Rattle.std.specs.List.{list_any, range_with_len}
 use Rattle.std.specs.Ordering.{is_eq, is_lt, nat_cmp}
 use Rattle.std.specs.Cmp.Lexicographic.{slice_cmp}
 use Rattle.a429_text.specs.declared.cells.Cell.{Cell}
-use Rattle.a429_text.specs.Fields.{Field, Text, Number, Absent}
+use Rattle.a429_text.specs.Fields.{Field, Text, Number, Signed, Absent}
 use Rattle.a429_text.specs.Sheets.{field_of}
 use Rattle.a429_text.specs.Texts.{octal}
 use Rattle.a429_word.specs.Bits.{has_odd_parity, label_of, sdi_of, ssm_of}
 use Rattle.a429_word.specs.Hexadecimal.{hex}
 use Rattle.a429_survey.specs.declared.figures.Figures.{Figures}
 use Rattle.a429_survey.specs.declared.figures.SsmCounts.{SsmCounts}
+use Rattle.a429_survey.specs.declared.extents.Extent.{Extent}
+use Rattle.a429_survey.specs.declared.extents.Extents.{Extents}
+use Rattle.a429_survey.specs.declared.lines.RowFigures.{RowFigures}
+use Rattle.a429_survey.specs.Data.{bcd_data, bnr_data, said_by}
 use Rattle.a429_survey.specs.Figures.{Noted, first_of, intervals, has_ssm, is_even, last_of, tenths_field, times_of}
 use Rattle.a429_survey.specs.Starts.{interval_field, source_name}
 use Rattle.a429_survey.specs.Expected.{Expectation, expectation_for, is_on, missing_if, takes_sdi}
@@ -102,6 +106,56 @@ next_figures interval time raw f = record {
 abbrev pub figures_with : ℕ → ℕ → Figures → Figures
 figures_with time raw f = if f.words == 0 then first_figures time raw else next_figures (time - f.last) time raw f
 
+-- ---- data
+
+-- the least and the greatest of some numbers, if there is one
+abbrev pub extent_of : List ℤ → Option Extent
+extent_of [] = None
+extent_of (n ∷ ns) = Some record { least = fold int_min n ns; greatest = fold int_max n ns }
+
+-- of some numbers and one more
+abbrev pub extent_with : ℤ → Option Extent → Extent
+extent_with n None = record { least = n; greatest = n }
+extent_with n (Some e) = record { least = int_min e.least n; greatest = int_max e.greatest n }
+
+-- a number is within an extent
+abbrev pub is_within : ℤ → Option Extent → Bool
+is_within n None = false
+is_within n (Some e) = int_le e.least n && int_le n e.greatest
+
+-- after a word that says a number or nothing
+abbrev pub widened : Option ℤ → Option Extent → Option Extent
+widened None e = e
+widened (Some n) e = Some (extent_with n e)
+
+-- of what some words say
+abbrev pub extents_of : List Noted → Extents
+extents_of words = record { bnr = extent_of (said_by bnr_data words); bcd = extent_of (said_by bcd_data words) }
+
+abbrev pub no_extents : Extents
+no_extents = record { bnr = None; bcd = None }
+
+-- after one more word
+abbrev pub extents_with : ℕ → Extents → Extents
+extents_with raw e = record { bnr = widened (bnr_data raw) e.bnr; bcd = widened (bcd_data raw) e.bcd }
+
+-- ---- the figures of a row
+
+-- of some words, with their data
+unfoldable pub row_figures : List Noted → RowFigures
+row_figures words = record { common = figures_of words; said = extents_of words }
+
+abbrev pub no_row_figures : RowFigures
+no_row_figures = record { common = no_figures; said = no_extents }
+
+-- after one more word
+unfoldable pub row_figures_with : ℕ → ℕ → RowFigures → RowFigures
+row_figures_with time raw p = record { common = figures_with time raw p.common; said = extents_with raw p.said }
+
+-- of all words of a name, whose data is not kept
+abbrev pub whole_of : Figures → RowFigures
+whole_of f = record { common = f; said = no_extents }
+
 -- ---- lines
 
 -- the place of a word's label and SDI among the 1024
@@ -112,18 +166,18 @@ place_of raw = 4 * label_of raw + sdi_of raw
 abbrev pub words_at : ℕ → List Noted → List Noted
 words_at place words = filter (λ w. place_of w.raw == place) words
 
--- what is kept of a name: the figures of all its words, and those of each label and SDI
+-- what is kept of a name: the figures of all its words, and those of each label and SDI, with their data
 pub record LineKept : Type 0 where
   pub name : List ℕ
   pub all : Figures
-  pub each : List Figures
+  pub each : List RowFigures
 
 -- that of a name's words
 unfoldable pub line_of : List ℕ → List Noted → LineKept
 line_of name words = record {
   name = name;
   all = figures_of words;
-  each = map (λ place. figures_of (words_at place words)) (range_with_len 0 1024);
+  each = map (λ place. row_figures (words_at place words)) (range_with_len 0 1024);
 }
 
 -- a line after one more word
@@ -131,7 +185,7 @@ unfoldable pub line_with : ℕ → ℕ → LineKept → LineKept
 line_with time raw l = record {
   name = l.name;
   all = figures_with time raw l.all;
-  each = set l.each (place_of raw) (figures_with time raw (slice_index_or l.each (place_of raw) no_figures));
+  each = set l.each (place_of raw) (row_figures_with time raw (slice_index_or l.each (place_of raw) no_row_figures));
 }
 
 -- a line for each name, in their order
@@ -222,28 +276,42 @@ verdict_in (Some e) f =
     then (if nat_lt f.least e.least then codes "fast" else (if is_above f.greatest e.greatest then codes "slow" else codes "expected"))
     else codes "expected"
 
--- a row with how many of its words have each SSM, and with what a table says of them
-abbrev pub wider_row : List Field → Figures → Field → List Field
-wider_row row f field = row ++ Number f.ssm.zero ∷ Number f.ssm.one ∷ Number f.ssm.two ∷ Number f.ssm.three ∷ field ∷ []
+-- the least and the greatest, of an extent
+abbrev pub least_in : Option Extent → Field
+least_in None = Absent
+least_in (Some e) = Signed e.least
+
+abbrev pub greatest_in : Option Extent → Field
+greatest_in None = Absent
+greatest_in (Some e) = Signed e.greatest
+
+abbrev pub extent_fields : Extents → List Field
+extent_fields e = least_in e.bnr ∷ greatest_in e.bnr ∷ least_in e.bcd ∷ greatest_in e.bcd ∷ []
+
+-- a row with how many of its words have each SSM, with their data, and with what a table says of them
+abbrev pub wider_row : List Field → RowFigures → Field → List Field
+wider_row row p field =
+    row
+    ++ Number p.common.ssm.zero ∷ Number p.common.ssm.one ∷ Number p.common.ssm.two ∷ Number p.common.ssm.three ∷ (extent_fields p.said ++ field ∷ [])
 
 -- the row of a label and an SDI of a name, and what follows the rows of a name, by what is asked for
-abbrev pub pair_by : RowKind → ℕ → List ℕ → ℕ → ℕ → Figures → List Field
-pair_by kind.Figures rate name label sdi f = row_in name (Text (octal label)) (Text (sdi_text sdi)) Absent f
-pair_by (kind.Starts slack) rate name label sdi f = start_in slack rate name label sdi f
-pair_by (kind.Compared expected) rate name label sdi f =
-    wider_row (row_in name (Text (octal label)) (Text (sdi_text sdi)) Absent f) f (Text (verdict_in (expectation_for expected.now name label sdi) f))
+abbrev pub pair_by : RowKind → ℕ → List ℕ → ℕ → ℕ → RowFigures → List Field
+pair_by kind.Figures rate name label sdi p = row_in name (Text (octal label)) (Text (sdi_text sdi)) Absent p.common
+pair_by (kind.Starts slack) rate name label sdi p = start_in slack rate name label sdi p.common
+pair_by (kind.Compared expected) rate name label sdi p =
+    wider_row (row_in name (Text (octal label)) (Text (sdi_text sdi)) Absent p.common) p (Text (verdict_in (expectation_for expected.now name label sdi) p.common))
 
 abbrev pub end_by : RowKind → ℕ → LineKept → List (List Field)
 end_by kind.Figures rate l = row_in l.name Absent Absent (load_in rate l.all) l.all ∷ []
 end_by (kind.Starts slack) rate l = []
-end_by (kind.Compared expected) rate l = wider_row (row_in l.name Absent Absent (load_in rate l.all) l.all) l.all Absent ∷ []
+end_by (kind.Compared expected) rate l = wider_row (row_in l.name Absent Absent (load_in rate l.all) l.all) (whole_of l.all) Absent ∷ []
 
 -- the row of a label and an SDI, if there are such words
-abbrev pub rows_by : RowKind → ℕ → List ℕ → ℕ → ℕ → Figures → List (List Field)
-rows_by kind rate name label sdi f = if f.words == 0 then [] else pair_by kind rate name label sdi f ∷ []
+abbrev pub rows_by : RowKind → ℕ → List ℕ → ℕ → ℕ → RowFigures → List (List Field)
+rows_by kind rate name label sdi p = if p.common.words == 0 then [] else pair_by kind rate name label sdi p ∷ []
 
 unfoldable pub pair_in : RowKind → ℕ → LineKept → ℕ → ℕ → List (List Field)
-pair_in kind rate l label sdi = rows_by kind rate l.name label sdi (slice_index_or l.each (4 * label + sdi) no_figures)
+pair_in kind rate l label sdi = rows_by kind rate l.name label sdi (slice_index_or l.each (4 * label + sdi) no_row_figures)
 
 abbrev pub label_in : RowKind → ℕ → LineKept → ℕ → List (List Field)
 label_in kind rate l label = flat_map (pair_in kind rate l label) (range_with_len 0 4)
@@ -256,7 +324,7 @@ rows_in kind rate l = flat_map (label_in kind rate l) (range_with_len 0 256) ++ 
 
 -- words of an expectation's label came on a line, with an SDI
 abbrev pub has_at : Expectation → LineKept → ℕ → Bool
-has_at e l sdi = takes_sdi e sdi && nat_lt 0 (slice_index_or l.each (4 * e.label + sdi) no_figures).words
+has_at e l sdi = takes_sdi e sdi && nat_lt 0 (slice_index_or l.each (4 * e.label + sdi) no_row_figures).common.words
 
 abbrev pub has_in : Expectation → LineKept → Bool
 has_in e l = has_at e l 0 || (has_at e l 1 || (has_at e l 2 || has_at e l 3))

@@ -1,4 +1,5 @@
 pub mod Figures
+pub mod Data
 pub mod Kept
 pub mod Pairs
 pub mod Past

@@ -1,12 +1,12 @@
 -- What is kept of a label and an SDI: only of those that came (vocabulary of contracts).
 use Rattle.std.specs.Prelude.{◌≡◌, ℕ, ◌+◌, ◌<◌, ◌≤◌, ◌==◌, List, [], ◌∷◌, if◌then◌else◌, length, slice_index_or}
-use Rattle.a429_survey.specs.declared.figures.Figures.{Figures}
 use Rattle.a429_survey.specs.declared.lines.Pair.{Pair}
-use Rattle.a429_survey.specs.Kept.{no_figures}
+use Rattle.a429_survey.specs.declared.lines.RowFigures.{RowFigures}
+use Rattle.a429_survey.specs.Kept.{no_row_figures}
 
 -- the figures at a place: those of no word, if no pair has it
-abbrev pub figures_at : List Pair → ℕ → Figures
-figures_at [] place = no_figures
+abbrev pub figures_at : List Pair → ℕ → RowFigures
+figures_at [] place = no_row_figures
 figures_at (p ∷ ps) place = if p.place == place then p.figures else figures_at ps place
 
 -- the places ascend from this one on, and are below 1024

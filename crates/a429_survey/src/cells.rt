@@ -4,9 +4,11 @@ ghost use Rattle.a429_text.specs.Sheets.{field_of};
 ghost use Rattle.a429_survey.specs.Figures.{tenths_field};
 ghost use Rattle.a429_text.specs.Fields.{Text};
 ghost use Rattle.a429_survey.specs.Survey.{sdi_text};
-ghost use Rattle.a429_survey.specs.Kept.{interval_in, load_in, mean_in, row_with, span_in, wider_row};
+ghost use Rattle.a429_survey.specs.Kept.{greatest_in, interval_in, least_in, load_in, mean_in, row_with, span_in, wider_row};
 
+use crate::extents::Extent;
 use crate::figures::Figures;
+use crate::lines::RowFigures;
 use a429_text::{Cell, Row, Rows};
 use std::alloc::{AllocError, Global};
 
@@ -125,8 +127,28 @@ pub fn add_row(
     rows.add(&cells(name, label, sdi, load, figures));
 }
 
-/// Adds the row of some words, with how many of them have each SSM and with what a table says at its end. Error: an allocation
-/// failed.
+/// The cell of the least number of an extent.
+fn least_cell(extent: Option<Extent>) -> Cell<'static>
+    ensures { field_of result ≡ least_in extent }
+{
+    match extent {
+        Some(extent) => Cell::Signed(extent.least),
+        None => Cell::Absent,
+    }
+}
+
+/// The cell of the greatest.
+fn greatest_cell(extent: Option<Extent>) -> Cell<'static>
+    ensures { field_of result ≡ greatest_in extent }
+{
+    match extent {
+        Some(extent) => Cell::Signed(extent.greatest),
+        None => Cell::Absent,
+    }
+}
+
+/// Adds the row of some words, with how many of them have each SSM, with their data, and with what a table says at its end.
+/// Error: an allocation failed.
 pub fn add_wider(
     rows: &mut Rows,
     alloc: Global,
@@ -134,19 +156,24 @@ pub fn add_wider(
     label: Cell<'_>,
     sdi: Cell<'_>,
     load: Cell<'_>,
-    figures: &Figures,
+    figures: &RowFigures,
     says: Cell<'_>,
 ) -> Result<(), AllocError>
     ensures { OnOk result (rows.new
-        ≡ rows.old ++ wider_row (row_with name.now label.entry sdi.entry load.entry figures.now) figures.now (field_of says.entry) ∷ []) }
+        ≡ rows.old ++ wider_row (row_with name.now label.entry sdi.entry load.entry figures.now.common) figures.now (field_of says.entry) ∷ []) }
 {
-    let row = Row::of(alloc, &cells(name, label, sdi, load, figures));
-    let ssm = &figures.ssm;
+    let row = Row::of(alloc, &cells(name, label, sdi, load, &figures.common));
+    let ssm = &figures.common.ssm;
+    let said = &figures.said;
     let more = [
         Cell::Number(ssm.zero),
         Cell::Number(ssm.one),
         Cell::Number(ssm.two),
         Cell::Number(ssm.three),
+        least_cell(said.bnr),
+        greatest_cell(said.bnr),
+        least_cell(said.bcd),
+        greatest_cell(said.bcd),
         says,
     ];
     rows.add_wider(&row, &more)

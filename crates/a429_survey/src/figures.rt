@@ -1,7 +1,7 @@
 //! The figures of some words.
 ghost use Rattle.std.specs.Prelude.{◌≡◌, ◌<◌, ◌==◌, if◌then◌else◌, min};
 ghost use Rattle.a429_word.specs.Bits.{has_odd_parity, ssm_of};
-ghost use Rattle.a429_survey.specs.Kept.{counted, figures_with, first_figures, next_figures, no_figures, no_ssm, place_of, ssm_with};
+ghost use Rattle.a429_survey.specs.Kept.{figures_with, first_figures, next_figures, no_figures, no_ssm, place_of, ssm_with};
 
 /// How many words have each SSM.
 #[derive(Clone, Copy)]
@@ -52,22 +52,12 @@ pub fn place_of(raw: u32) -> usize
 }
 
 /// The SSM of a word.
-#[tactic(auto, using(a429_word::proofs::Fields::ssm_is))]
-fn ssm_of(raw: u32) -> u32
-    ensures { result ≡ ssm_of raw }
+#[tactic(auto, using(crate::proofs::DataBits::ssm_is))]
+pub fn ssm_of(raw: u32) -> u32
+    ensures value { result ≡ ssm_of raw }
+    ensures small { result < 4 }
 {
     (raw >> 29) & 3
-}
-
-/// A count, after a word that may be counted. A count that is 2^64 - 1 stays.
-fn counted(is_counted: bool, count: u64) -> u64
-    ensures { result ≡ counted is_counted count }
-{
-    if is_counted {
-        count.saturating_add(1)
-    } else {
-        count
-    }
 }
 
 impl SsmCounts {
@@ -83,16 +73,15 @@ impl SsmCounts {
         }
     }
 
-    /// Those after one more word.
-    fn with(&self, raw: u32) -> SsmCounts
-        ensures { result ≡ ssm_with raw self.now }
+    /// Counts one more word. A count that is 2^64 - 1 stays.
+    fn note(&mut self, raw: u32)
+        ensures { self.new ≡ ssm_with raw self.old }
     {
-        let ssm = ssm_of(raw);
-        SsmCounts {
-            zero: counted(ssm == 0, self.zero),
-            one: counted(ssm == 1, self.one),
-            two: counted(ssm == 2, self.two),
-            three: counted(ssm == 3, self.three),
+        match ssm_of(raw) {
+            0 => self.zero = self.zero.saturating_add(1),
+            1 => self.one = self.one.saturating_add(1),
+            2 => self.two = self.two.saturating_add(1),
+            _ => self.three = self.three.saturating_add(1),
         }
     }
 }
@@ -118,6 +107,8 @@ impl Figures {
     fn of_first(time: u64, raw: u32) -> Figures
         ensures { result ≡ first_figures time raw }
     {
+        let mut ssm = SsmCounts::none();
+        ssm.note(raw);
         Figures {
             words: 1,
             even: u64::from(!is_odd(raw)),
@@ -126,7 +117,7 @@ impl Figures {
             first: time,
             last: time,
             last_word: raw,
-            ssm: SsmCounts::none().with(raw),
+            ssm,
         }
     }
 
@@ -141,34 +132,29 @@ impl Figures {
         }
     }
 
-    /// The figures after one more word, with its time. A count that is 2^64 - 1 stays: a survey has no more words.
-    pub fn with(&self, time: u64, raw: u32) -> Figures
-        ensures { result ≡ figures_with time raw self.now }
+    /// Takes one more word, with its time. A count that is 2^64 - 1 stays: a survey has no more words.
+    pub fn note(&mut self, time: u64, raw: u32)
+        ensures { self.new ≡ figures_with time raw self.old }
     {
         if self.words == 0 {
-            return Figures::of_first(time, raw);
+            *self = Figures::of_first(time, raw);
+        } else {
+            self.note_next(time.saturating_sub(self.last), time, raw);
         }
-        self.next(time.saturating_sub(self.last), time, raw)
     }
 
-    /// Those after a word that is not the first, with the interval to it.
-    fn next(&self, interval: u64, time: u64, raw: u32) -> Figures
-        ensures { result ≡ next_figures interval time raw self.now }
+    /// Takes a word that is not the first, with the interval to it.
+    fn note_next(&mut self, interval: u64, time: u64, raw: u32)
+        ensures { self.new ≡ next_figures interval time raw self.old }
     {
-        let even = if is_odd(raw) {
-            self.even
-        } else {
-            self.even.saturating_add(1)
-        };
-        Figures {
-            words: self.words.saturating_add(1),
-            even,
-            least: self.least_with(interval),
-            greatest: self.greatest.max(interval),
-            first: self.first,
-            last: time,
-            last_word: raw,
-            ssm: self.ssm.with(raw),
+        self.least = self.least_with(interval);
+        self.greatest = self.greatest.max(interval);
+        self.words = self.words.saturating_add(1);
+        if !is_odd(raw) {
+            self.even = self.even.saturating_add(1);
         }
+        self.last = time;
+        self.last_word = raw;
+        self.ssm.note(raw);
     }
 }

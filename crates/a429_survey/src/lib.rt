@@ -1,8 +1,8 @@
 //! What is on the lines of a recording.
 //!
 //! `Survey::note` takes the words of a recording one by one. `Survey::sheet` gives a row for each label and SDI of each
-//! receiver or channel, and a row for all words of each. `Survey::compared_sheet` adds what a table says. The memory that a survey needs grows with the number of names,
-//! and not with the number of words.
+//! receiver or channel, and a row for all words of each. `Survey::compared_sheet` adds their data and what a table says. The
+//! memory that a survey needs grows with the number of names, and not with the number of words.
 //!
 //! ```text
 //! let mut survey = Survey::new(alloc);
@@ -15,6 +15,7 @@
 
 mod cells;
 mod expected;
+mod extents;
 mod figures;
 mod lines;
 mod missing;

@@ -15,7 +15,7 @@ fn has_at(expected: &Expected<'_>, line: &Line, sdi: u8) -> bool
     requires { sdi < 4 }
     ensures { result ≡ has_at expected.now line.now sdi }
 {
-    expected.takes_sdi(sdi) && line.at(expected.label(), sdi).words > 0
+    expected.takes_sdi(sdi) && line.at(expected.label(), sdi).common.words > 0
 }
 
 /// Whether words that are expected came on a line.
@@ -59,7 +59,7 @@ fn is_missing(expected: &Expected<'_>, lines: &[Line]) -> bool
 }
 
 /// The cells of the row of words that are missing.
-fn missing_cells<'a>(expected: &'a Expected<'a>) -> [Cell<'a>; 17]
+fn missing_cells<'a>(expected: &'a Expected<'a>) -> [Cell<'a>; 21]
     ensures { map field_of result ≡ missing_row expected.now }
 {
     [
@@ -67,6 +67,10 @@ fn missing_cells<'a>(expected: &'a Expected<'a>) -> [Cell<'a>; 17]
         Cell::Octal(expected.label()),
         expected.sdi_cell(),
         Cell::Number(0),
+        Cell::Absent,
+        Cell::Absent,
+        Cell::Absent,
+        Cell::Absent,
         Cell::Absent,
         Cell::Absent,
         Cell::Absent,
@@ -105,7 +109,7 @@ pub fn add_missing(rows: &mut Rows, expected: &[Expected<'_>], lines: &[Line])
 fn is_finding(row: &Row) -> Result<bool, AllocError>
     ensures { IfOk result (λ found. found ≡ is_finding row.now) }
 {
-    match row.text(16)? {
+    match row.text(20)? {
         Some(text) => Ok(text != "expected".as_bytes()),
         None => Ok(false),
     }

@@ -5,8 +5,7 @@ ghost use Rattle.a429_survey.specs.Kept.{end_by, label_in, pair_by, pair_in, row
 
 use crate::cells::{add_row, add_wider, load_cell, sdi_cell};
 use crate::expected::{Expected, verdict};
-use crate::figures::Figures;
-use crate::lines::Line;
+use crate::lines::{Line, RowFigures};
 use crate::starts::add_start;
 use a429_text::{Cell, Rows};
 use std::alloc::{AllocError, Global};
@@ -16,7 +15,7 @@ use std::alloc::{AllocError, Global};
 pub enum RowKind<'a> {
     /// The figures of the words.
     Figures,
-    /// The figures, and what a table says of them that expects these words.
+    /// The figures and the data, and what a table says of them that expects these words.
     Compared(&'a [Expected<'a>]),
     /// The start of a table, with intervals widened by this part of them, in per cent.
     Starts(u32),
@@ -31,7 +30,7 @@ fn add_figures(
     name: &str,
     label: u8,
     sdi: u8,
-    figures: &Figures,
+    figures: &RowFigures,
 ) -> Result<(), AllocError>
     requires { sdi < 4 }
     ensures { OnOk result (rows.new ≡ rows.old ++ pair_by kind.entry rate name.now label sdi figures.now ∷ []) }
@@ -44,13 +43,22 @@ fn add_figures(
                 Cell::Octal(label),
                 sdi_cell(sdi),
                 Cell::Absent,
-                figures,
+                &figures.common,
             );
             Ok(())
         }
-        RowKind::Starts(slack) => add_start(rows, alloc, slack, rate, name, label, sdi, figures),
+        RowKind::Starts(slack) => add_start(
+            rows,
+            alloc,
+            slack,
+            rate,
+            name,
+            label,
+            sdi,
+            &figures.common,
+        ),
         RowKind::Compared(expected) => {
-            let says = Cell::Text(verdict(expected, name, label, sdi, figures));
+            let says = Cell::Text(verdict(expected, name, label, sdi, &figures.common));
             let (label, sdi) = (Cell::Octal(label), sdi_cell(sdi));
             add_wider(rows, alloc, name, label, sdi, Cell::Absent, figures, says)
         }
@@ -72,7 +80,7 @@ fn add_pair(
     ensures { OnOk result (rows.new ≡ rows.old ++ pair_in kind.entry rate line.now label sdi) }
 {
     let figures = line.at(label, sdi);
-    if figures.words == 0 {
+    if figures.common.words == 0 {
         return Ok(());
     }
     add_figures(
@@ -141,7 +149,8 @@ fn add_end(
         RowKind::Starts(_) => Ok(()),
         RowKind::Compared(_) => {
             let load = load_cell(rate, line.all());
-            add_wider(rows, alloc, name, none, none, load, line.all(), none)
+            let whole = RowFigures::whole(*line.all());
+            add_wider(rows, alloc, name, none, none, load, &whole, none)
         }
     }
 }

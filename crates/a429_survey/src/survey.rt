@@ -49,6 +49,10 @@ const COMPARED_COLUMNS: &[&str] = &[
     "ssm_1",
     "ssm_2",
     "ssm_3",
+    "least_bnr",
+    "greatest_bnr",
+    "least_bcd",
+    "greatest_bcd",
     "table",
 ];
 
@@ -69,7 +73,7 @@ pub enum NoteFault {
 }
 
 /// What is on the lines of a recording. Clauses see all words that were noted, oldest first. A program keeps figures: it
-/// needs some 200 bytes for each name and 130 for each label and SDI of it, and nothing for a word.
+/// needs some 200 bytes for each name and 160 for each label and SDI of it, and nothing for a word.
 #[derive(Drop)]
 pub struct Survey {
     alloc: Global,
@@ -145,11 +149,14 @@ impl Survey {
         })
     }
 
-    /// The same with how many words have each SSM, and with a column `table`: what a table says that expects these words. It is `expected` or `unexpected`, or how
-    /// the words of a group come: `fast`, if their least interval is less than the least that is expected, or `slow`, if the
-    /// greatest is more than the greatest. Nothing is said in the row of all words. Rows of expected words that are `missing`
-    /// follow, if a name of the recording is for their line. `has_finding` says whether a row has another text than
-    /// `expected`. Error: an allocation failed.
+    /// The same with how many words have each SSM, with the least and the greatest data of the words, and with a column
+    /// `table`. The data is read as BNR and as BCD. The row of all words says nothing of it.
+    ///
+    /// `table` is what a table says that expects these words. It is `expected` or `unexpected`, or how the words of a group
+    /// come: `fast`, if their least interval is less than the least that is expected, or `slow`, if the greatest is more than
+    /// the greatest. Nothing is said in the row of all words. Rows of expected words that are `missing` follow, if a name of
+    /// the recording is for their line. `has_finding` says whether a row has another text than `expected`. Error: an
+    /// allocation failed.
     pub fn compared_sheet(
         &self,
         alloc: Global,

@@ -111,6 +111,18 @@ fn log_names<'a>(
     Ok(names)
 }
 
+/// The bytes of several logs, at most 1 GiB each. Error: the first log that cannot be read or is larger, or an allocation
+/// failed.
+pub fn read_log_files<F: FileReader>(
+    alloc: Global,
+    files: &mut F,
+    names: &[&str],
+) -> Result<Vec<Vec<u8>>, Refused>
+    ensures { HasRead F.answers (λ file. AreLogReadings file (texts_of names.now) result) files.old files.new }
+{
+    read_all_up_to(alloc, files, names, LARGEST_LOG)
+}
+
 /// The bytes of a log and of those that follow it, at most 1 GiB each. Error: the first log that cannot be read or is
 /// larger, or an allocation failed.
 pub fn read_logs<'a, F: FileReader>(
@@ -122,7 +134,7 @@ pub fn read_logs<'a, F: FileReader>(
     ensures { HasRead F.answers (λ file. AreLogReadings file (first.now ∷ texts_of more.now) result) files.old files.new }
 {
     match log_names(alloc, first, more) {
-        Ok(names) => read_all_up_to(alloc, files, &names, LARGEST_LOG),
+        Ok(names) => read_log_files(alloc, files, &names),
         Err(_) => Err(Refused::plain(CommandRefusal::Memory)),
     }
 }

@@ -2,9 +2,9 @@
 
 use crate::answered::Objection;
 use crate::files::FileTrouble;
+pub use crate::refusals::logs::{LogEvidence, LogRefusal};
 use crate::refusals::rows::RowsEvidence;
 use a429_equipment::Equipment;
-use a429_logs::{LineFault, Shape, TimeUnit};
 use a429_slots::{OUTPUTS, Proposal};
 use a429_table::RefusedTable;
 use a429_text::cut::{first_line, lines_from};
@@ -198,33 +198,6 @@ impl LineEvidence {
         }
         LineEvidence::of(alloc, before, number).ok()
     }
-}
-
-/// Why a line of a log is refused.
-#[derive(Clone, Copy)]
-pub enum LogRefusal {
-    /// It is faulty.
-    Line(LineFault),
-    /// No receiver has the name of its word.
-    Receiver,
-    /// The name of its word is not UTF-8.
-    Name,
-    /// No group has the name of its word, or the group has no bus of its number.
-    Group,
-    /// Its time is too late.
-    Late,
-}
-
-/// Why a line of a log is refused, and how it was read.
-#[derive(Clone, Copy)]
-pub struct LogEvidence {
-    pub why: LogRefusal,
-    /// The number of the log, from 0.
-    pub number: usize,
-    /// The form of the log's rows. `None` if the line is the first that states something.
-    pub shape: Option<Shape>,
-    /// The unit of times.
-    pub unit: TimeUnit,
 }
 
 /// What a text looks like that is given as a table.

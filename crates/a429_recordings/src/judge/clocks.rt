@@ -3,55 +3,23 @@ ghost use Rattle.std.specs.Prelude.{◌≤◌};
 
 use crate::judge::noting::accepting;
 use crate::judge::restarted;
-use crate::judge::words::{BoxLog, BoxWord, read_words};
-use crate::logs::keeping::{KeepFault, WordKeeper, keep_logs};
+use crate::judge::words::{BoxPart, BoxWord, read_again};
 use crate::logs::views::{ClockMove, LogView};
 use a429_align::{Alignment, Recorded, Span, align};
-use a429_console::hints::warnings::Warning;
-use a429_console::refusals::evidence::LineEvidence;
+use a429_console::files::FileReader;
 use a429_equipment::Equipment;
-use a429_logs::{Reading, StatedWord};
+use a429_logs::Reading;
 use a429_replay::Names;
 use a429_slots::{GroupPlan, OUTPUTS, OutputId, Proposal, latency_us, slots_us};
 use a429_text::Gathered;
 use std::alloc::{AllocError, Global};
 
-/// The texts of logs, and which of their words are taken.
+/// The texts of logs, which words of them are read, and which of these are taken.
 #[derive(Clone, Copy)]
 pub struct BoxTexts<'a> {
     pub view: LogView<'a>,
+    pub part: BoxPart,
     pub texts: &'a [Vec<u8>],
-}
-
-/// The words of logs, whatever their names are.
-#[derive(Drop)]
-struct AnyWords {
-    spans: Vec<Span>,
-}
-
-impl WordKeeper for AnyWords {
-    ghost use Rattle.a429_align.specs.declared.spans.Span.{Span};
-    ghost use Rattle.a429_recordings.specs.BoxLogs.{span_of};
-
-    ghost Item = { Span };
-
-    ghost item = { λ _. span_of };
-
-    ghost kept = { λ words. words.spans.items };
-
-    /// Keeps a word. Error: an allocation failed.
-    fn keep(&mut self, word: StatedWord<'_>) -> Result<(), KeepFault> {
-        self.spans.push(Span {
-            raw: word.raw,
-            from: word.time,
-            until: word.time,
-        })?;
-        Ok(())
-    }
-
-    fn line_evidence(&self, alloc: Global, text: &[u8], line: usize) -> Option<LineEvidence> {
-        LineEvidence::of(alloc, text, line).ok()
-    }
 }
 
 /// These spans, with the times of the first and the last of them.
@@ -67,31 +35,38 @@ fn recorded(spans: Vec<Span>) -> Recorded {
     Recorded { spans, begin, end }
 }
 
-/// The words of logs of what was sent, after those of what came in, by the times of their own clock. `None` if a line is faulty,
-/// or an allocation fails.
-fn sent_spans<'a>(alloc: Global, after: Reading<'a>, sent: BoxTexts<'a>) -> Option<Recorded> {
-    let mut words = AnyWords {
-        spans: Vec::new(alloc),
-    };
+/// A word at its time alone.
+fn span_of(word: &BoxWord) -> Span {
+    Span {
+        raw: word.raw,
+        from: word.time,
+        until: word.time,
+    }
+}
+
+/// What was sent, in logs after those of what came in, by the times of their own clock. `None` if a line is faulty, or an
+/// allocation fails.
+fn sent_spans<'a, F: FileReader>(
+    alloc: Global,
+    files: &F,
+    names: &Names,
+    after: Reading<'a>,
+    sent: BoxTexts<'a>,
+) -> Option<Recorded> {
     let view = LogView {
         clock: ClockMove::none(),
         from: 0,
         until: None,
         ..sent.view
     };
-    let mut unnoted: Vec<Warning> = Vec::new(alloc);
-    match keep_logs(
-        alloc,
-        &mut words,
-        view,
-        restarted(after),
-        0,
-        sent.texts,
-        &mut unnoted,
-    ) {
-        Ok(_) => Some(recorded(words.spans)),
-        Err(_) => None,
+    let next = restarted(after);
+    let read = read_again(alloc, files, names, view, sent.part, next, sent.texts);
+    let words = read.ok()?.words;
+    let mut spans = Gathered::new(alloc);
+    for word in &words {
+        spans.push(span_of(word));
     }
+    Some(recorded(spans.into_vec().ok()?))
 }
 
 /// The latest word of a source, and since when it is that.
@@ -186,30 +161,30 @@ fn longest_times(proposal: &Proposal<OUTPUTS>) -> (u64, u64) {
 }
 
 /// The clock of what was sent. `None` if the words say nothing of it, or a line is faulty. Error: an allocation failed.
-pub fn found_clock<'a>(
+pub fn found_clock<'a, F: FileReader>(
     alloc: Global,
+    files: &F,
     proposal: &Proposal<OUTPUTS>,
     names: &Names,
     heard: BoxTexts<'a>,
     sent: BoxTexts<'a>,
     reading: Reading<'a>,
 ) -> Result<Option<Alignment>, AllocError> {
-    let mut unnoted: Vec<Warning> = Vec::new(alloc);
-    let Ok(words) = read_words(
+    let read = read_again(
         alloc,
+        files,
         names,
         heard.view,
-        BoxLog::Heard,
+        heard.part,
         reading,
-        0,
         heard.texts,
-        &mut unnoted,
-    ) else {
+    );
+    let Ok(words) = read else {
         return Ok(None);
     };
     let from = sent.view.after(words.next).from;
     let came = heard_spans(alloc, proposal.equipment(), &words.words, from)?;
-    let Some(went) = sent_spans(alloc, words.next, sent) else {
+    let Some(went) = sent_spans(alloc, files, names, words.next, sent) else {
         return Ok(None);
     };
     let (longest, slot) = longest_times(proposal);

@@ -1,13 +1,14 @@
 //! Words of the logs of a box.
 ghost use Rattle.std.specs.Prelude.{◌≡◌, ◌==◌, ◌<◌, length, option_map, position, IfOk, IfSome};
 ghost use Rattle.a429_console.specs.Files.{bytes_of};
-ghost use Rattle.a429_recordings.specs.BoxLogs.{AreOrdered, IsLogsReading, at_number, box_word_by, bus_named, bus_place, place_named, sent_place};
+ghost use Rattle.a429_recordings.specs.BoxLogs.{AreOrdered, IsLogsReading, at_number, bus_named, bus_place, has_place, other_log, part_word_by, place_named, sent_place};
 ghost use Rattle.a429_console.specs.Names.{number_named};
 ghost use Rattle.a429_recordings.specs.LogItems.{PassesNone};
 ghost use Rattle.a429_recordings.specs.LogViews.{view_of};
 
 use crate::logs::keeping::{KeepFault, WordKeeper, keep_logs};
 use crate::logs::views::LogView;
+use a429_console::files::FileReader;
 use a429_console::hints::warnings::Warning;
 use a429_console::refusals::Refused;
 use a429_console::refusals::evidence::{LineEvidence, LogRefusal};
@@ -19,11 +20,30 @@ use std::alloc::Global;
 /// The full stop between the name of a group and the number of a bus.
 const DOT: u8 = b'.';
 
-/// Which of the two logs of a box is read: what came in, or what was sent.
+/// Which words of a box are read: what came in, or what was sent.
 #[derive(Clone, Copy)]
 pub enum BoxLog {
     Heard,
     Sent,
+}
+
+impl BoxLog {
+    /// The other kind of words.
+    fn other(self) -> BoxLog
+        ensures { result ≡ other_log self }
+    {
+        match self {
+            BoxLog::Heard => BoxLog::Sent,
+            BoxLog::Sent => BoxLog::Heard,
+        }
+    }
+}
+
+/// Which words of a log are read, and whether it has both kinds of them.
+#[derive(Clone, Copy)]
+pub struct BoxPart {
+    pub log: BoxLog,
+    pub is_mixed: bool,
 }
 
 /// The place of a word: the receiver of this number, or the group of this number and one of its buses. `None`: the log does
@@ -126,11 +146,25 @@ fn place_named(names: &Names, log: BoxLog, name: &[u8]) -> Option<Place>
     }
 }
 
+/// Whether a name stands for a place of this kind.
+fn has_place(names: &Names, log: BoxLog, name: &[u8]) -> bool
+    ensures { result ≡ has_place names.now log name.now }
+{
+    place_named(names, log, name).is_some()
+}
+
 /// Why a word of a log is at no place.
-fn no_place(log: BoxLog) -> LogRefusal {
-    match log {
-        BoxLog::Heard => LogRefusal::Receiver,
-        BoxLog::Sent => LogRefusal::Group,
+fn no_place(part: BoxPart) -> LogRefusal {
+    match part {
+        BoxPart { is_mixed: true, .. } => LogRefusal::Neither,
+        BoxPart {
+            log: BoxLog::Heard,
+            ..
+        } => LogRefusal::Receiver,
+        BoxPart {
+            log: BoxLog::Sent,
+            ..
+        } => LogRefusal::Group,
     }
 }
 
@@ -138,28 +172,29 @@ fn no_place(log: BoxLog) -> LogRefusal {
 #[derive(Drop)]
 struct PlaceWords<'a> {
     names: &'a Names,
-    log: BoxLog,
+    part: BoxPart,
     words: Vec<BoxWord>,
 }
 
-impl WordKeeper for PlaceWords<'_> {
+impl PlaceWords<'_> {
+    ghost use Rattle.a429_logs.specs.LogRows.{stated_by};
     ghost use Rattle.a429_recordings.specs.BoxLogs.{box_word};
-    ghost use Rattle.a429_recordings.specs.declared.judge.words.BoxWord.{BoxWord};
+    ghost use Rattle.a429_recordings.specs.LogItems.{IsKept};
 
-    ghost Item = { BoxWord };
-
-    ghost item = { λ kept. box_word kept.names.now kept.log };
-
-    ghost kept = { λ kept. kept.words.items };
-
-    /// Keeps a word. Error: its time is not below 10^14 us, there is no place of its name, or an allocation failed.
+    /// Keeps a word of the kind that is read. Error: its time is not below 10^14 us, there is no place of its name, or an
+    /// allocation failed.
     #[tactic(auto, unfolding(crate::specs::BoxLogs::box_word))]
-    fn keep(&mut self, word: StatedWord<'_>) -> Result<(), KeepFault> {
+    fn keep_own(&mut self, word: StatedWord<'_>) -> Result<(), KeepFault>
+        ensures kept { IsKept (box_word self.old.names.now self.old.part.log (stated_by word.entry))
+            self.old.words.items self.new.words.items result }
+        ensures names { self.new.names ≡ self.old.names }
+        ensures part { self.new.part ≡ self.old.part }
+    {
         if word.time >= 100_000_000_000_000 {
             return Err(KeepFault::Line(LogRefusal::Late));
         }
-        let Some(place) = place_named(self.names, self.log, word.name) else {
-            return Err(KeepFault::Line(no_place(self.log)));
+        let Some(place) = place_named(self.names, self.part.log, word.name) else {
+            return Err(KeepFault::Line(no_place(self.part)));
         };
         self.words.push(BoxWord {
             time: word.time,
@@ -169,39 +204,92 @@ impl WordKeeper for PlaceWords<'_> {
         Ok(())
     }
 
+    /// Whether a word of a log that has both kinds is of the other one.
+    fn is_other(&self, name: &[u8]) -> bool
+        ensures { result ≡ has_place self.now.names.now (other_log self.now.part.log) name.now }
+    {
+        has_place(self.names, self.part.log.other(), name)
+    }
+}
+
+impl WordKeeper for PlaceWords<'_> {
+    ghost use Rattle.a429_recordings.specs.BoxLogs.{part_word};
+    ghost use Rattle.a429_recordings.specs.declared.judge.words.BoxWord.{BoxWord};
+
+    ghost Item = { BoxWord };
+
+    ghost items = { λ kept. part_word kept.names.now kept.part };
+
+    ghost kept = { λ kept. kept.words.items };
+
+    /// Keeps a word, unless it is of the other kind in a log that has both. Error: its name stands for places of both kinds, its time
+    /// is not below 10^14 us, there is no place of its name, or an allocation failed.
+    #[tactic(auto, using(crate::proofs::LogLines::kept_one), unfolding(crate::specs::BoxLogs::mixed_word))]
+    fn keep(&mut self, word: StatedWord<'_>) -> Result<(), KeepFault> {
+        if !self.part.is_mixed || !self.is_other(word.name) {
+            return self.keep_own(word);
+        }
+        if has_place(self.names, self.part.log, word.name) {
+            return Err(KeepFault::Line(LogRefusal::Both));
+        }
+        Ok(())
+    }
+
     fn line_evidence(&self, alloc: Global, text: &[u8], line: usize) -> Option<LineEvidence> {
         self.names.line_evidence(alloc, text, line, 0)
     }
 }
 
-/// Reads logs, one after another as if they were one, with words as they are taken. The first has this number. What is passed
-/// over is noted. Error: the number of the first faulty
-/// line, from 1 in its log, or an allocation failed. A line is faulty as the reader of logs says, or if there is no place
-/// of its name, or its word is at 10^14 us or later.
-pub fn read_words<'a>(
+/// Reads a part of logs, one after another as if they were one, with words as they are taken. The first has this number. What is
+/// passed over is noted. Error: the number of the first faulty line, from 1 in its log, or an allocation failed. A line is faulty
+/// as the reader of logs says. It is faulty too if there is no place of its name, or places of both kinds, or if its word is at
+/// 10^14 us or later.
+pub fn read_words<'a, F: FileReader>(
     alloc: Global,
+    files: &F,
     names: &Names,
     view: LogView<'a>,
-    log: BoxLog,
+    part: BoxPart,
     reading: Reading<'a>,
     first: usize,
     texts: &'a [Vec<u8>],
     warnings: &mut Vec<Warning>,
 ) -> Result<BoxWords<'a>, Refused>
     ensures silent { PassesNone reading.entry (bytes_of texts.now) → warnings.new.items ≡ warnings.old.items }
-    ensures read { IsLogsReading (box_word_by names.now (view_of view.entry) log) reading.entry (bytes_of texts.now) result }
+    ensures read { IsLogsReading (part_word_by names.now (view_of view.entry) part) reading.entry (bytes_of texts.now) result }
     ensures ordered { IfOk result (λ read. AreOrdered read.words.items) }
 {
     let mut kept = PlaceWords {
         names,
-        log,
+        part,
         words: Vec::new(alloc),
     };
-    match keep_logs(alloc, &mut kept, view, reading, first, texts, warnings) {
+    match keep_logs(
+        alloc, files, &mut kept, view, reading, first, texts, warnings,
+    ) {
         Ok(next) => Ok(BoxWords {
             words: kept.words,
             next,
         }),
         Err(refusal) => Err(refusal),
     }
+}
+
+/// Reads a part of logs as `read_words` does. What is passed over is not noted.
+pub fn read_again<'a, F: FileReader>(
+    alloc: Global,
+    files: &F,
+    names: &Names,
+    view: LogView<'a>,
+    part: BoxPart,
+    reading: Reading<'a>,
+    texts: &'a [Vec<u8>],
+) -> Result<BoxWords<'a>, Refused>
+    ensures read { IsLogsReading (part_word_by names.now (view_of view.entry) part) reading.entry (bytes_of texts.now) result }
+    ensures ordered { IfOk result (λ read. AreOrdered read.words.items) }
+{
+    let mut noted: Vec<Warning> = Vec::new(alloc);
+    read_words(
+        alloc, files, names, view, part, reading, 0, texts, &mut noted,
+    )
 }

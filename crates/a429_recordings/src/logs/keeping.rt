@@ -3,11 +3,12 @@ ghost use Rattle.std.specs.Prelude.{◌≡◌, [], IfOk, None, Option, List};
 ghost use Rattle.a429_logs.specs.LogRows.{Stated, stated_by};
 ghost use Rattle.a429_console.specs.Files.{bytes_of};
 ghost use Rattle.a429_console.specs.declared.refusals.CommandRefusal.TheVariants.{LogLine};
-ghost use Rattle.a429_recordings.specs.LogItems.{AreKept, IsKept, KeepsLog, KeepsLogs, PassesNone};
+ghost use Rattle.a429_recordings.specs.LogItems.{AreKept, KeepsLog, KeepsLogs, PassesNone};
 ghost use Rattle.a429_logs.specs.LogsLeft.{tail_of, titles_of};
 ghost use Rattle.a429_recordings.specs.LogViews.{view_of, viewed};
 
 use crate::logs::views::LogView;
+use a429_console::files::FileReader;
 use a429_console::hints::warnings::{PassedLines, Warning};
 use a429_console::refusals::evidence::{Evidence, LineEvidence, LogEvidence, LogRefusal};
 use a429_console::refusals::{CommandRefusal, Refused};
@@ -39,16 +40,16 @@ pub trait WordKeeper {
     /// The type of what is kept of a word.
     ghost Item: { Type 0 };
 
-    /// What is kept of a word. `None` if the word makes its line faulty.
-    ghost item: { Self → Stated → Option Self.Item };
+    /// What is kept of a word: nothing, if it is passed over. `None` if the word makes its line faulty.
+    ghost items: { Self → Stated → Option (List Self.Item) };
 
     /// What was kept, in order.
     ghost kept: { Self → List Self.Item };
 
     /// Keeps a word. Error: it makes its line faulty, or an allocation failed.
     fn keep(&mut self, word: StatedWord<'_>) -> Result<(), KeepFault>
-        ensures kept { IsKept (item self.old (stated_by word.entry)) (kept self.old) (kept self.new) result }
-        ensures same { item self.new ≡ item self.old };
+        ensures kept { AreKept (items self.old (stated_by word.entry)) (kept self.old) (kept self.new) result }
+        ensures same { items self.new ≡ items self.old };
 
     /// The line of this number of a log, for a hint. `None` if an allocation fails.
     fn line_evidence(&self, alloc: Global, text: &[u8], line: usize) -> Option<LineEvidence>;
@@ -60,6 +61,29 @@ struct NumberedLog<'a> {
     number: usize,
     text: &'a [u8],
     reading: Reading<'a>,
+    /// How many bytes the logs before it have, and how many all have.
+    before: usize,
+    all: usize,
+}
+
+/// After how many lines it is shown again how much is done.
+const STRIDE: usize = 1 << 14;
+
+/// How many bytes logs have together.
+pub fn bytes_in(logs: &[Vec<u8>]) -> usize {
+    let mut bytes: usize = 0;
+    for log in logs {
+        bytes = bytes.saturating_add(log.len());
+    }
+    bytes
+}
+
+/// Shows how much of the logs is done after this line, now and then.
+fn show_line<F: FileReader>(files: &F, log: &NumberedLog<'_>, reader: &LogReader<'_>, line: usize) {
+    if line % STRIDE == 0 {
+        let here = log.text.len().saturating_sub(reader.bytes_left());
+        files.show_done(log.before.saturating_add(here), log.all);
+    }
 }
 
 /// The unit of the times of a log whose rows have this form so far.
@@ -122,9 +146,9 @@ fn keep_taken<'a, T: WordKeeper>(
     view: LogView<'a>,
     word: StatedWord<'a>,
 ) -> Result<(), KeepFault>
-    ensures kept { AreKept (viewed (view_of view.entry) (T.item keeper.old) (stated_by word.entry))
+    ensures kept { AreKept (viewed (view_of view.entry) (T.items keeper.old) (stated_by word.entry))
         (T.kept keeper.old) (T.kept keeper.new) result }
-    ensures same { T.item keeper.new ≡ T.item keeper.old }
+    ensures same { T.items keeper.new ≡ T.items keeper.old }
 {
     match view.taken(word) {
         Some(word) => keeper.keep(word),
@@ -135,17 +159,18 @@ fn keep_taken<'a, T: WordKeeper>(
 /// Keeps the words of a log as they are taken. The answer is how the next log is read, and what is passed over. Error: the first faulty line of the
 /// log, or an allocation failed.
 #[tactic(auto, using(crate::proofs::LogLines::kept_more))]
-fn keep_log<'a, T: WordKeeper>(
+fn keep_log<'a, T: WordKeeper, F: FileReader>(
     alloc: Global,
+    files: &F,
     keeper: &mut T,
     view: LogView<'a>,
     log: NumberedLog<'a>,
 ) -> Result<LogEnd<'a>, Refused>
-    ensures kept { KeepsLog (viewed (view_of view.entry) (T.item keeper.old)) log.entry.reading log.entry.text.now
+    ensures kept { KeepsLog (viewed (view_of view.entry) (T.items keeper.old)) log.entry.reading log.entry.text.now
         (T.kept keeper.old) (T.kept keeper.new) result }
     ensures titles { IfOk result (λ end. end.passed.titles ≡ titles_of log.entry.reading log.entry.text.now) }
     ensures tail { IfOk result (λ end. end.passed.tail ≡ tail_of log.entry.reading log.entry.text.now) }
-    ensures same { T.item keeper.new ≡ T.item keeper.old }
+    ensures same { T.items keeper.new ≡ T.items keeper.old }
 {
     let mut reader = LogReader::open(log.reading, log.text);
     while let Some(entry) = reader.next() {
@@ -163,6 +188,7 @@ fn keep_log<'a, T: WordKeeper>(
             }
             Err(KeepFault::NoMemory) => return Err(Refused::plain(CommandRefusal::Memory)),
         }
+        show_line(files, &log, &reader, entry.line);
     }
     Ok(LogEnd {
         next: reader.for_next_log(),
@@ -173,8 +199,9 @@ fn keep_log<'a, T: WordKeeper>(
 /// Keeps the words of logs as they are taken, one after another as if they were one. The first has this number. The answer is
 /// how the next log would be read. What is passed over is noted. Error: the number of the first faulty line, from 1 in its log, or an allocation failed.
 #[tactic(auto, using(crate::proofs::LogLines::before_more, crate::proofs::LogLines::logs_left))]
-pub fn keep_logs<'a, T: WordKeeper>(
+pub fn keep_logs<'a, T: WordKeeper, F: FileReader>(
     alloc: Global,
+    files: &F,
     keeper: &mut T,
     view: LogView<'a>,
     reading: Reading<'a>,
@@ -184,23 +211,32 @@ pub fn keep_logs<'a, T: WordKeeper>(
 ) -> Result<Reading<'a>, Refused>
     requires { T.kept keeper.old ≡ [] }
     ensures silent { PassesNone reading.entry (bytes_of logs.now) → warnings.new.items ≡ warnings.old.items }
-    ensures kept { KeepsLogs (viewed (view_of view.entry) (T.item keeper.old)) reading.entry (bytes_of logs.now)
+    ensures kept { KeepsLogs (viewed (view_of view.entry) (T.items keeper.old)) reading.entry (bytes_of logs.now)
         (T.kept keeper.new) result }
 {
     let mut next = reading;
+    let mut before: usize = 0;
+    let all = bytes_in(logs);
     for number in 0..logs.len() {
         let log = NumberedLog {
             number,
             text: &logs[number],
             reading: next,
+            before,
+            all,
         };
-        match keep_log(alloc, keeper, view, log) {
+        match keep_log(alloc, files, keeper, view, log) {
             Ok(end) => {
                 note_passed(first.saturating_add(number), end.passed, warnings);
                 next = end.next;
+                before = before.saturating_add(log.text.len());
             }
-            Err(refusal) => return Err(refusal),
+            Err(refusal) => {
+                files.show_end();
+                return Err(refusal);
+            }
         }
     }
+    files.show_end();
     Ok(next)
 }

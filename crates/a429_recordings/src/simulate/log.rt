@@ -7,6 +7,7 @@ ghost use Rattle.a429_recordings.specs.SimulationLog.{AreInTime, IsLogReading};
 
 use crate::logs::keeping::{KeepFault, WordKeeper, keep_logs};
 use crate::logs::views::LogView;
+use a429_console::files::FileReader;
 use a429_console::hints::warnings::Warning;
 use a429_console::refusals::Refused;
 use a429_console::refusals::evidence::{LineEvidence, LogRefusal};
@@ -31,17 +32,18 @@ struct ReceiverWords<'a> {
 }
 
 impl WordKeeper for ReceiverWords<'_> {
+    ghost use Rattle.a429_recordings.specs.LogViews.{one_item};
     ghost use Rattle.a429_recordings.specs.SimulationLog.{word_for};
     ghost use Rattle.a429_recordings.specs.declared.simulate.log.LogWord.{LogWord};
 
     ghost Item = { LogWord };
 
-    ghost item = { λ kept. word_for kept.names.now };
+    ghost items = { λ kept. one_item (word_for kept.names.now) };
 
     ghost kept = { λ kept. kept.words.items };
 
     /// Keeps a word. Error: no receiver has its name, its time is not below 10^14 us, or an allocation failed.
-    #[tactic(auto, unfolding(crate::specs::SimulationLog::word_for))]
+    #[tactic(auto, using(crate::proofs::LogLines::kept_one), unfolding(crate::specs::SimulationLog::word_for))]
     fn keep(&mut self, word: StatedWord<'_>) -> Result<(), KeepFault> {
         let Some(receiver) = self.names.receiver(word.name) else {
             return Err(KeepFault::Line(LogRefusal::Receiver));
@@ -65,8 +67,9 @@ impl WordKeeper for ReceiverWords<'_> {
 /// Reads logs, one after another as if they were one, for the receivers of these names, with words as they are taken. What is
 /// passed over is noted. Error: the number of the first faulty line, from 1 in its log, or an allocation failed. A line is faulty as the reader
 /// of logs says, or if its word is at no receiver, or at 10^14 us or later.
-pub fn read_words<'a>(
+pub fn read_words<'a, F: FileReader>(
     alloc: Global,
+    files: &F,
     names: &Names,
     view: LogView<'a>,
     reading: Reading<'a>,
@@ -81,7 +84,7 @@ pub fn read_words<'a>(
         names,
         words: Vec::new(alloc),
     };
-    match keep_logs(alloc, &mut kept, view, reading, 0, logs, warnings) {
+    match keep_logs(alloc, files, &mut kept, view, reading, 0, logs, warnings) {
         Ok(_) => Ok(kept.words),
         Err(refusal) => Err(refusal),
     }

@@ -67,6 +67,12 @@ impl Player {
         &self.timeline.words
     }
 
+    /// Of this number of bytes those of the words that came in, if all words have as many.
+    pub fn bytes_played(&self, bytes: usize) -> usize {
+        let words = self.timeline.words.len().max(1);
+        (bytes / words).saturating_mul(self.timeline.at)
+    }
+
     /// The next cell with a word in the slot that is under way. `None` if it has no more. Then the slot is over, and
     /// after the last slot of a frame the group goes on to the next frame.
     #[inline(always)]

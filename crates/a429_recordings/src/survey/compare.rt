@@ -66,8 +66,9 @@ fn sheet_of(
 }
 
 /// What is on the lines of logs, with what a table says. What is passed over is noted. Error: the first faulty line.
-fn compare_words<'a>(
+fn compare_words<'a, F: FileReader>(
     alloc: Global,
+    files: &F,
     equipment: &Equipment,
     view: LogView<'a>,
     logs: &'a [Vec<u8>],
@@ -77,13 +78,14 @@ fn compare_words<'a>(
     ensures silent { PassesNone form.entry.reading (bytes_of logs.now) → warnings.new.items ≡ warnings.old.items }
     ensures compared { IsComparingOf equipment.now (view_of view.entry) form.entry (bytes_of logs.now) result }
 {
-    let survey = survey_of(alloc, view, form.reading, logs, warnings)?;
+    let survey = survey_of(alloc, files, view, form.reading, logs, warnings)?;
     Ok(sheet_of(alloc, &survey, equipment, form)?)
 }
 
 /// What is on the lines of logs, with what the table of these bytes says. Errors: the table's fault; the first faulty line.
-fn compare_input<'a>(
+fn compare_input<'a, F: FileReader>(
     alloc: Global,
+    files: &F,
     input: &'a CompareInput,
     view: LogView<'a>,
     form: SurveyForm<'a>,
@@ -93,7 +95,7 @@ fn compare_input<'a>(
     ensures compared { IsComparing input.now.table.items (view_of view.entry) form.entry (bytes_of input.now.logs.items) result }
 {
     let equipment = read_table(alloc, &input.table)?;
-    compare_words(alloc, &equipment, view, &input.logs, form, warnings)
+    compare_words(alloc, files, &equipment, view, &input.logs, form, warnings)
 }
 
 /// What is on the lines of logs, as a sheet, with what a table says of each label and SDI, and what is missing. The table need not have a
@@ -112,5 +114,5 @@ pub fn compare_logs<'a, F: FileReader>(
     ensures answer { HasRead F.answers (λ file. IsCompareAnswer file table.now names.entry form.entry result) files.old files.new }
 {
     let input = read_input(alloc, files, table, names)?;
-    compare_input(alloc, &input, names.view, form, warnings)
+    compare_input(alloc, files, &input, names.view, form, warnings)
 }

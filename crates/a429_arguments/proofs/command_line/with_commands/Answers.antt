@@ -18,7 +18,6 @@ none = record {
   name = no_text;
   first = record { id = no_text; help = Frames };
   second = None;
-  third = None;
   number = None;
   more = None;
   options = record { ref_ptr = (0, 0); now = [] };

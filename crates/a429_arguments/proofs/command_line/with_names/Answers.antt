@@ -11,7 +11,7 @@ pub loop-given-preserved : goal.loop-given-preserved
 loop-given-preserved c =
     let all = c.all_given-all.result in
     let i = c.loop-given.given-index in
-    let long : length all ≡ 5 = assumption in
+    let long : length all ≡ 4 = assumption in
     let more : drop i all ≡ get_or all i None ∷ drop (i + 1) all = drop_more all i None (subst (λ n. i < n) (sym long) c.loop-given-test.true) in
     rw c.in_ok-command.ensures (rw more at c.loop-given.invariant)
 
@@ -19,6 +19,6 @@ pub returns : goal.returns
 returns c =
     let all = c.all_given-all.result in
     let i = c.loop-given.given-index in
-    let long : length all ≡ 5 = assumption in
+    let long : length all ≡ 4 = assumption in
     let none_left : drop i all ≡ [] = drop_all i all (subst (λ n. n ≤ i) (sym long) c.loop-given-test.false) in
     rw none_left at c.loop-given.invariant

@@ -13,7 +13,6 @@ returns-clause-asked c = λ r same is.
     let row : row_of r.verb ≡ form_row c.args.form.now = ap row_of same ∙ sym c.requires in
     let first = c.name_in.ensures r.first (subst (λ (x : CommandRow). first_of x.first rows ≡ Some r.first) row is.first) in
     let second = c.name_in-2.ensures r.second (subst (λ (x : CommandRow). IsGivenText rows x.second r.second) row is.second) in
-    let third = c.name_in-3.ensures r.third (subst (λ (x : CommandRow). IsGivenText rows x.third r.third) row is.third) in
     let number = c.frames_in.ensures r.number (subst (λ (x : CommandRow). IsGivenNumber rows x.number r.number) row is.number) in
     let more = c.in_ok-more.ensures r.more (subst (λ (x : CommandRow). AreGivenTexts rows x.more r.more) row is.more) in
-    asked_is r c.args.form.now.verb _ _ _ _ _ _ (sym same) first second third number more (fun_ext is.options)
+    asked_is r c.args.form.now.verb _ _ _ _ _ (sym same) first second number more (fun_ext is.options)

@@ -10,7 +10,7 @@ use Rattle.a429_recordings.specs.JudgeReplies.{IsUnjudgedOf, files_of, no_group_
 use Rattle.a429_recordings.proofs.judge.judge_box.Goals as goal
 
 pub returns-in-Some-clause-judged : goal.returns-in-Some-clause-judged
-returns-in-Some-clause-judged c =
+returns-in-Some-clause-judged g c =
     let q = c.args.proposal.now in
     let i = files_of c.args.input.now in
     let name = c.in-Some.group.now in
@@ -21,7 +21,7 @@ returns-in-Some-clause-judged c =
     or_memory_weaker (IsGroupRefusal name) (IsUnjudgedOf q i c.args.form) c.plain.result (λ one. inl (name, first, one)) bad
 
 pub judge_plan-requires-clause-groups : goal.judge_plan-requires-clause-groups
-judge_plan-requires-clause-groups c =
+judge_plan-requires-clause-groups g c =
     let q = c.args.proposal.now in
     let given = texts_of c.args.input.now.tolerances.now in
     let named : c.in_ok-names.names ≡ naming_of q.station = c.in_ok-names.ensures ∙ ap naming_of c.equipment.ensures.equipment in

@@ -9,7 +9,7 @@ use Rattle.a429_recordings.proofs.JudgedFiles.{judged_of}
 use Rattle.a429_recordings.proofs.judge.judge_input.Goals as goal
 
 pub returns-in_err-proposal-clause-judged : goal.returns-in_err-proposal-clause-judged
-returns-in_err-proposal-clause-judged c =
+returns-in_err-proposal-clause-judged g c =
     let i = files_of c.args.input.now in
     let e = c.in_err-proposal.field-0.0 in
     let p = err_from_is_err_and c.from_residual.result c.from_residual.ensures.1 in
@@ -17,7 +17,7 @@ returns-in_err-proposal-clause-judged c =
     (or_memory_weaker (IsNoGivenPlan i.table) (IsUnjudged i c.args.form) e (λ one. inl one) c.in_err-proposal.ensures.given)
 
 pub returns-clause-judged : goal.returns-clause-judged
-returns-clause-judged c =
+returns-clause-judged g c =
     let i = files_of c.args.input.now in
     let q = c.in_ok-proposal.proposal in
     rw c.with_plan.ensures (judged_of q i c.args.form c.judge_box-judged.result c.in_ok-proposal.ensures.given c.judge_box-judged.ensures.judged)

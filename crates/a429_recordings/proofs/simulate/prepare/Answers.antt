@@ -10,7 +10,7 @@ use Rattle.a429_recordings.specs.SimulationReplies.{BeginsNoLog, IsUnsimulated, 
 use Rattle.a429_recordings.proofs.simulate.prepare.Goals as goal
 
 pub returns-in_err-setting-clause-prepared : goal.returns-in_err-setting-clause-prepared
-returns-in_err-setting-clause-prepared c =
+returns-in_err-setting-clause-prepared g c =
     let i = files_of c.args.input.now in
     let e = c.in_err-setting.field-0.0 in
     let p = err_from_is_err_and c.from_residual.result c.from_residual.ensures.1 in
@@ -18,7 +18,7 @@ returns-in_err-setting-clause-prepared c =
     (or_memory_weaker (IsNoGivenPlan i.table) (IsUnsimulated i c.args.form) e (λ one. inl (inl one)) c.in_err-setting.ensures)
 
 pub returns-in_err-player-clause-prepared : goal.returns-in_err-player-clause-prepared
-returns-in_err-player-clause-prepared c =
+returns-in_err-player-clause-prepared g c =
     let i = files_of c.args.input.now in
     let e = c.in_err-player.field-0.0 in
     let p = err_from_is_err_and c.from_residual-in_err-player.result c.from_residual-in_err-player.ensures.1 in
@@ -40,7 +40,7 @@ returns-in_err-player-clause-prepared c =
     (or_memory_weaker (BeginsNoLog s i c.args.form) (IsUnsimulated i c.args.form) e why c.in_err-player.ensures.player)
 
 pub returns-clause-prepared : goal.returns-clause-prepared
-returns-clause-prepared c =
+returns-clause-prepared g c =
     let i = files_of c.args.input.now in
     let s = c.in_ok-setting.setting in
     let names = c.in_ok-setting.ensures.1 in

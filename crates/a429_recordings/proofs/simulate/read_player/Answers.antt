@@ -13,7 +13,7 @@ use Rattle.a429_recordings.specs.Timeline.{SendsTooMuch, end_of}
 use Rattle.a429_recordings.proofs.simulate.read_player.Goals as goal
 
 pub returns-in_err-words-clause-player : goal.returns-in_err-words-clause-player
-returns-in_err-words-clause-player c =
+returns-in_err-words-clause-player g c =
     let s = c.args.setting.now in
     let i = files_of c.args.input.now in
     let reading = c.args.form.reading in
@@ -24,7 +24,7 @@ returns-in_err-words-clause-player c =
     (or_memory_weaker (IsLogFault s.names i.view reading i.logs) (BeginsNoLog s i c.args.form) e (λ one. inl one) fault)
 
 pub returns-clause-player : goal.returns-clause-player
-returns-clause-player c =
+returns-clause-player g c =
     let s = c.args.setting.now in
     let i = files_of c.args.input.now in
     let form = c.args.form in

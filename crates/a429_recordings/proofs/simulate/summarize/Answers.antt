@@ -9,7 +9,7 @@ use Rattle.a429_recordings.proofs.SummedUp.{rows_are, sends_counted, slots_few}
 use Rattle.a429_recordings.proofs.simulate.summarize.Goals as goal
 
 pub loop-happening-preserved : goal.loop-happening-preserved
-loop-happening-preserved c = record {
+loop-happening-preserved g c = record {
   noted = λ words last B.
       let q = c.args.setting.now.proposal in
       let h = c.in-Some.happening in
@@ -20,7 +20,7 @@ loop-happening-preserved c = record {
 }
 
 pub returns : goal.returns
-returns c =
+returns g c =
     IfOk-weaker c.render.result _ _ (λ text is words last B.
     let q = c.args.setting.now.proposal in
     let form = c.args.form in

@@ -6,11 +6,11 @@ use Rattle.a429_recordings.specs.declared.simulate.machine.Happening.{Happening}
 use Rattle.a429_recordings.proofs.simulate.summarize.Given as goal
 
 abbrev pub invariant-loop-happening : goal.invariant-loop-happening
-invariant-loop-happening l = record {
+invariant-loop-happening g l = record {
   noted : (words : List LogWord) (last : ℕ) → HasPlayed l.setting.proposal words last [] l.initial.player
       → (told : List Happening) × HasPlayed l.setting.proposal words last told l.player × HasFigures l.setting.proposal told l.summary.figures.items;
   playable : CanBePlayed l.setting.proposal l.player;
 }
 
 abbrev pub decreases-loop-happening : goal.decreases-loop-happening
-decreases-loop-happening l = left_to_play l.player
+decreases-loop-happening g l = left_to_play l.player

@@ -9,9 +9,9 @@ use Rattle.a429_recordings.proofs.logs.keeping.keep_log.Given as goal
 abbrev pub invariant-loop-entry : goal.invariant-loop-entry
 invariant-loop-entry g l =
     let k = g.T.WordKeeper in
-    let f = viewed (view_of l.view) (k.item l.fn.keeper) in
+    let f = viewed (view_of l.view) (k.items l.fn.keeper) in
     record {
-      same : k.item l.keeper ≡ k.item l.fn.keeper;
+      same : k.items l.keeper ≡ k.items l.fn.keeper;
       read :
           entries_before (k.kept l.fn.keeper) (items_from f (log_entries l.fn.log.reading l.fn.log.text.now))
           ≡ entries_before (k.kept l.keeper) (items_from f (entries_left l.reader));

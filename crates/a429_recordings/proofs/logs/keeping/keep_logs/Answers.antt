@@ -9,7 +9,7 @@ use Rattle.a429_recordings.proofs.logs.keeping.keep_logs.Goals as goal
 pub returns-in-Err-clause-kept : goal.returns-in-Err-clause-kept
 returns-in-Err-clause-kept g c =
     let k = g.T.WordKeeper in
-    let f = viewed (view_of c.args.view) (k.item c.args.keeper.now) in
+    let f = viewed (view_of c.args.view) (k.items c.args.keeper.now) in
     let logs = c.args.logs.now in
     let now = c.loop-number in
     let text = c.deref.result.now in
@@ -21,7 +21,7 @@ returns-in-Err-clause-kept g c =
 pub loop-number-preserved : goal.loop-number-preserved
 loop-number-preserved g c =
     let k = g.T.WordKeeper in
-    let f = viewed (view_of c.args.view) (k.item c.args.keeper.now) in
+    let f = viewed (view_of c.args.view) (k.items c.args.keeper.now) in
     let logs = c.args.logs.now in
     let now = c.loop-number in
     let end = c.in-Ok.end in

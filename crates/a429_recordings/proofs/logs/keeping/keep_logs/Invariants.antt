@@ -10,8 +10,8 @@ invariant-loop-number g l =
     let k = g.T.WordKeeper in
     let left = bytes_of (drop l.number l.logs) in
     record {
-      same : k.item l.keeper ≡ k.item l.fn.keeper;
-      items : AreBefore (viewed (view_of l.view) (k.item l.fn.keeper)) l.fn.reading (bytes_of l.logs) l.next left (k.kept l.keeper);
+      same : k.items l.keeper ≡ k.items l.fn.keeper;
+      items : AreBefore (viewed (view_of l.view) (k.items l.fn.keeper)) l.fn.reading (bytes_of l.logs) l.next left (k.kept l.keeper);
       silent : PassesNone l.fn.reading (bytes_of l.logs) → (l.warnings.items ≡ l.fn.warnings.items) × PassesNone l.next left;
       next : reading_behind l.fn.reading (bytes_of l.logs) ≡ reading_behind l.next left;
     }

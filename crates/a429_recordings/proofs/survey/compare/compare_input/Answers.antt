@@ -13,7 +13,7 @@ use Rattle.a429_recordings.proofs.ComparedFiles.{compared_of}
 use Rattle.a429_recordings.proofs.survey.compare.compare_input.Goals as goal
 
 pub returns-in_err-equipment-clause-compared : goal.returns-in_err-equipment-clause-compared
-returns-in_err-equipment-clause-compared c =
+returns-in_err-equipment-clause-compared g c =
     let table = c.args.input.now.table.items in
     let logs = bytes_of c.args.input.now.logs.items in
     let view = view_of c.args.view in
@@ -24,12 +24,12 @@ returns-in_err-equipment-clause-compared c =
     (or_memory_weaker (IsTableFault table) (IsUncompared table view c.args.form logs) e (λ one. inl one) fault)
 
 pub returns-clause-compared : goal.returns-clause-compared
-returns-clause-compared c =
+returns-clause-compared g c =
     let t = c.in_ok-equipment.equipment in
     let is = subst (λ (table : List ℕ). reading table ≡ Ok t) c.deref.ensures.value c.in_ok-equipment.ensures in
     let by = subst (λ (ls : List (Vec ℕ Global)). IsComparingOf t (view_of c.args.view) c.args.form (bytes_of ls) c.compare_words.result) c.deref-2.ensures.value c.compare_words.ensures.compared in
     compared_of c.args.input.now.table.items t (view_of c.args.view) c.args.form (bytes_of c.args.input.now.logs.items) c.compare_words.result is by
 
 pub returns-clause-silent : goal.returns-clause-silent
-returns-clause-silent c none =
+returns-clause-silent g c none =
     c.compare_words.ensures.silent (subst (λ (ls : List (Vec ℕ Global)). PassesNone c.args.form.reading (bytes_of ls)) (sym c.deref-2.ensures.value) none)

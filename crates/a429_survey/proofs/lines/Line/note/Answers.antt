@@ -1,4 +1,4 @@
-use Rattle.a429_survey.proofs.FiguresMore.{place_small}
+use Rattle.a429_survey.proofs.LineMore.{place_small}
 use Rattle.a429_survey.proofs.LineFigures.{kept_line, noted_line, on_err}
 use Rattle.a429_survey.proofs.lines.Line.note.Goals as goal
 
@@ -8,5 +8,5 @@ returns-in_err-note_pair-clause-kept c =
 
 pub returns-clause-noted : goal.returns-clause-noted
 returns-clause-noted c =
-    noted_line c.args.time c.args.raw _ c.self.inside.all c.with-self-inside.result c.self.inside.pairs.items c.note_pair.new.pairs.items c.args.self.now c.self.view_is
-    c.with-self-inside.ensures (place_small c.args.raw) c.in_ok-note_pair.ensures.noted
+    noted_line c.args.time c.args.raw _ c.self.inside.all c.note.new.self c.self.inside.pairs.items c.note_pair.new.pairs.items c.args.self.now c.self.view_is
+    c.note.ensures (place_small c.args.raw) c.in_ok-note_pair.ensures.noted

@@ -8,7 +8,7 @@ use Rattle.a429_console.proofs.ReadingParts.{read_then, read_weaker}
 use Rattle.a429_console.proofs.Refused.{failed, or_memory_weaker}
 use Rattle.a429_given.specs.GivenTables.{IsTableUnread, table_texts}
 use Rattle.a429_recordings.specs.JudgeReplies.{IsUnreadBoxFile, names_of}
-use Rattle.a429_recordings.proofs.judge.read_input.Goals as goal
+use Rattle.a429_recordings.proofs.judge.input.read_input.Goals as goal
 
 pub returns-in_err-table : goal.returns-in_err-table
 returns-in_err-table g c =
