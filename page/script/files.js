@@ -2,7 +2,7 @@
 
 const ROLES = {
   sheet: "spreadsheet", table: "equipment table", otherSheet: "other spreadsheet", otherTable: "other table", came: "what came in",
-  sent: "what was sent", both: "what came in and was sent", unused: "not used",
+  sent: "what was sent", both: "both, in one file", unused: "not used",
 };
 const LARGEST_TABLE = 16 * 1024 * 1024, LARGEST_LOG = 1024 * 1024 * 1024;
 const isTable = (file) => file.role === "table" || file.role === "sheet";
