@@ -1,12 +1,12 @@
 -- The cells of a group's slot table.
 use Rattle.std.proofs.Common.{◌≡◌, ℕ, ◌+◌, ◌*◌, ◌%◌, ◌^◌, ◌<◌, ◌≤◌, length, get_or, arith, refl, ap, sym, subst, true, false, nat_eq}
-use Rattle.std.specs.Prelude.{Some, None, slice_get}
+use Rattle.std.specs.Prelude.{Bool, IsTrue, Some, None, ◌↔◌, slice_get}
 use Rattle.std.specs.List.{position_or_len}
 use Rattle.std.proofs.lemmas.List.Quantifiers.{position-Some}
 use Rattle.std.proofs.lemmas.List.Sums.{position_or_len_is}
 use Rattle.std.proofs.lemmas.Bool.{lt-ltb, le-ltb, eq-eqb, eqb-true, and_parts}
 use Rattle.std.proofs.lemmas.Option.{slice_get-get_or}
-use Rattle.a429_word.proofs.Lists.{false_unless}
+use Rattle.a429_word.proofs.Lists.{clash, false_unless}
 use Rattle.a429_grid.specs.Reversal.{reversed}
 use Rattle.a429_pack.specs.Orders.{NamesEachOnce}
 use Rattle.a429_pack.specs.Sums.{Holds}
@@ -39,6 +39,11 @@ holds_where t o bus slot just there =
     let x : Placed = placed_at t o in
     let (row, at) = and_parts (nat_eq x.place.bus bus) (nat_eq (slot % 2 ^ x.place.period) x.place.offset) there in
     (just.cells bus slot).1 (sym (eqb-true x.place.bus bus row), eqb-true (slot % 2 ^ x.place.period) x.place.offset at)
+
+-- a test of the one is a test of the other
+pub stands_if : (t : SlotTable) (o bus slot : ℕ) (has : Bool) → HoldsJustItsCells t o → IsTrue has ↔ HoldsCell t o bus slot → has ≡ stands_in bus slot (placed_at t o)
+stands_if t o bus slot true just same = sym (stands t o bus slot just (same.0 refl))
+stands_if t o bus slot false just same = sym (false_unless (stands_in bus slot (placed_at t o)) (λ there. clash (same.1 (holds_where t o bus slot just there))))
 
 -- the place in the order of an output that is in a cell: its stretch has the cell
 pub held_by : (n : ℕ) (t : SlotTable) → IsTable n t → HasEach t → (o bus slot : ℕ) → o < length t.outputs → stands_in bus slot (placed_at t o) ≡ true

@@ -12,7 +12,8 @@ use Rattle.a429_pack.specs.Kept.{padded}
 use Rattle.a429_pack.specs.Orders.{NamesEachOnce}
 use Rattle.a429_pack.proofs.Tables.{kept_read, padded-set}
 use Rattle.a429_slots.specs.declared.group_plan.GroupPlan.TheInside.{Inside}
-use Rattle.a429_slots.specs.Columns.{placed_in, table_in}
+use Rattle.a429_slots.specs.Columns.{AreColumns, placed_in, table_in}
+use Rattle.a429_slots.specs.Kept.{stretches_of}
 use Rattle.a429_slots.specs.Tables.{Placed, SlotTable, placed_at, unplaced}
 
 -- ---- lists of equal length
@@ -102,6 +103,10 @@ count_kept p t is = sym (length-table p) ∙ ap (λ (u : SlotTable). length u.ou
 
 pub part_kept : {n : ℕ} {A : Type 0} (f : Placed → A) (p : Inside n) (t : SlotTable) (o : ℕ) → table_in p ≡ t → o < length p.sums → option_map f (slice_get t.outputs o) ≡ Some (f (placed_in p o))
 part_kept f p t o is below = ap (λ (u : SlotTable). option_map f (slice_get u.outputs o)) (sym is) ∙ ap (option_map f) (output_kept p o below)
+
+-- the running sums are those of the table's stretches
+pub sums_kept : {n : ℕ} (p : Inside n) → AreColumns n p → p.sums ≡ stretches_of (table_in p)
+sums_kept {n} p w = sym (ap (λ (q : Inside n). q.sums) w.kept)
 
 -- the values of a column are the parts of the outputs
 pub column_is : {A : Type 0} (d : A) (n count : ℕ) (f : Placed → A) (at : ℕ → Placed) (xs ys : List A) → ((o : ℕ) → f (at o) ≡ get_or xs o d) → xs ≡ padded d n ys → length ys ≡ count

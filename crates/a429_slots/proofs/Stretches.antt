@@ -1,11 +1,11 @@
 -- The stretches of a table: each is a block with the free places before it.
-use Rattle.std.proofs.Common.{◌≡◌, ℕ, zero, suc, ◌+◌, ◌-◌, ◌*◌, ◌%◌, ◌<◌, ◌≤◌, List, [], ◌∷◌, length, take, get_or, map, sum, refl, sym, ap, ◌∙◌, subst, arith}
+use Rattle.std.proofs.Common.{◌≡◌, ℕ, zero, suc, ◌+◌, ◌-◌, ◌*◌, ◌%◌, ◌<◌, ◌≤◌, ◌↔◌, List, [], ◌∷◌, length, take, get_or, map, refl, sym, ap, ◌∙◌, subst, arith}
 use Rattle.std.proofs.lemmas.List.{length-map, get_or-map}
 use Rattle.std.proofs.lemmas.List.Sums.{sum_by-cons}
 use Rattle.a429_grid.specs.Reversal.{reversed}
 use Rattle.a429_pack.specs.Sums.{start_of, Holds}
 use Rattle.a429_pack.proofs.Tables.{start_more}
-use Rattle.a429_slots.specs.Tables.{SlotTable, demands_of, frame_of, share_of}
+use Rattle.a429_slots.specs.Tables.{SlotTable, frame_of, share_of}
 use Rattle.a429_slots.specs.Kept.{BlocksFollow, HoldsCell, begin_of, end_of, steps_from, stretches_of}
 
 pub length-steps : (s : ℕ) (ends : List ℕ) → length (steps_from s ends) ≡ length ends
@@ -55,35 +55,6 @@ steps_are s (e ∷ ends) (d ∷ demands) same at =
     ap (λ z. z ∷ steps_from e ends) step
     ∙ ap (λ zs. d ∷ zs) (steps_are e ends demands (omega arith) (λ k below. omega (arith, at (suc k) (omega (arith, below)), more k, first)))
 
--- numbers with a sum that smaller ones have too are those
-abbrev AreAtMost : List ℕ → List ℕ → Type 0
-AreAtMost xs ys = (length xs ≡ length ys) × ((k : ℕ) → k < length xs → get_or xs k 0 ≤ get_or ys k 0)
-
-rest_at_most : (x y : ℕ) (xs ys : List ℕ) → AreAtMost (x ∷ xs) (y ∷ ys) → AreAtMost xs ys
-rest_at_most x y xs ys (same, few) = (omega (arith, same), λ k below. few (suc k) (omega (arith, below)))
-
-sum_at_most : (xs ys : List ℕ) → AreAtMost xs ys → sum xs ≤ sum ys
-sum_at_most [] ys few = omega arith
-sum_at_most (x ∷ xs) [] (same, few) = absurd (omega (arith, same))
-sum_at_most (x ∷ xs) (y ∷ ys) few =
-    let first : x ≤ y = few.1 0 (omega arith) in
-    omega (arith, first, sum_at_most xs ys (rest_at_most x y xs ys few), sum_by-cons (λ x. x) x xs, sum_by-cons (λ x. x) y ys)
-
-same_place : (x y : ℕ) (xs ys : List ℕ) → x ≡ y → ((k : ℕ) → k < length xs → get_or xs k 0 ≡ get_or ys k 0)
-    → (k : ℕ) → k < length (x ∷ xs) → get_or (x ∷ xs) k 0 ≡ get_or (y ∷ ys) k 0
-same_place x y xs ys first rest zero below = first
-same_place x y xs ys first rest (suc k) below = rest k (omega (arith, below))
-
-same_at : (xs ys : List ℕ) → AreAtMost xs ys → sum xs ≡ sum ys → (k : ℕ) → k < length xs → get_or xs k 0 ≡ get_or ys k 0
-same_at [] ys few same k below = absurd (omega arith)
-same_at (x ∷ xs) [] (long, few) same k below = absurd (omega (arith, long))
-same_at (x ∷ xs) (y ∷ ys) few same k below =
-    let first : x ≤ y = few.1 0 (omega arith) in
-    let rest : AreAtMost xs ys = rest_at_most x y xs ys few in
-    let less : sum xs ≤ sum ys = sum_at_most xs ys rest in
-    let parts : x + sum xs ≡ y + sum ys = omega (arith, same, sum_by-cons (λ x. x) x xs, sum_by-cons (λ x. x) y ys) in
-    same_place x y xs ys (omega (arith, first, less, parts)) (λ j inside. same_at xs ys rest (omega (arith, first, less, parts)) j inside) k below
-
 -- ---- the stretches of a table
 
 pub length-stretches : (t : SlotTable) → length (stretches_of t) ≡ length t.order
@@ -120,19 +91,9 @@ module _ (t : SlotTable) (follow : BlocksFollow t) (long : length t.order ≡ le
   stretch_holds k bus slot below holds =
       (omega (arith, below, length-stretches t, long), omega (arith, stretch_begin k below, holds.0), omega (arith, stretch_end k below, holds.1))
 
-  -- a table without free places before its blocks: the stretch at a place of the order is the block
-  pub stretch_is_block : sum (demands_of t) ≡ sum (stretches_of t) → (k bus slot : ℕ)
-      → Holds (stretches_of t) (bus * frame_of t + reversed t.frame (slot % frame_of t)) k → HoldsCell t (get_or t.order k 0) bus slot
-  stretch_is_block full k bus slot (below, low, high) =
-      let demands : (j : ℕ) → j < length t.order → get_or (demands_of t) j 0 ≡ share_of t (get_or t.order j 0) = λ j inside. get_or-map (share_of t) t.order j 0 0 inside in
-      let many : length (demands_of t) ≡ length t.order = length-map t.order (share_of t) in
-      let few : AreAtMost (demands_of t) (stretches_of t) = (
-        many ∙ sym (length-stretches t),
-        λ j inside.
-            omega (arith, demands j (omega (arith, inside, many)), stretch_begin j (omega (arith, inside, many, long)), stretch_end j (omega (arith, inside, many, long))),
-      ) in
-      let inside : k < length t.order = omega (arith, below, length-stretches t) in
-      let same : get_or (demands_of t) k 0 ≡ get_or (stretches_of t) k 0 = same_at (demands_of t) (stretches_of t) few full k (omega (arith, inside, many)) in
-      let share : share_of t (get_or t.order k 0) ≡ get_or (stretches_of t) k 0 = omega (arith, demands k inside, same) in
-      let end : start_of (stretches_of t) k + get_or (stretches_of t) k 0 ≡ end_of t (get_or t.order k 0) = stretch_end k (omega (arith, inside, long)) in
-      (omega (arith, end, share, low), omega (arith, end, share, high))
+  -- the block has a place of the stretch if and only if no more of the stretch is left there than the block is long
+  pub left_of_stretch : (k cell : ℕ) → Holds (stretches_of t) cell k
+      → (get_or (stretches_of t) k 0 - (cell - start_of (stretches_of t) k) ≤ share_of t (get_or t.order k 0)) ↔ ((begin_of t (get_or t.order k 0) ≤ cell) × (cell < end_of t (get_or t.order k 0)))
+  left_of_stretch k cell (below, low, high) =
+      let end : start_of (stretches_of t) k + get_or (stretches_of t) k 0 ≡ end_of t (get_or t.order k 0) = stretch_end k (omega (arith, below, length-stretches t, long)) in
+      (λ few. (omega (arith, end, few), omega (arith, end, high)), λ both. omega (arith, end, both.0))

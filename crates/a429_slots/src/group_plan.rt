@@ -1,5 +1,5 @@
 //! The slot table of one group of outputs.
-ghost use Rattle.std.specs.Prelude.{◌≡◌, ℕ, ◌+◌, ◌<◌, ◌≤◌, ◌/◌, ◌^◌, [], get_or, length, map, option_map, slice_get, sum, true, None, Err, Some, IfOk, IfSome};
+ghost use Rattle.std.specs.Prelude.{◌≡◌, ℕ, ◌+◌, ◌<◌, ◌≤◌, ◌/◌, ◌^◌, ◌↔◌, [], get_or, length, map, option_map, slice_get, sum, true, None, Err, Some, IfOk, IfSome, IsTrue};
 
 use crate::layout::{order_in, periods_in, place_of_cell, places_in, sources_in};
 use crate::limits::limits_in;
@@ -66,9 +66,9 @@ impl<const N: usize> GroupPlan<N> {
     ghost use Rattle.a429_pack.specs.Demands.{demand_at, frame_of as greatest_period, period_of};
     ghost use Rattle.std.specs.List.{AllByRecursion};
     ghost use Rattle.a429_equipment.specs.Sound.{IsInterval};
-    ghost use Rattle.a429_slots.specs.Tables.{outputs_of, order_of, demands_of, frame_of, buses_of, place_of, placed_at, source_of, stands_in, limits_of, cell_at, no_table};
+    ghost use Rattle.a429_slots.specs.Tables.{outputs_of, order_of, demands_of, frame_of, buses_of, place_of, share_of, source_of, limits_of, cell_at, no_table};
     ghost use Rattle.a429_pack.specs.Sums.{Holds};
-    ghost use Rattle.a429_slots.specs.Kept.{IsTable, StandsJustAt, place_of_cell, stretches_of};
+    ghost use Rattle.a429_slots.specs.Kept.{IsTable, StandsJustAt, begin_of, end_of, stretches_of};
     ghost use Rattle.a429_slots.specs.Asked.{IsTableOf};
     ghost use Rattle.a429_slots.specs.Moves.{AreInside, HaveCommonCell, IsMoved};
     ghost use Rattle.a429_slots.specs.declared.moves.MoveFault.TheVariants as MoveFault;
@@ -230,39 +230,39 @@ impl<const N: usize> GroupPlan<N> {
         if bus >= self.buses {
             return (None, 0);
         }
-        let (found, probes) = self.sums.find_counted(place_of_cell(bus, slot, self.frame));
+        let cell = place_of_cell(bus, slot, self.frame);
+        let (found, probes) = self.sums.find_counted(cell);
         match found {
             Some(place) => {
                 let output = OutputId::new(self.order[place]);
-                let there = self.has_cell(place, output, bus, slot);
+                let there = self.has_cell(place, output, cell);
                 (there.then_some(output), probes)
             }
             None => (None, probes),
         }
     }
 
-    /// Whether an output has the cell on this bus, in this slot counted from the frame's start.
-    fn stands_in(&self, output: OutputId, bus: u32, slot: u64) -> bool
-        requires { output < length (outputs_of self.now) }
-        ensures { result ≡ stands_in bus slot (placed_at self.now output) }
-    {
-        let place = self.place(output);
-        place.bus == bus && slot % u64::from(place.period.slots()) == u64::from(place.offset)
-    }
-
-    /// The same of an output whose stretch, at this place of the layout, has the cell.
-    fn has_cell(&self, place: usize, output: OutputId, bus: u32, slot: u64) -> bool
+    /// Whether an output has a cell. `place` is the place of the output in the layout, and `cell` is the place of the cell
+    /// among all. The stretch of the output has the cell.
+    fn has_cell(&self, place: usize, output: OutputId, cell: u32) -> bool
         requires known { output < length (outputs_of self.now) }
         requires named { get_or (order_of self.now) place 0 ≡ output }
-        requires held { Holds (stretches_of self.now) (place_of_cell self.now bus slot) place }
-        ensures { result ≡ stands_in bus slot (placed_at self.now output) }
+        requires held { Holds (stretches_of self.now) cell place }
+        ensures { IsTrue result ↔ (begin_of self.now output ≤ cell) × (cell < end_of self.now output) }
     {
-        orders_name_each_once();
-        // if no place before an output is free, all of its stretch is its own
-        if self.filled == self.sums.total() {
-            return true;
-        }
-        self.stands_in(output, bus, slot)
+        let _limits = &self.limits;
+        let left = self.sums.demand(place) - (cell - self.sums.start(place));
+        // a stretch ends with its block, so the output has the last places of its stretch, as many as its share
+        left <= self.share(output)
+    }
+
+    /// How many slots of a frame an output has.
+    fn share(&self, output: OutputId) -> u32
+        requires { output < length (outputs_of self.now) }
+        ensures { result ≡ share_of self.now output }
+    {
+        let number = output.number();
+        self.frame.slots() >> self.periods[number]
     }
 
     /// The output in a cell, found in the way of `at_counted`; `None`: an empty cell, or a bus outside the plan.

@@ -140,6 +140,7 @@ struct LogEnd<'a> {
 }
 
 /// Keeps a word as it is taken, unless it is passed over. Error: it makes its line faulty, or an allocation failed.
+#[inline(always)]
 #[tactic(auto, using(crate::proofs::LogLines::kept_items, crate::proofs::LogLines::kept_nothing))]
 fn keep_taken<'a, T: WordKeeper>(
     keeper: &mut T,

@@ -169,6 +169,7 @@ impl<'a> LogView<'a> {
     }
 
     /// A word as it is taken. `None` if it is passed over.
+    #[inline(always)]
     pub fn taken(&self, word: StatedWord<'a>) -> Option<StatedWord<'a>>
         ensures { option_map stated_by result ≡ taken (view_of self.now) (stated_by word.entry) }
     {

@@ -1,6 +1,6 @@
 use borrow.Author.Rules.{scaled_Fits}
 use Rattle.std.proofs.Common.{◌≡◌, ◌+◌, ◌*◌, ◌%◌, ◌^◌, ◌<◌, ◌≤◌, ◌∙◌, ℕ, List, None, Some, Bool, true, false, ap, arith, get_or, length, sym, subst, zero-le}
-use Rattle.std.specs.Prelude.{Option, IfSome}
+use Rattle.std.specs.Prelude.{Option, IfSome, IsTrue, ◌↔◌}
 use Rattle.std.proofs.lemmas.List.{get_or-take}
 use Rattle.std.proofs.lemmas.Option.{none-some, same_Some}
 use Rattle.a429_grid.specs.Reversal.{reversed}
@@ -8,16 +8,16 @@ use Rattle.a429_pack.specs.Sums.{Holds}
 use Rattle.a429_slots.specs.declared.group_plan.GroupPlan.TheInside.{Inside}
 use Rattle.a429_slots.specs.Columns.{AreColumns, table_in}
 use Rattle.a429_slots.specs.Tables.{SlotTable, cell_at, frame_of, order_of, outputs_of, placed_at, stands_in}
-use Rattle.a429_slots.specs.Kept.{IsTable, place_of_cell, stretches_of}
+use Rattle.a429_slots.specs.Kept.{HoldsCell, IsTable, begin_of, end_of, stretches_of}
 use Rattle.std.specs.Bool.{then_some}
 use Rattle.a429_word.proofs.Lists.{clash}
-use Rattle.a429_slots.proofs.Cells.{HasEach, cell_found, cell_empty, cell_outside, held_by}
-use Rattle.a429_slots.proofs.Columns.{count_kept, length-table}
+use Rattle.a429_slots.proofs.Cells.{HasEach, cell_found, cell_empty, cell_outside, held_by, stands_if}
+use Rattle.a429_slots.proofs.Columns.{count_kept, length-table, sums_kept}
 use Rattle.a429_slots.proofs.group_plan.GroupPlan.at_counted.Goals as goal
 use Rattle.a429_slots.proofs.group_plan.GroupPlan.at_counted.Goals.{After-new-output, Start}
 
-pub place_of_cell-requires : goal.place_of_cell-requires
-place_of_cell-requires g c =
+pub place_of_cell-cell-requires : goal.place_of_cell-cell-requires
+place_of_cell-cell-requires g c =
     let few : c.self.inside.buses ≤ 16 = c.self.invariant.table.few in
     let below : c.args.bus < c.self.inside.buses = c.if-bus-self.false in omega arith
 
@@ -26,8 +26,8 @@ held_at sums x k r is held = subst (λ (r : Option ℕ). IfSome r (Holds sums x)
 
 pub bounds-self-inside-place : goal.bounds-self-inside-place
 bounds-self-inside-place g c =
-    let held : Holds c.self.inside.sums c.place_of_cell.result c.in-Some.place =
-    held_at c.self.inside.sums c.place_of_cell.result c.in-Some.place c.find_counted-found.result.0 c.in-Some.is c.find_counted-found.ensures.found in
+    let held : Holds c.self.inside.sums c.place_of_cell-cell.result c.in-Some.place =
+    held_at c.self.inside.sums c.place_of_cell-cell.result c.in-Some.place c.find_counted-found.result.0 c.in-Some.is c.find_counted-found.ensures.found in
     omega (arith, held.0, c.self.invariant.table.room, length-table c.self.inside)
 
 -- the array takes less than half of the addresses, as the table that it is a part of
@@ -36,10 +36,6 @@ room g c = omega arith
 
 pub offset_bounds-self-inside-place : goal.offset_bounds-self-inside-place
 offset_bounds-self-inside-place g c = scaled_Fits _ g.row.N _ (bounds-self-inside-place g c) (room g c.before.before.before.before.before.before.before.before)
-
--- the running sums are those of the table's stretches
-stretches : {n : ℕ} (p : Inside n) → AreColumns n p → p.sums ≡ stretches_of (table_in p)
-stretches {n} p w = sym (ap (λ (q : Inside n). q.sums) w.kept)
 
 -- ---- a bus outside the plan
 
@@ -70,7 +66,7 @@ only {n} p w each r x bus slot place found o below there =
       is,
       found k
           (subst (λ (y : ℕ). Holds p.sums y k) (sym place)
-          (subst (λ (ds : List ℕ). Holds ds (bus * frame_of t + reversed t.frame (slot % frame_of t)) k) (sym (stretches p w)) held)),
+          (subst (λ (ds : List ℕ). Holds ds (bus * frame_of t + reversed t.frame (slot % frame_of t)) k) (sym (sums_kept p w)) held)),
     )
 
 pub returns-in-None-clause-cell : goal.returns-in-None-clause-cell
@@ -80,12 +76,12 @@ returns-in-None-clause-cell g c =
     subst (λ (u : SlotTable). None ≡ cell_at u c.args.bus c.args.slot) c.self.view_is
     (sym (cell_empty t c.args.bus c.args.slot (λ o below there.
     let (k, is, found) =
-    only c.self.inside c.self.invariant each c.find_counted-found.result.0 c.place_of_cell.result c.args.bus c.args.slot c.place_of_cell.ensures c.find_counted-found.ensures.only o below there in
+    only c.self.inside c.self.invariant each c.find_counted-found.result.0 c.place_of_cell-cell.result c.args.bus c.args.slot c.place_of_cell-cell.ensures c.find_counted-found.ensures.only o below there in
     none-some k (sym c.in-None.is ∙ found))))
 
 -- the output at the place that was found
 below : (g : _) (c : After-new-output g) → c.in-Some.place < length c.self.inside.sums
-below g c = (held_at c.self.inside.sums c.place_of_cell.result c.in-Some.place c.find_counted-found.result.0 c.in-Some.is c.find_counted-found.ensures.found).0
+below g c = (held_at c.self.inside.sums c.place_of_cell-cell.result c.in-Some.place c.find_counted-found.result.0 c.in-Some.is c.find_counted-found.ensures.found).0
 
 read : (g : _) (c : After-new-output g) → c.new-output.result ≡ get_or (table_in c.self.inside).order c.in-Some.place 0
 read g c = c.new-output.ensures ∙ sym (get_or-take (length c.self.inside.sums) c.self.inside.order c.in-Some.place 0 (below g c))
@@ -99,17 +95,16 @@ known g c =
 pub has_cell-there-requires : goal.has_cell-there-requires
 has_cell-there-requires g c =
     let t : SlotTable = table_in c.self.inside in
-    let held : Holds c.self.inside.sums c.place_of_cell.result c.in-Some.place =
-    held_at c.self.inside.sums c.place_of_cell.result c.in-Some.place c.find_counted-found.result.0 c.in-Some.is c.find_counted-found.ensures.found in
-    let at : Holds (stretches_of t) (place_of_cell t c.args.bus c.args.slot) c.in-Some.place =
-    subst (λ (x : ℕ). Holds (stretches_of t) x c.in-Some.place) c.place_of_cell.ensures
-    (subst (λ (ds : List ℕ). Holds ds c.place_of_cell.result c.in-Some.place) (stretches c.self.inside c.self.invariant) held) in (
+    let held : Holds c.self.inside.sums c.place_of_cell-cell.result c.in-Some.place =
+    held_at c.self.inside.sums c.place_of_cell-cell.result c.in-Some.place c.find_counted-found.result.0 c.in-Some.is c.find_counted-found.ensures.found in
+    let at : Holds (stretches_of t) c.place_of_cell-cell.result c.in-Some.place =
+    subst (λ (ds : List ℕ). Holds ds c.place_of_cell-cell.result c.in-Some.place) (sums_kept c.self.inside c.self.invariant) held in (
       assumption,
       (
         subst (λ (u : SlotTable). c.new-output.result < length (outputs_of u)) c.self.view_is (known g c),
         (
           subst (λ (u : SlotTable). get_or (order_of u) c.in-Some.place 0 ≡ c.new-output.result) c.self.view_is (sym (read g c)),
-          subst (λ (u : SlotTable). Holds (stretches_of u) (place_of_cell u c.args.bus c.args.slot) c.in-Some.place) c.self.view_is at,
+          subst (λ (u : SlotTable). Holds (stretches_of u) c.place_of_cell-cell.result c.in-Some.place) c.self.view_is at,
         ),
       ),
     )
@@ -126,15 +121,18 @@ returns-in-Some-clause-cell g c =
     let w : IsTable g.row.N t = c.self.invariant.table in
     let each : HasEach t = c.orders_name_each_once.ensures (length t.outputs) t.order w.order in
     let o : ℕ = c.new-output.result in
+    let has : IsTrue c.has_cell-there.result ↔ HoldsCell t o c.args.bus c.args.slot =
+    subst (λ (x : ℕ). IsTrue c.has_cell-there.result ↔ ((begin_of t o ≤ x) × (x < end_of t o))) c.place_of_cell-cell.ensures
+    (subst (λ (u : SlotTable). IsTrue c.has_cell-there.result ↔ ((begin_of u o ≤ c.place_of_cell-cell.result) × (c.place_of_cell-cell.result < end_of u o))) (sym c.self.view_is) c.has_cell-there.ensures) in
     let there : c.has_cell-there.result ≡ stands_in c.args.bus c.args.slot (placed_at t o) =
-    subst (λ (u : SlotTable). c.has_cell-there.result ≡ stands_in c.args.bus c.args.slot (placed_at u o)) (sym c.self.view_is) c.has_cell-there.ensures in
+    stands_if t o c.args.bus c.args.slot c.has_cell-there.result (w.periodic o (known g c.before.before)) has in
     subst (λ (u : SlotTable). c.then_some.result ≡ cell_at u c.args.bus c.args.slot) c.self.view_is
     (c.then_some.ensures
     ∙ found_or_none t c.args.bus c.args.slot o c.has_cell-there.result there
     (λ stands. cell_found g.row.N t w each (c.stretches_are_apart.ensures.apart (stretches_of t)) o c.args.bus c.args.slot (known g c.before.before) stands)
     (λ not. cell_empty t c.args.bus c.args.slot (λ other inside stands.
     let (k, is, found) =
-    only c.self.inside c.self.invariant each c.find_counted-found.result.0 c.place_of_cell.result c.args.bus c.args.slot c.place_of_cell.ensures c.find_counted-found.ensures.only other inside stands in
+    only c.self.inside c.self.invariant each c.find_counted-found.result.0 c.place_of_cell-cell.result c.args.bus c.args.slot c.place_of_cell-cell.ensures c.find_counted-found.ensures.only other inside stands in
     let place : k ≡ c.in-Some.place = same_Some k c.in-Some.place (sym found ∙ c.in-Some.is) in
     let same : other ≡ o = sym is ∙ ap (λ (i : ℕ). get_or t.order i 0) place ∙ sym (read g c.before.before) in
     clash (sym (ap (λ (i : ℕ). stands_in c.args.bus c.args.slot (placed_at t i)) same ∙ not) ∙ stands))))

@@ -1,27 +1,27 @@
-use Rattle.std.proofs.Common.{◌≡◌, ◌∙◌, ◌<◌, ℕ, ap, get_or, length, subst, sym, true}
-use Rattle.std.specs.Prelude.{sum}
-use Rattle.a429_pack.specs.Sums.{Holds}
-use Rattle.a429_slots.specs.Columns.{table_in}
-use Rattle.a429_slots.specs.declared.group_plan.GroupPlan.TheInside.{Inside}
-use Rattle.a429_slots.specs.Kept.{HoldsCell, IsTable, place_of_cell, stretches_of}
-use Rattle.a429_slots.specs.Tables.{SlotTable, demands_of, order_of, outputs_of, placed_at, stands_in}
-use Rattle.a429_slots.proofs.Cells.{HasEach, stands}
-use Rattle.a429_slots.proofs.Stretches.{stretch_is_block}
+use Rattle.std.proofs.Common.{◌≡◌, ◌∙◌, ◌-◌, ◌<◌, ◌≤◌, ◌↔◌, ℕ, List, ap, arith, get_or, length, subst}
+use Rattle.std.specs.List.{range_with_len}
+use Rattle.std.proofs.lemmas.Bool.{leb-true, le-leb}
+use Rattle.std.proofs.lemmas.List.FromFn.{length-range_with_len}
+use Rattle.std.proofs.lemmas.List.Sorted.{length_permutation}
+use Rattle.a429_pack.specs.Sums.{start_of}
+use Rattle.a429_slots.specs.Kept.{IsTable, begin_of, end_of, stretches_of}
+use Rattle.a429_slots.specs.Tables.{SlotTable, share_of}
+use Rattle.a429_slots.proofs.Columns.{sums_kept}
+use Rattle.a429_slots.proofs.Stretches.{left_of_stretch}
 use Rattle.a429_slots.proofs.group_plan.GroupPlan.has_cell.Goals as goal
 
-pub returns-then-self-total : goal.returns-then-self-total
-returns-then-self-total g c =
-    let p = c.self.inside in
-    let t : SlotTable = table_in p in
-    let w : IsTable g.row.N t = c.self.invariant.table in
-    let each : HasEach t = c.orders_name_each_once.ensures (length t.outputs) t.order w.order in
-    let full : sum (demands_of t) ≡ sum (stretches_of t) =
-    ap (λ (q : Inside g.row.N). q.filled) c.self.invariant.kept ∙ c.if-self-total.true ∙ c.total.ensures ∙ sym (ap (λ (q : Inside g.row.N). sum q.sums) c.self.invariant.kept) in
-    let below : c.args.output < length (outputs_of t) = subst (λ (u : SlotTable). c.args.output < length (outputs_of u)) (sym c.self.view_is) c.requires.known in
-    let here : Holds (stretches_of t) (place_of_cell t c.args.bus c.args.slot) c.args.place =
-    subst (λ (u : SlotTable). Holds (stretches_of u) (place_of_cell u c.args.bus c.args.slot) c.args.place) (sym c.self.view_is) c.requires.held in
-    let is : get_or t.order c.args.place 0 ≡ c.args.output = subst (λ (u : SlotTable). get_or (order_of u) c.args.place 0 ≡ c.args.output) (sym c.self.view_is) c.requires.named in
-    let holds : HoldsCell t c.args.output c.args.bus c.args.slot =
-    subst (λ (o : ℕ). HoldsCell t o c.args.bus c.args.slot) is (stretch_is_block t w.follow each.length full c.args.place c.args.bus c.args.slot here) in
-    subst (λ (u : SlotTable). true ≡ stands_in c.args.bus c.args.slot (placed_at u c.args.output)) c.self.view_is
-    (sym (stands t c.args.output c.args.bus c.args.slot (w.periodic c.args.output below) holds))
+pub returns : goal.returns
+returns g c =
+    let t : SlotTable = c.args.self.now in
+    let w : IsTable g.row.N t = subst (IsTable g.row.N) c.self.view_is c.self.invariant.table in
+    let long : length t.order ≡ length t.outputs =
+    length_permutation (range_with_len 0 (length t.outputs)) t.order w.order ∙ length-range_with_len 0 (length t.outputs) in
+    let sums : c.self.inside.sums ≡ stretches_of t = sums_kept c.self.inside c.self.invariant ∙ ap (λ (u : SlotTable). stretches_of u) c.self.view_is in
+    let demand : c.demand.result ≡ get_or (stretches_of t) c.args.place 0 = c.demand.ensures.value ∙ ap (λ (ds : List ℕ). get_or ds c.args.place 0) sums in
+    let start : c.start.result ≡ start_of (stretches_of t) c.args.place = c.start.ensures ∙ ap (λ (ds : List ℕ). start_of ds c.args.place) sums in
+    let left : c.demand.result - (c.args.cell - c.start.result) ≡ get_or (stretches_of t) c.args.place 0 - (c.args.cell - start_of (stretches_of t) c.args.place) =
+    ap (λ (d : ℕ). d - (c.args.cell - c.start.result)) demand ∙ ap (λ (s : ℕ). get_or (stretches_of t) c.args.place 0 - (c.args.cell - s)) start in
+    let (block, few) =
+    subst (λ (o : ℕ). (get_or (stretches_of t) c.args.place 0 - (c.args.cell - start_of (stretches_of t) c.args.place) ≤ share_of t o) ↔ ((begin_of t o ≤ c.args.cell) × (c.args.cell < end_of t o)))
+    c.requires.named (left_of_stretch t w.follow long c.args.place c.args.cell c.requires.held) in
+    (λ test. block (omega (arith, leb-true _ _ test, left, c.share.ensures)), λ both. le-leb _ _ (omega (arith, few both, left, c.share.ensures)))
