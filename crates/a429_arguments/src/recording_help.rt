@@ -56,9 +56,9 @@ pub const EVENTS: &str = "A row for each finding instead of each output";
 
 pub const JUDGE_END: &str = "\
 Several logs of OUT are read as if they were one. All are on one clock, or OUT
-is moved to that of IN. With `--from first` times are counted from the first word
-of IN. There is a row for each output, and a row for each group that counts its
-foreign words. The status is 1 if something is found:
+is moved to that of IN. With `--from first` times are counted from the first
+word of IN. There is a row for each output, and a row for each group that counts
+its foreign words. The status is 1 if something is found:
   wrong    the word that was sent did not come in before
   stale    a later word came in before
   soon     it was sent before the minimum interval was over

@@ -10,7 +10,7 @@ share_of done all = if all == 0 then 0 else 100 * done / all
 abbrev pub left_of : ℕ → ℕ → ℕ → ℕ
 left_of done all spent = if done == 0 then 0 else spent * (all - done) / done / 1000
 
--- so many MiB of all are done, in so many milliseconds
+-- how many MiB of all are done after these milliseconds
 abbrev pub done_line : ℕ → ℕ → ℕ → List ℕ
 done_line done all spent =
     decimal (done / 1048576) ++ codes " of " ++ decimal (all / 1048576) ++ codes " MiB, " ++ decimal (share_of done all) ++ codes " %, "

@@ -53,7 +53,7 @@ pub start_more : (ds : List ℕ) (i : ℕ) → i < length ds → start_of ds (i 
 start_more ds i below = sum_by_more (λ x. x) ds i 0 below
 
 -- stretches follow one another
-start_rises : (ds : List ℕ) (i j : ℕ) → i ≤ j → start_of ds i ≤ start_of ds j
+pub start_rises : (ds : List ℕ) (i j : ℕ) → i ≤ j → start_of ds i ≤ start_of ds j
 start_rises ds i j order = omega (arith, sum_by-take-le (λ x. x) (take j ds) i, ap sum (take-take i j ds order))
 
 stretch_before : (ds : List ℕ) (x i j : ℕ) → Holds ds x i → Holds ds x j → i < j → ⊥

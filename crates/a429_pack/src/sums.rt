@@ -110,16 +110,15 @@ impl<const N: usize> SumTable<N> {
             return (None, 0);
         }
         let mut low = 0;
-        let mut high = self.len();
+        let mut left = self.len();
         let mut probes = 0;
-        while high - low > 1 {
-            let middle = low + (high - low) / 2;
+        while left > 1 {
+            let half = left / 2;
             probes += 1;
-            if self.start(middle) <= x {
-                low = middle;
-            } else {
-                high = middle;
+            if self.start(low + half) <= x {
+                low += half;
             }
+            left -= half;
         }
         (Some(low), probes)
     }

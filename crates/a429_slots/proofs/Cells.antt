@@ -40,7 +40,7 @@ holds_where t o bus slot just there =
     let (row, at) = and_parts (nat_eq x.place.bus bus) (nat_eq (slot % 2 ^ x.place.period) x.place.offset) there in
     (just.cells bus slot).1 (sym (eqb-true x.place.bus bus row), eqb-true (slot % 2 ^ x.place.period) x.place.offset at)
 
--- a test of the one is a test of the other
+-- a test that an output has a cell tests whether the cell is its own
 pub stands_if : (t : SlotTable) (o bus slot : ℕ) (has : Bool) → HoldsJustItsCells t o → IsTrue has ↔ HoldsCell t o bus slot → has ≡ stands_in bus slot (placed_at t o)
 stands_if t o bus slot true just same = sym (stands t o bus slot just (same.0 refl))
 stands_if t o bus slot false just same = sym (false_unless (stands_in bus slot (placed_at t o)) (λ there. clash (same.1 (holds_where t o bus slot just there))))

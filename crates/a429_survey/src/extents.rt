@@ -113,7 +113,7 @@ fn digit(raw: u32, low: u32) -> u32
     (raw >> low) & 15
 }
 
-/// The number of the five fields, also if one is no digit.
+/// The number of the five fields, even if one is no digit.
 fn fields_number(raw: u32) -> u32
     ensures value { result ≡ number_of (digit_fields raw) }
     ensures small { result < 100000 }

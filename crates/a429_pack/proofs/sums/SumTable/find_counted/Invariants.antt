@@ -2,16 +2,16 @@ use Rattle.std.proofs.Common.{◌+◌, ◌-◌, ◌*◌, ◌^◌, ◌<◌, ◌�
 use Rattle.a429_pack.specs.Sums.{start_of}
 use Rattle.a429_pack.proofs.sums.SumTable.find_counted.Given as goal
 
-abbrev pub invariant-loop-high : goal.invariant-loop-high
-invariant-loop-high g l = record {
-  apart : l.low < l.high;
-  within : l.high ≤ length l.self;
+abbrev pub invariant-loop-left : goal.invariant-loop-left
+invariant-loop-left g l = record {
+  some : 1 ≤ l.left;
+  within : l.low + l.left ≤ length l.self;
   above : start_of l.self l.low ≤ l.x;
-  below : l.x < start_of l.self l.high;
-  halved : (l.high - l.low - 1) * 2 ^ l.probes < length l.self;
+  below : l.x < start_of l.self (l.low + l.left);
+  halved : (l.left - 1) * 2 ^ l.probes < length l.self;
   few : 2 ^ l.probes ≤ 2 * length l.self;
-  spread : length l.self < (l.high - l.low + 1) * 2 ^ l.probes;
+  spread : length l.self < (l.left + 1) * 2 ^ l.probes;
 }
 
-abbrev pub decreases-loop-high : goal.decreases-loop-high
-decreases-loop-high g l = l.high - l.low
+abbrev pub decreases-loop-left : goal.decreases-loop-left
+decreases-loop-left g l = l.left
