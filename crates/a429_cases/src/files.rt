@@ -1,14 +1,18 @@
 //! The files that a command finds.
+ghost use Rattle.std.specs.Prelude.{◌<◌, IfSome, length};
 
 use crate::parts::find_file;
 use a429_cli::{FileFault, FileReader, FileTrouble, MemoryFiles};
-use std::alloc::Global;
+use std::alloc::{AllocError, Global};
 
 /// What no file is named.
 const NO_TEXT: &[u8] = b"\xff";
 
 /// The text of a file for which memory runs out.
 const NO_MEMORY: &[u8] = b"\xffno memory";
+
+/// How many lines a piece of a file has.
+const PIECE: usize = 3;
 
 /// Files in memory.
 #[derive(Drop)]
@@ -31,6 +35,18 @@ impl<'a> CaseFiles<'a> {
             files,
             unread,
             has_reread,
+        }
+    }
+
+    /// The bytes of a file that a command reads.
+    fn find(&mut self, name: &str) -> Result<&'a [u8], FileFault> {
+        if !mark_read(&mut self.unread, name) {
+            self.has_reread = true;
+        }
+        match find_file(self.files, name) {
+            Some(bytes) if bytes == NO_MEMORY => Err(FileFault::NoMemory),
+            Some(bytes) => Ok(bytes),
+            None => Err(FileFault::Refused),
         }
     }
 }
@@ -67,12 +83,21 @@ impl FileReader for CaseFiles<'_> {
     ghost known = { λ _ _ _ _ told _. not_told told };
 
     fn read(&mut self, name: &str, _most: usize) -> Result<Vec<u8>, FileFault> {
-        if !mark_read(&mut self.unread, name) {
-            self.has_reread = true;
+        match Vec::from_slice(self.alloc, self.find(name)?) {
+            Ok(bytes) => Ok(bytes),
+            Err(_) => Err(FileFault::NoMemory),
         }
-        match find_file(self.files, name) {
-            Some(bytes) => read_bytes(self.alloc, bytes),
-            None => Err(FileFault::Refused),
+    }
+
+    fn read_pieces(
+        &mut self,
+        alloc: Global,
+        name: &str,
+        _most: usize,
+    ) -> Result<Vec<Vec<u8>>, FileFault> {
+        match in_pieces(alloc, self.find(name)?) {
+            Ok(pieces) => Ok(pieces),
+            Err(_) => Err(FileFault::NoMemory),
         }
     }
 
@@ -81,12 +106,33 @@ impl FileReader for CaseFiles<'_> {
     }
 }
 
-fn read_bytes(alloc: Global, bytes: &[u8]) -> Result<Vec<u8>, FileFault> {
-    if bytes == NO_MEMORY {
-        return Err(FileFault::NoMemory);
+/// The bytes of a file in pieces of a few lines each.
+fn in_pieces(alloc: Global, bytes: &[u8]) -> Result<Vec<Vec<u8>>, AllocError> {
+    let mut pieces = Vec::new(alloc);
+    let mut rest = bytes;
+    for _ in 0..bytes.len() {
+        let Some(at) = piece_end(rest) else {
+            break;
+        };
+        pieces.push(Vec::from_slice(alloc, &rest[..at])?)?;
+        rest = &rest[at + 1..];
     }
-    match Vec::from_slice(alloc, bytes) {
-        Ok(bytes) => Ok(bytes),
-        Err(_) => Err(FileFault::NoMemory),
+    pieces.push(Vec::from_slice(alloc, rest)?)?;
+    Ok(pieces)
+}
+
+/// The place of the line feed that ends the first piece of a text. `None` if all of the text is one piece.
+fn piece_end(text: &[u8]) -> Option<usize>
+    ensures { IfSome result (λ at. at < length text.now) }
+{
+    let mut left = PIECE;
+    for at in 0..text.len() {
+        if text[at] == b'\n' {
+            left = left.saturating_sub(1);
+            if left == 0 {
+                return Some(at);
+            }
+        }
     }
+    None
 }

@@ -48,6 +48,7 @@ pub use a429_arguments::requests::Asked;
 pub use a429_console::answered::Answered;
 pub use a429_console::files::disk::DiskFiles;
 pub use a429_console::files::memory::MemoryFiles;
+pub use a429_console::files::pieces::in_one_piece;
 pub use a429_console::files::shown::ShownFiles;
 pub use a429_console::files::{FileFault, FileReader, FileTrouble, LARGEST_FILE};
 pub use a429_console::hints::Hints;

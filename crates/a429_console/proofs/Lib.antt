@@ -1,5 +1,6 @@
 pub mod Endings
 pub mod KindReplies
+pub mod Pieces
 pub mod ReadingParts
 pub mod Refused
 pub mod RefusalEndings

@@ -4,7 +4,7 @@ use Rattle.std.specs.Char.{is_control}
 use Rattle.std.specs.List.{AllZip}
 use Rattle.std.specs.declared.vec.Vec.{Vec}
 use Rattle.std.specs.declared.alloc.Global.{Global}
-use Rattle.a429_console.specs.Files.{bytes_of}
+use Rattle.a429_console.specs.Files.{bytes_of, logs_of}
 use Rattle.a429_console.specs.RefusalText.{OrMemory}
 use Rattle.a429_console.specs.declared.refusals.CommandRefusal.{CommandRefusal}
 use Rattle.a429_console.specs.declared.refusals.CommandRefusal.TheVariants as refused
@@ -64,20 +64,22 @@ IsFirstUnread file names refusal = IsFirstUnreadIn largest_file file names refus
 abbrev pub IsFirstUnreadLog : (List ℕ → Option (List ℕ)) → List (List ℕ) → CommandRefusal → Type 0
 IsFirstUnreadLog file names refusal = IsFirstUnreadIn largest_log file names refusal
 
--- what reading a file gives: its bytes, or that it cannot be read
-abbrev pub IsReadingIn : ℕ → (List ℕ → Option (List ℕ)) → List ℕ → Result (Vec ℕ Global) CommandRefusal → Type 0
-IsReadingIn most file name result = MatchResult result (λ bytes. readable_in most (file name) ≡ Some bytes.items) (OrMemory (IsFileRefusalIn most file name))
+-- what reading a file gives, of which `text` is what is kept: the text of the file, or that it cannot be read
+abbrev pub IsReadingOf : {X : Type 0} → (X → List ℕ) → ℕ → (List ℕ → Option (List ℕ)) → List ℕ → Result X CommandRefusal → Type 0
+IsReadingOf text most file name result = MatchResult result (λ kept. readable_in most (file name) ≡ Some (text kept)) (OrMemory (IsFileRefusalIn most file name))
 
+-- its bytes
 abbrev pub IsReading : (List ℕ → Option (List ℕ)) → List ℕ → Result (Vec ℕ Global) CommandRefusal → Type 0
-IsReading file name result = IsReadingIn largest_file file name result
+IsReading file name result = IsReadingOf {X = Vec ℕ Global} (λ bytes. bytes.items) largest_file file name result
 
--- what reading several files gives: their bytes, or the first that cannot be read
-abbrev pub AreReadingsIn : ℕ → (List ℕ → Option (List ℕ)) → List (List ℕ) → Result (Vec (Vec ℕ Global) Global) CommandRefusal → Type 0
-AreReadingsIn most file names result = MatchResult result (λ all. AreReadIn most file names (bytes_of all.items)) (OrMemory (IsFirstUnreadIn most file names))
+-- what reading several files gives: their texts, or the first that cannot be read
+abbrev pub AreReadingsOf : {X : Type 0} → (X → List ℕ) → ℕ → (List ℕ → Option (List ℕ)) → List (List ℕ) → Result (Vec X Global) CommandRefusal → Type 0
+AreReadingsOf text most file names result = MatchResult result (λ all. AreReadIn most file names (map text all.items)) (OrMemory (IsFirstUnreadIn most file names))
 
+-- their bytes
 abbrev pub AreReadings : (List ℕ → Option (List ℕ)) → List (List ℕ) → Result (Vec (Vec ℕ Global) Global) CommandRefusal → Type 0
-AreReadings file names result = AreReadingsIn largest_file file names result
+AreReadings file names result = MatchResult result (λ all. AreRead file names (bytes_of all.items)) (OrMemory (IsFirstUnread file names))
 
--- and logs
-abbrev pub AreLogReadings : (List ℕ → Option (List ℕ)) → List (List ℕ) → Result (Vec (Vec ℕ Global) Global) CommandRefusal → Type 0
-AreLogReadings file names result = AreReadingsIn largest_log file names result
+-- and what reading logs gives, each in pieces
+abbrev pub AreLogReadings : (List ℕ → Option (List ℕ)) → List (List ℕ) → Result (Vec (Vec (Vec ℕ Global) Global) Global) CommandRefusal → Type 0
+AreLogReadings file names result = MatchResult result (λ all. AreReadLogs file names (logs_of all.items)) (OrMemory (IsFirstUnreadLog file names))

@@ -5,6 +5,8 @@ use Rattle.std.specs.List.{AllByRecursion}
 use Rattle.std.proofs.Common.{subst}
 use Rattle.std.specs.declared.vec.Vec.{Vec}
 use Rattle.std.specs.declared.alloc.Global.{Global}
+use Rattle.a429_logs.specs.Logs.{joined}
+use Rattle.a429_console.specs.Files.{bytes_of}
 use Rattle.a429_console.specs.declared.files.FileFault.{FileFault}
 use Rattle.a429_console.specs.declared.files.FileFault.TheVariants as fault
 
@@ -13,10 +15,18 @@ pub record Reading : Type 0 where
   pub name : List ℕ
   pub answer : Result (List ℕ) FileFault
 
--- the bytes of a file that was read, or why there are none
+-- the text of what is kept of a file that was read, or why there is none
+abbrev pub answer_by : {X : Type 0} → (X → List ℕ) → Result X FileFault → Result (List ℕ) FileFault
+answer_by text (Ok kept) = Ok (text kept)
+answer_by text (Err e) = Err e
+
+-- its bytes
 abbrev pub answer_of : Result (Vec ℕ Global) FileFault → Result (List ℕ) FileFault
-answer_of (Ok bytes) = Ok bytes.items
-answer_of (Err e) = Err e
+answer_of answer = answer_by (λ bytes. bytes.items) answer
+
+-- its bytes in pieces
+abbrev pub pieces_answer : Result (Vec (Vec ℕ Global) Global) FileFault → Result (List ℕ) FileFault
+pieces_answer answer = answer_by (λ pieces. joined (bytes_of pieces.items)) answer
 
 -- these calls were answered so, one after another, from what the reader was to what it is; each call is as Answers says
 abbrev pub AreAnswered : {S : Type 0} → (S → List ℕ → Result (List ℕ) FileFault → S → Type 0) → S → List Reading → S → Type 0

@@ -1,14 +1,19 @@
 //! Files by name.
 ghost use Rattle.std.specs.Prelude.{◌≡◌, Bool, List, ℕ, Option, Some, None, Result, IsTrue, IfOk, Err};
-ghost use Rattle.a429_console.specs.Readings.{IsAnswerOf, answer_of};
+ghost use Rattle.a429_logs.specs.Logs.{joined};
+ghost use Rattle.a429_console.specs.Files.{bytes_of};
+ghost use Rattle.a429_console.specs.Readings.{IsAnswerOf, answer_of, pieces_answer};
 ghost use Rattle.a429_console.specs.declared.files.FileFault.{FileFault};
 
+mod contents;
 pub mod disk;
 pub mod lines;
 pub mod memory;
+pub mod pieces;
 pub mod reading;
 pub mod shown;
 
+use std::alloc::Global;
 use thiserror::Error;
 
 /// How many bytes a file may have: 16 MiB (profile).
@@ -59,6 +64,21 @@ pub trait FileReader {
     fn read(&mut self, name: &str, most: usize) -> Result<Vec<u8>, FileFault>
         ensures answered { answers self.old name.now (answer_of result) self.new }
         ensures bytes { IsTrue (tells self.old) → IfOk result (λ bytes. file self.old name.now ≡ Some bytes.items) }
+        ensures refused { IsTrue (tells self.old) → result ≡ Err FileFault.Refused → file self.old name.now ≡ None }
+        ensures tells { tells self.new ≡ tells self.old }
+        ensures keeps { (other : List ℕ) → file self.new other ≡ file self.old other };
+
+    /// All bytes of a file, in pieces: there is a line feed between each two. A reader may refuse a file of more than `most`
+    /// bytes. Error: `Refused` if there are none, or `NoMemory`.
+    fn read_pieces(
+        &mut self,
+        alloc: Global,
+        name: &str,
+        most: usize,
+    ) -> Result<Vec<Vec<u8>>, FileFault>
+        ensures answered { answers self.old name.now (pieces_answer result) self.new }
+        ensures bytes { IsTrue (tells self.old)
+            → IfOk result (λ pieces. file self.old name.now ≡ Some (joined (bytes_of pieces.items))) }
         ensures refused { IsTrue (tells self.old) → result ≡ Err FileFault.Refused → file self.old name.now ≡ None }
         ensures tells { tells self.new ≡ tells self.old }
         ensures keeps { (other : List ℕ) → file self.new other ≡ file self.old other };

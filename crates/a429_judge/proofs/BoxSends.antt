@@ -1,6 +1,6 @@
 -- The slots of a right box, its sends and their intervals.
 use Rattle.std.proofs.Common.{◌≡◌, ℕ, zero, suc, ◌+◌, ◌-◌, ◌*◌, ◌<◌, ◌≤◌, List, [], ◌∷◌, length, drop, get_or, Bool, true, false, true≢false, refl, sym, ap, ◌∙◌, inl, inr, ◌⊎◌, arith, length-drop}
-use Rattle.std.specs.Prelude.{nat_lt, not, slice_get}
+use Rattle.std.specs.Prelude.{nat_lt, slice_get}
 use Rattle.std.specs.List.{list_any}
 use Rattle.std.specs.Option.{option_map_or}
 use Rattle.std.proofs.Math.Nat.{mul-le-mul_right, mul-lt-mul_of_pos_right, le_of_mul-le-mul_right, one-le-mul}
@@ -10,7 +10,7 @@ use Rattle.std.proofs.lemmas.List.{get_or-drop, get_or_default}
 use Rattle.a429_judge.specs.declared.facts.Facts.{Facts}
 use Rattle.a429_judge.specs.declared.facts.Mark.{Mark}
 use Rattle.a429_judge.specs.declared.facts.Span.{Span}
-use Rattle.a429_judge.specs.Judging.{is_by, is_known, is_past, is_right, is_twice, mark_at, no_mark, since, time_at, value_findings}
+use Rattle.a429_judge.specs.Judging.{is_by, is_known, is_past, is_right, is_twice, mark_at, no_mark, time_at, value_findings}
 use Rattle.a429_judge.specs.Laws.{AreNear, ArePlanned, AreSlots, IsRightBox, length_of}
 use Rattle.a429_judge.proofs.Scanning.{any_at, false_unless, right_here, none_at, right_from, right_value, step_at, twice_from, unknown_value}
 

@@ -1,9 +1,12 @@
 pub mod BoxSends
 pub mod ByBits
 pub mod Firsts
+pub mod Kept
+pub mod Labels
 pub mod Logs
 pub mod RecordedBoxes
 pub mod RightBoxes
 pub mod RightWords
 pub mod Scanning
 pub mod SlotSends
+pub mod Unsent

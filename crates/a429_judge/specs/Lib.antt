@@ -1,10 +1,12 @@
 pub mod Figures
 pub mod Judgements
 pub mod Judging
+pub mod Keeping
 pub mod Known
 pub mod Laws
 pub mod Machine
 pub mod RecordExample
 pub mod Recordings
 pub mod Rows
+pub mod Told
 pub mod Tolerance

@@ -1,8 +1,10 @@
 -- The logs of a box, and which words of them are an output's (profile: docs/FORMATS.md, Output of `judge`).
-use Rattle.std.specs.Prelude.{ℕ, ◌-◌, ◌==◌, ◌&&◌, ◌≤◌, List, [], ◌∷◌, ◌++◌, Bool, Option, None, Some, true, count_by, filter, length, map, max, not, slice_get, slice_index_or}
+use Rattle.std.specs.Prelude.{ℕ, ◌-◌, ◌==◌, ◌&&◌, ◌≡◌, ◌<◌, ◌≤◌, List, [], ◌∷◌, ◌++◌, Bool, Option, None, Some, true, count_by, filter, length, map, max, nat_le, not, slice_get, slice_index_or}
 use Rattle.std.specs.List.{find, list_any}
 use Rattle.std.specs.List.Sorted.{IsNonDecreasingBy}
 use Rattle.std.specs.Option.{option_map_or}
+use Rattle.std.specs.declared.vec.Vec.{Vec}
+use Rattle.std.specs.declared.alloc.Global.{Global}
 use Rattle.a429_word.specs.Bits.{has_odd_parity, label_of, sdi_of}
 use Rattle.a429_judge.specs.declared.duties.Duty.{Duty}
 use Rattle.a429_judge.specs.declared.duties.Heard.{Heard}
@@ -98,3 +100,42 @@ pub record IsKept (r : Recording) : Type 0 where
   pub heard_last : (d : Heard) → 1 ≤ length r.heard → (slice_index_or r.heard (length r.heard - 1) d).mark.time ≤ r.last_heard
   pub sent : IsNonDecreasingBy (λ (w : Sent). w.mark.time) r.sent
   pub sent_last : (d : Sent) → 1 ≤ length r.sent → (slice_index_or r.sent (length r.sent - 1) d).mark.time ≤ r.last_sent
+
+-- ---- the words that a judge notes
+
+-- The outputs that are judged, by their groups; the words that were noted; and whether no word came before the one before it in its log.
+pub record JudgedLogs : Type 0 where
+  pub duties : List (List Duty)
+  pub noted : Recording
+  pub in_order : Bool
+
+-- the outputs of a group; a group that there is not has none
+abbrev pub group_at : List (List Duty) → ℕ → List Duty
+group_at duties g = slice_index_or duties g []
+
+-- each output of a list is of the group with the number of the list
+abbrev pub AreOfGroups : List (List Duty) → Type 0
+AreOfGroups duties = (g o : ℕ) → g < length duties → o < length (group_at duties g) → (duty_at (group_at duties g) o).group ≡ g
+
+abbrev pub lists_of : List (Vec Duty Global) → List (List Duty)
+lists_of duties = map (λ ds. ds.items) duties
+
+-- no word was noted
+abbrev pub nothing_noted : List (List Duty) → JudgedLogs
+nothing_noted duties = record { duties = duties; noted = no_words; in_order = true }
+
+-- one more word that came in, accepted by this source, or by none
+abbrev pub hear : Option ℕ → Mark → JudgedLogs → JudgedLogs
+hear source mark j = record {
+  duties = j.duties;
+  noted = with_heard source mark j.noted;
+  in_order = j.in_order && nat_le j.noted.last_heard mark.time;
+}
+
+-- one more word that was sent
+abbrev pub send : Sent → JudgedLogs → JudgedLogs
+send word j = record {
+  duties = j.duties;
+  noted = with_sent word j.noted;
+  in_order = j.in_order && nat_le j.noted.last_sent word.mark.time;
+}

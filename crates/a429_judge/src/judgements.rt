@@ -1,15 +1,15 @@
 //! What is said of an output.
-ghost use Rattle.std.specs.Prelude.{◌≡◌, ◌<◌, length, IfOk};
+ghost use Rattle.std.specs.Prelude.{◌≡◌, ◌<◌, ◌↔◌, length, false, IfOk, IsErrOf};
 ghost use Rattle.std.specs.List.Sorted.{IsNonDecreasingBy};
 ghost use Rattle.a429_judge.specs.Figures.{delays, greatest_of, intervals, least_of};
-ghost use Rattle.a429_judge.specs.Judgements.{accepted_by, found_at, found_by, is_alike, judgement_by, judgement_of, known_sends, quiet_verdict, sent_by, verdict_of};
-ghost use Rattle.a429_judge.specs.Recordings.{foreign_of, overlapping};
+ghost use Rattle.a429_judge.specs.Judgements.{found_at, found_by, is_alike, judgement_by, judgement_of, known_sends, quiet_verdict, verdict_of};
+ghost use Rattle.a429_judge.specs.Recordings.{duty_at, group_at, overlapping};
 
 use crate::duties::Duty;
 use crate::facts::{Facts, Mark, Span};
 use crate::figures::{count_of, delays, greatest_of, intervals, least_of};
 use crate::findings::{Finding, Kind, findings};
-use crate::recordings::Judge;
+use crate::recordings::{Judge, JudgeFault};
 use crate::windows::is_known;
 use a429_text::Gathered;
 use std::alloc::{AllocError, Global};
@@ -210,46 +210,71 @@ fn judgement_by(
     })
 }
 
+/// The judgement of an output with these words. Error: an allocation failed.
+fn judge_words(
+    alloc: Global,
+    duties: &[Duty],
+    duty: &Duty,
+    span: &Span,
+    accepted: &[Mark],
+    sends: &[Mark],
+) -> Result<Judgement, AllocError>
+    requires accepted { IsNonDecreasingBy (λ (a : Mark). a.time) accepted.now }
+    requires sends { IsNonDecreasingBy (λ (s : Mark). s.time) sends.now }
+    ensures { IfOk result (λ j. j ≡ judgement_by duties.now duty.now span.now accepted.now sends.now
+        (found_by duties.now duty.now span.now accepted.now sends.now)) }
+{
+    let found = found_by(alloc, duties, duty, span, accepted, sends)?;
+    let found = found.as_slice()?;
+    judgement_by(alloc, duties, duty, span, accepted, sends, found)
+}
+
 impl Judge {
-    /// What is found at an output of a group with these outputs: at its sends in their order, after the last one, and then at
-    /// the words that it missed. Nothing is found at an output that is alike another. Error: an allocation failed.
+    /// What is found at an output of a group: at its sends in their order, after the last one, and then at the words that it
+    /// missed. Nothing is found at an output that is alike another. Errors: a word came before the one before it in its log;
+    /// an allocation failed.
     pub fn found(
         &self,
         alloc: Global,
-        duties: &[Duty],
-        duty: &Duty,
-    ) -> Result<Gathered<Finding>, AllocError>
-        ensures { IfOk result (λ found. found ≡ found_at duties.now duty.now self.now) }
+        group: usize,
+        output: usize,
+    ) -> Result<Gathered<Finding>, JudgeFault>
+        requires { output < length (group_at self.now.duties group) }
+        ensures found { IfOk result (λ found. found ≡ found_at (group_at self.now.duties group)
+            (duty_at (group_at self.now.duties group) output) self.now.noted) }
+        ensures falls { IsErrOf result JudgeFault.TimesFall ↔ (self.now.in_order ≡ false) }
     {
-        let accepted = self.accepted(alloc, duty.source);
-        let sends = self.sends(alloc, duty);
-        let span = self.span(duty.group);
-        let (accepted, sends) = (accepted.as_slice()?, sends.as_slice()?);
-        found_by(alloc, duties, duty, &span, accepted, sends)
+        if !self.is_in_order() {
+            return Err(JudgeFault::TimesFall);
+        }
+        let accepted = self.accepted(group, output)?;
+        let sends = self.sends(group, output)?;
+        let duties = self.duties(group);
+        let span = self.span(group, output);
+        let found = found_by(alloc, duties, &duties[output], &span, accepted, sends)?;
+        Ok(found)
     }
 
-    /// What is said of an output of a group with these outputs. Error: an allocation failed.
+    /// What is said of an output of a group. Errors: a word came before the one before it in its log; an allocation failed.
     pub fn judgement(
         &self,
         alloc: Global,
-        duties: &[Duty],
-        duty: &Duty,
-    ) -> Result<Judgement, AllocError>
-        ensures { IfOk result (λ judgement. judgement ≡ judgement_of duties.now duty.now self.now) }
+        group: usize,
+        output: usize,
+    ) -> Result<Judgement, JudgeFault>
+        requires { output < length (group_at self.now.duties group) }
+        ensures judgement { IfOk result (λ judgement. judgement ≡ judgement_of (group_at self.now.duties group)
+            (duty_at (group_at self.now.duties group) output) self.now.noted) }
+        ensures falls { IsErrOf result JudgeFault.TimesFall ↔ (self.now.in_order ≡ false) }
     {
-        let accepted = self.accepted(alloc, duty.source);
-        let sends = self.sends(alloc, duty);
-        let span = self.span(duty.group);
-        let (accepted, sends) = (accepted.as_slice()?, sends.as_slice()?);
-        let found = found_by(alloc, duties, duty, &span, accepted, sends)?;
-        judgement_by(
-            alloc,
-            duties,
-            duty,
-            &span,
-            accepted,
-            sends,
-            found.as_slice()?,
-        )
+        if !self.is_in_order() {
+            return Err(JudgeFault::TimesFall);
+        }
+        let accepted = self.accepted(group, output)?;
+        let sends = self.sends(group, output)?;
+        let duties = self.duties(group);
+        let span = self.span(group, output);
+        let judgement = judge_words(alloc, duties, &duties[output], &span, accepted, sends)?;
+        Ok(judgement)
     }
 }

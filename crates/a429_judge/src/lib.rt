@@ -4,13 +4,13 @@
 //! ones, and whether their times are those of its plan. Times may be wrong by the tolerance.
 //!
 //! ```text
-//! let mut judge = Judge::new(alloc);
-//! judge.heard(Some(0), mark(1000)).expect(rt, "a word");
-//! judge.sent(sent(1440)).expect(rt, "a word");
+//! let outputs = vec![in alloc; DUTY].expect(rt, "outputs");
+//! let groups = vec![in alloc; outputs].expect(rt, "groups");
+//! let mut judge = Judge::new(alloc, groups).expect(rt, "a judge");
+//! judge.heard(Some(0), mark(1000));
+//! judge.sent(sent(1440));
 //! ..
-//! let judgement = judge
-//!     .judgement(alloc, &[DUTY], &DUTY)
-//!     .expect(rt, "a judgement");
+//! let judgement = judge.judgement(alloc, 0, 0).expect(rt, "a judgement");
 //! ```
 #![tactic(auto)]
 
@@ -18,17 +18,21 @@ mod duties;
 mod facts;
 mod figures;
 mod findings;
+mod groups;
 mod holds;
 mod judgements;
 mod known;
 pub mod laws;
+mod outputs;
 mod recordings;
 mod rows;
+mod told;
 mod windows;
 
 pub use duties::{Duty, Heard, Sent};
 pub use facts::{Facts, Mark, Span, default_tolerance};
 pub use findings::{Finding, Kind};
 pub use judgements::{Judgement, Verdict};
-pub use recordings::{Judge, NoteFault};
+pub use recordings::{Judge, JudgeFault};
 pub use rows::{COLUMNS, add_foreign_row, add_output_row};
+pub use told::Told;

@@ -1,233 +1,260 @@
 //! The logs of a box.
-ghost use Rattle.std.specs.Prelude.{◌≡◌, ◌==◌, ◌<◌, ◌++◌, ◌↔◌, if◌then◌else◌, ◌∷◌, [], option_map, OnOk, OnErr, IsErrOf};
-ghost use Rattle.std.specs.List.{find, list_any};
-ghost use Rattle.std.specs.List.Sorted.{IsNonDecreasingBy};
-ghost use Rattle.a429_judge.specs.Recordings.{accepted_of, first_sent, fits, foreign_of, heard_by, is_foreign, no_words, sends_of, span_of, with_heard, with_sent};
+ghost use Rattle.std.specs.Prelude.{◌≡◌, ◌<◌, ◌≤◌, ◌++◌, ◌∷◌, ◌&&◌, [], List, ℕ, length, nat_le, IfOk, true};
+ghost use Rattle.a429_judge.specs.declared.duties.Heard.{Heard as HeardWord};
+ghost use Rattle.a429_judge.specs.declared.duties.Sent.{Sent as SentWord};
+ghost use Rattle.a429_judge.specs.Judgements.{accepted_by, sent_by};
+ghost use Rattle.a429_judge.specs.Keeping.{AreAccepted, AreAllBelow, AreEmpty, AreGroups, AreUnsent, outputs_of};
+ghost use Rattle.a429_judge.specs.Recordings.{AreOfGroups, IsKept, duty_at, foreign_of, group_at, hear, heard_by, lists_of, nothing_noted, send, span_of};
 
 use crate::duties::{Duty, Heard, Sent};
 use crate::facts::{Mark, Span};
+use crate::groups::{Group, add_lists};
+use crate::told::Told;
 use a429_text::Gathered;
 use std::alloc::{AllocError, Global};
 use std::marker::Model;
 use thiserror::Error;
 
-/// Why a word of a log was not noted. Then nothing is changed.
+/// Why an output is not judged.
 #[derive(Clone, Copy, Debug, PartialEq, Eq, Error)]
-pub enum NoteFault {
-    /// An allocation failed.
+pub enum JudgeFault {
+    /// An allocation failed, now or when a word was noted.
     #[error("out of memory")]
     NoMemory,
-    /// The word is before the last word of its log.
+    /// A word that was noted is before the one before it in its log.
     #[error("the times of a log do not fall")]
-    TimeFalls,
+    TimesFall,
 }
 
-/// Two logs on one clock: what came in, and what was sent.
+impl From<AllocError> for JudgeFault {
+    ghost use Rattle.std.specs.Prelude.{◌≡◌};
+    ghost use Rattle.a429_judge.specs.declared.recordings.JudgeFault.TheVariants.{NoMemory};
+
+    ghost from_gives = { λ _ e. e ≡ NoMemory };
+
+    fn from(_error: AllocError) -> JudgeFault {
+        JudgeFault::NoMemory
+    }
+}
+
+/// Two logs on one clock: what came in, and what was sent. Each word is kept with the output that it is of.
 #[derive(Drop)]
 pub struct Judge {
-    heard: Vec<Heard>,
+    groups: Vec<Group>,
+    /// By source: the words that it accepted.
+    accepted: Vec<Gathered<Mark>>,
+    /// The time of the first word that was sent.
+    first: Option<u64>,
     last_heard: u64,
-    sent: Vec<Sent>,
     last_sent: u64,
+    in_order: bool,
+    all_heard: Told<Heard>,
+    all_sent: Told<Sent>,
 }
 
 impl Model for Judge {
-    ghost use Rattle.a429_judge.specs.Recordings.{IsKept, Recording};
+    ghost use Rattle.a429_judge.specs.Recordings.{JudgedLogs};
 
-    ghost Value = { Recording };
+    ghost Value = { JudgedLogs };
 
-    ghost view = { λ j. record { heard = j.heard.items; last_heard = j.last_heard; sent = j.sent.items; last_sent = j.last_sent } };
+    ghost use Rattle.a429_judge.specs.Keeping.{AreKept, outputs_of};
 
-    ghost invariant = { λ j. IsKept (record { heard = j.heard.items; last_heard = j.last_heard; sent = j.sent.items; last_sent = j.last_sent }) };
+    ghost view = { λ j. record {
+      duties = outputs_of j.groups.items;
+      noted = record { heard = j.all_heard; last_heard = j.last_heard; sent = j.all_sent; last_sent = j.last_sent };
+      in_order = j.in_order;
+    } };
+
+    ghost invariant = { λ j. AreKept j.groups.items j.accepted.items j.first j.in_order
+        (record { heard = j.all_heard; last_heard = j.last_heard; sent = j.all_sent; last_sent = j.last_sent }) };
 }
 
-/// Adds a word that a source accepted. Error: an allocation failed.
-fn add_heard(heard: &mut Vec<Heard>, source: Option<usize>, mark: Mark) -> Result<(), AllocError>
-    ensures ok { OnOk result (heard.new.items ≡ heard.old.items ++ heard_by source mark) }
-    ensures err { OnErr result (heard.new.items ≡ heard.old.items) }
+/// The greatest number of a source of these outputs, or this one if it is greater.
+fn greatest_source(duties: &[Duty], least: usize) -> usize
+    ensures least { least ≤ result }
+    ensures sources { (o : ℕ) → o < length duties.now → (duty_at duties.now o).source ≤ result }
+{
+    let mut greatest = least;
+    for duty in duties {
+        greatest = greatest.max(duty.source);
+    }
+    greatest
+}
+
+/// The greatest number of a source.
+fn last_source(duties: &[Vec<Duty>]) -> usize
+    ensures { (g o : ℕ) → o < length (group_at (lists_of duties.now) g) → (duty_at (group_at (lists_of duties.now) g) o).source ≤ result }
+{
+    let mut greatest = 0;
+    for list in duties {
+        greatest = greatest_source(list, greatest);
+    }
+    greatest
+}
+
+/// A list for each source, without words. Error: an allocation failed.
+fn source_lists(alloc: Global, duties: &[Vec<Duty>]) -> Result<Vec<Gathered<Mark>>, AllocError>
+    ensures empty { IfOk result (λ lists. AreEmpty lists.items) }
+    ensures below { IfOk result (λ lists. AreAllBelow (length lists.items) (lists_of duties.now)) }
+{
+    let mut lists = Vec::new(alloc);
+    lists.push(Gathered::new(alloc))?;
+    add_lists(alloc, &mut lists, last_source(duties))?;
+    Ok(lists)
+}
+
+/// The groups, without words. Error: an allocation failed.
+fn empty_groups(alloc: Global, duties: Vec<Vec<Duty>>) -> Result<Vec<Group>, AllocError>
+    ensures { IfOk result (λ groups. AreUnsent (lists_of duties.items) groups.items) }
+{
+    let mut groups = Vec::new(alloc);
+    for list in duties {
+        groups.push(Group::new(alloc, list)?)?;
+    }
+    Ok(groups)
+}
+
+/// Whether times are still in order, if this one comes after the last one.
+fn stays_in_order(in_order: bool, last: u64, time: u64) -> bool
+    ensures { result ≡ (in_order && nat_le last time) }
+{
+    in_order && last <= time
+}
+
+/// Adds a word to those of the source that accepted it. A source above those of all outputs has no list.
+fn add_accepted(lists: &mut Vec<Gathered<Mark>>, source: Option<usize>, mark: Mark)
+    ensures lists { length lists.new.items ≡ length lists.old.items }
+    ensures words { (heard : List HeardWord) → AreAccepted heard lists.old.items → AreAccepted (heard ++ heard_by source mark) lists.new.items }
+{
+    if let Some(source) = source
+        && source < lists.len()
+    {
+        lists[source].push(mark);
+    }
+}
+
+/// Adds a word that a source accepted to the list that proofs read.
+fn tell_heard(heard: &mut Told<Heard>, source: Option<usize>, mark: Mark)
+    ensures { heard.new ≡ heard.old ++ heard_by source mark }
 {
     if let Some(source) = source {
-        heard.push(Heard { source, mark })?;
-    }
-    Ok(())
-}
-
-/// Adds a word that was sent. Error: an allocation failed.
-fn add_sent(sent: &mut Vec<Sent>, word: Sent) -> Result<(), AllocError>
-    ensures ok { OnOk result (sent.new.items ≡ sent.old.items ++ word ∷ []) }
-    ensures err { OnErr result (sent.new.items ≡ sent.old.items) }
-{
-    sent.push(word)?;
-    Ok(())
-}
-
-/// Adds a word, if it is one of those wanted.
-fn add_if(found: &mut Gathered<Mark>, wanted: bool, mark: Mark)
-    ensures { found.new ≡ found.old ++ (if wanted then mark ∷ [] else []) }
-{
-    if wanted {
-        found.push(mark);
+        heard.push(&Heard { source, mark });
     }
 }
 
-/// The words that a source accepted.
-fn accepted_of(alloc: Global, source: usize, heard: &[Heard]) -> Gathered<Mark>
-    ensures { result ≡ accepted_of source heard.now }
+/// Adds a word to those of its group. A group that is not judged keeps none.
+fn add_sent(groups: &mut Vec<Group>, word: &Sent)
+    ensures outputs { outputs_of groups.new.items ≡ outputs_of groups.old.items }
+    ensures words { (sent : List SentWord) → AreGroups sent groups.old.items → AreGroups (sent ++ word.now ∷ []) groups.new.items }
 {
-    let mut found = Gathered::new(alloc);
-    for word in heard {
-        add_if(&mut found, word.source == source, word.mark);
-    }
-    found
-}
-
-/// The words of an output that were sent.
-fn sends_of(alloc: Global, duty: &Duty, sent: &[Sent]) -> Gathered<Mark>
-    ensures { result ≡ sends_of duty.now sent.now }
-{
-    let mut found = Gathered::new(alloc);
-    for word in sent {
-        add_if(&mut found, duty.fits(word), word.mark);
-    }
-    found
-}
-
-/// Whether a word is of one of these outputs.
-fn has_output(duties: &[Duty], word: &Sent) -> bool
-    ensures { result ≡ list_any (λ d. fits d word.now) duties.now }
-{
-    duties.iter().any(|duty| duty.fits(word))
-}
-
-/// Whether a word of a group is of none of these outputs.
-fn is_foreign(duties: &[Duty], group: usize, word: &Sent) -> bool
-    ensures { result ≡ is_foreign duties.now group word.now }
-{
-    word.group == group && !has_output(duties, word)
-}
-
-/// Adds a word that was sent, if it is one of those wanted.
-fn add_sent_if(found: &mut Gathered<Sent>, wanted: bool, word: Sent)
-    ensures { found.new ≡ found.old ++ (if wanted then word ∷ [] else []) }
-{
-    if wanted {
-        found.push(word);
-    }
-}
-
-/// The words of a group that are of none of these outputs.
-fn foreign_of(alloc: Global, duties: &[Duty], group: usize, sent: &[Sent]) -> Gathered<Sent>
-    ensures { result ≡ foreign_of duties.now group sent.now }
-{
-    let mut found = Gathered::new(alloc);
-    for word in sent {
-        add_sent_if(&mut found, is_foreign(duties, group, word), *word);
-    }
-    found
-}
-
-/// The time of the first word of a group. `None` if there is none.
-fn first_of_group(group: usize, sent: &[Sent]) -> Option<u64>
-    ensures { result ≡ option_map (λ w. w.mark.time) (find (λ w. w.group == group) sent.now) }
-{
-    for word in sent {
-        if word.group == group {
-            return Some(word.mark.time);
-        }
-    }
-    None
-}
-
-/// The time of the first word of a group; if there is none, of the first word, or 0.
-fn first_sent(group: usize, sent: &[Sent]) -> u64
-    ensures { result ≡ first_sent group sent.now }
-{
-    match first_of_group(group, sent) {
-        Some(time) => time,
-        None => match sent.first() {
-            Some(word) => word.mark.time,
-            None => 0,
-        },
+    if word.group < groups.len() {
+        groups[word.group].add_word(word);
     }
 }
 
 impl Judge {
-    /// Logs without words.
-    pub fn new(alloc: Global) -> Judge
-        ensures { result ≡ no_words }
+    /// A judge of the outputs of each group, without words. Error: an allocation failed.
+    pub fn new(alloc: Global, duties: Vec<Vec<Duty>>) -> Result<Judge, AllocError>
+        requires { AreOfGroups (lists_of duties.items) }
+        ensures { IfOk result (λ judge. judge ≡ nothing_noted (lists_of duties.items)) }
     {
-        Judge {
-            heard: Vec::new(alloc),
+        let accepted = source_lists(alloc, &duties)?;
+        Ok(Judge {
+            groups: empty_groups(alloc, duties)?,
+            accepted,
+            first: None,
             last_heard: 0,
-            sent: Vec::new(alloc),
             last_sent: 0,
-        }
+            in_order: true,
+            all_heard: Told::new(),
+            all_sent: Told::new(),
+        })
     }
 
-    /// Notes a word that came in, with the number of the source that accepted it; `None`: no source did. Errors: the time
-    /// is before that of the last word that came in; an allocation failed.
-    pub fn heard(&mut self, source: Option<usize>, mark: Mark) -> Result<(), NoteFault>
-        ensures noted { OnOk result (self.new ≡ with_heard source mark self.old) }
-        ensures kept { OnErr result (self.new ≡ self.old) }
-        ensures falls { IsErrOf result NoteFault.TimeFalls ↔ (mark.time < self.old.last_heard) }
+    /// Notes a word that came in, with the number of the source that accepted it; `None`: no source did.
+    pub fn heard(&mut self, source: Option<usize>, mark: Mark)
+        ensures { self.new ≡ hear source mark self.old }
     {
-        if mark.time < self.last_heard {
-            return Err(NoteFault::TimeFalls);
-        }
-        if add_heard(&mut self.heard, source, mark).is_err() {
-            return Err(NoteFault::NoMemory);
-        }
+        self.in_order = stays_in_order(self.in_order, self.last_heard, mark.time);
         self.last_heard = mark.time;
-        Ok(())
+        add_accepted(&mut self.accepted, source, mark);
+        tell_heard(&mut self.all_heard, source, mark);
     }
 
-    /// Notes a word that was sent. Errors: its time is before that of the last word that was sent; an allocation failed.
-    pub fn sent(&mut self, word: Sent) -> Result<(), NoteFault>
-        ensures noted { OnOk result (self.new ≡ with_sent word self.old) }
-        ensures kept { OnErr result (self.new ≡ self.old) }
-        ensures falls { IsErrOf result NoteFault.TimeFalls ↔ (word.mark.time < self.old.last_sent) }
+    /// Notes a word that was sent.
+    pub fn sent(&mut self, word: Sent)
+        ensures { self.new ≡ send word self.old }
     {
-        if word.mark.time < self.last_sent {
-            return Err(NoteFault::TimeFalls);
-        }
-        if add_sent(&mut self.sent, word).is_err() {
-            return Err(NoteFault::NoMemory);
-        }
+        self.in_order = stays_in_order(self.in_order, self.last_sent, word.mark.time);
         self.last_sent = word.mark.time;
-        Ok(())
+        self.first = self.first.or(Some(word.mark.time));
+        add_sent(&mut self.groups, &word);
+        self.all_sent.push(&word);
     }
 
-    /// The words that a source accepted, in order.
-    pub fn accepted(&self, alloc: Global, source: usize) -> Gathered<Mark>
-        ensures words { result ≡ accepted_of source self.now.heard }
-        ensures times { IsNonDecreasingBy (λ (a : Mark). a.time) result }
+    /// How many groups it has.
+    pub fn groups(&self) -> usize
+        ensures { result ≡ length self.now.duties }
     {
-        accepted_of(alloc, source, &self.heard)
+        self.groups.len()
     }
 
-    /// The words of an output that were sent, in order.
-    pub fn sends(&self, alloc: Global, duty: &Duty) -> Gathered<Mark>
-        ensures words { result ≡ sends_of duty.now self.now.sent }
-        ensures times { IsNonDecreasingBy (λ (s : Mark). s.time) result }
+    /// The outputs of a group, in their order. A group that there is not has none.
+    pub fn duties(&self, group: usize) -> &[Duty]
+        ensures { result.now ≡ group_at self.now.duties group }
     {
-        sends_of(alloc, duty, &self.sent)
+        match self.groups.get(group) {
+            Some(group) => group.outputs(),
+            None => &[],
+        }
     }
 
-    /// The words of a group that are of none of these outputs, in order.
-    pub fn foreign(&self, alloc: Global, duties: &[Duty], group: usize) -> Gathered<Sent>
-        ensures { result ≡ foreign_of duties.now group self.now.sent }
+    /// Whether no word came before the one before it in its log.
+    pub(crate) fn is_in_order(&self) -> bool
+        ensures order { result ≡ self.now.in_order }
+        ensures kept { result ≡ true → IsKept self.now.noted }
     {
-        foreign_of(alloc, duties, group, &self.sent)
+        self.in_order
     }
 
-    /// What the logs show of a group.
-    pub fn span(&self, group: usize) -> Span
-        ensures { result ≡ span_of group self.now }
+    /// The words that the source of an output accepted, in order. Error: an allocation failed when one was noted.
+    pub(crate) fn accepted(&self, group: usize, output: usize) -> Result<&[Mark], AllocError>
+        requires { output < length (group_at self.now.duties group) }
+        ensures { IfOk result (λ words. words.now ≡ accepted_by (duty_at (group_at self.now.duties group) output) self.now.noted) }
     {
+        let group = &self.groups[group];
+        let source = group.outputs()[output].source;
+        self.accepted[source].as_slice()
+    }
+
+    /// The words of an output that were sent, in order. Error: an allocation failed when one was noted.
+    pub(crate) fn sends(&self, group: usize, output: usize) -> Result<&[Mark], AllocError>
+        requires { output < length (group_at self.now.duties group) }
+        ensures { IfOk result (λ words. words.now ≡ sent_by (duty_at (group_at self.now.duties group) output) self.now.noted) }
+    {
+        let group = &self.groups[group];
+        group.sends(output)
+    }
+
+    /// What the logs show of the group of an output.
+    pub(crate) fn span(&self, group: usize, output: usize) -> Span
+        requires { output < length (group_at self.now.duties group) }
+        ensures { result ≡ span_of (duty_at (group_at self.now.duties group) output).group self.now.noted }
+    {
+        let group = &self.groups[group];
         Span {
-            first: first_sent(group, &self.sent),
+            first: group.first().or(self.first).unwrap_or(0),
             heard: self.last_heard,
             last: self.last_heard.max(self.last_sent),
         }
+    }
+
+    /// The words of a group that are of none of its outputs, in order. Error: an allocation failed when one was noted.
+    pub fn foreign(&self, group: usize) -> Result<&[Sent], AllocError>
+        requires { group < length self.now.duties }
+        ensures { IfOk result (λ words. words.now ≡ foreign_of (group_at self.now.duties group) group self.now.noted.sent) }
+    {
+        let group = &self.groups[group];
+        group.foreign()
     }
 }

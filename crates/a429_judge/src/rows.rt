@@ -1,13 +1,13 @@
 //! The rows of judgements.
-ghost use Rattle.std.specs.Prelude.{◌≡◌, ◌<◌, ◌++◌, ◌∷◌, [], length, map, OnOk};
+ghost use Rattle.std.specs.Prelude.{◌≡◌, ◌<◌, ◌++◌, ◌∷◌, ◌↔◌, [], false, length, map, IsErrOf, OnOk};
 ghost use Rattle.a429_text.specs.Sheets.{field_of};
+ghost use Rattle.a429_judge.specs.Recordings.{group_at};
 ghost use Rattle.a429_judge.specs.Rows.{figure_field, foreign_row, foreign_verdict, group_rows, output_row, row_at, verdict_text};
 
-use crate::duties::Duty;
 use crate::judgements::{Judgement, Verdict};
-use crate::recordings::Judge;
+use crate::recordings::{Judge, JudgeFault};
 use a429_text::{Cell, Rows};
-use std::alloc::{AllocError, Global};
+use std::alloc::Global;
 
 /// The names of the columns.
 pub const COLUMNS: &[&str] = &[
@@ -135,23 +135,24 @@ impl Judge {
         &self,
         rows: &mut Rows,
         alloc: Global,
+        number: usize,
         group: &str,
         names: &[&str],
-        duties: &[Duty],
         place: usize,
-    ) -> Result<(), AllocError>
-        requires within { place < length duties.now }
-        requires named { length names.now ≡ length duties.now }
-        ensures { OnOk result (rows.new ≡ rows.old ++ row_at group.now (map (λ n. n.now) names.now) duties.now self.now place) }
+    ) -> Result<(), JudgeFault>
+        requires within { place < length (group_at self.now.duties number) }
+        requires named { length names.now ≡ length (group_at self.now.duties number) }
+        ensures row { OnOk result (rows.new ≡ rows.old
+            ++ row_at group.now (map (λ n. n.now) names.now) (group_at self.now.duties number) self.now.noted place) }
+        ensures falls { IsErrOf result JudgeFault.TimesFall ↔ (self.now.in_order ≡ false) }
     {
-        let duty = duties[place];
-        let judgement = self.judgement(alloc, duties, &duty)?;
+        let judgement = self.judgement(alloc, number, place)?;
         add_output_row(rows, group, names[place], &judgement);
         Ok(())
     }
 
     /// Adds the rows of a group: of its outputs, in order, with the names of their sources, and then of its words that are
-    /// of none. Error: an allocation failed.
+    /// of none. Errors: a word came before the one before it in its log; an allocation failed.
     #[tactic(auto, unfolding(crate::specs::Rows::group_rows))]
     pub fn add_group_rows(
         &self,
@@ -160,16 +161,21 @@ impl Judge {
         number: usize,
         group: &str,
         names: &[&str],
-        duties: &[Duty],
-    ) -> Result<(), AllocError>
-        requires { length names.now ≡ length duties.now }
-        ensures { OnOk result (rows.new ≡ rows.old ++ group_rows number group.now (map (λ n. n.now) names.now) duties.now self.now) }
+    ) -> Result<(), JudgeFault>
+        requires within { number < length self.now.duties }
+        requires named { length names.now ≡ length (group_at self.now.duties number) }
+        ensures rows { OnOk result (rows.new ≡ rows.old
+            ++ group_rows number group.now (map (λ n. n.now) names.now) (group_at self.now.duties number) self.now.noted) }
+        ensures falls { IsErrOf result JudgeFault.TimesFall ↔ (self.now.in_order ≡ false) }
     {
-        for place in 0..duties.len() {
-            self.add_row(rows, alloc, group, names, duties, place)?;
+        if !self.is_in_order() {
+            return Err(JudgeFault::TimesFall);
         }
-        let foreign = self.foreign(alloc, duties, number);
-        add_foreign_row(rows, group, foreign.as_slice()?.len() as u64);
+        for place in 0..self.duties(number).len() {
+            self.add_row(rows, alloc, number, group, names, place)?;
+        }
+        let foreign = self.foreign(number)?;
+        add_foreign_row(rows, group, foreign.len() as u64);
         Ok(())
     }
 }

@@ -4,10 +4,16 @@ mod MicrosDigits
 mod FoundColumns
 mod CaughtFields
 mod ReadEntries
+mod JoinedPieces
 mod PartsWords
 mod HexNumbers
 pub mod NeverFall
 mod PlainRows
+mod QuickRows
+mod DigitValues
+mod PassedLines
+mod FirstRows
+mod PlainReadings
 mod FirstMarks
 mod ReadDigits
 mod TickLengths

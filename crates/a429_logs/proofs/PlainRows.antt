@@ -22,7 +22,7 @@ use Rattle.a429_logs.specs.declared.written.WrittenTime.TheVariants.{Micros}
 
 -- ---- fields
 
-filled : (x : List ℕ) → 0 < length x → field_in Blank x ≡ Some x
+pub filled : (x : List ℕ) → 0 < length x → field_in Blank x ≡ Some x
 filled [] some = absurd (omega (arith, some))
 filled (b ∷ bs) some = refl
 
@@ -47,13 +47,13 @@ digits_only t all =
     let none : nat_lt (position_or_len (is_point Blank) t) (length t) ≡ false = grind (arith, nat_tests, end) in
     rw none refl
 
-record IsNumber (t : List ℕ) (time : ℕ) : Type 0 where
+pub record IsNumber (t : List ℕ) (time : ℕ) : Type 0 where
   pub some : 0 < length t
   pub few : nat_le (length t) 18 ≡ true
   pub all : list_all is_ascii_digit t ≡ true
   pub value : digits_value 10 t ≡ time
 
-number : (t : List ℕ) (time : ℕ) → decimal_digits t ≡ Some time → IsNumber t time
+pub number : (t : List ℕ) (time : ℕ) → decimal_digits t ≡ Some time → IsNumber t time
 number t time is =
     let both = cond_some ((nat_lt 0 (length t) && nat_le (length t) 18) && list_all is_ascii_digit t) (digits_value 10 t) time is in
     let parts = and_parts (nat_lt 0 (length t) && nat_le (length t) 18) (list_all is_ascii_digit t) both.0 in
@@ -85,10 +85,13 @@ unfolding whole_word raw_word
 some_word [] raw is = absurd (cc is)
 some_word (b ∷ bs) raw is = omega arith
 
-pub plain_row : (order : BitOrder) (line t n w : List ℕ) (time raw : ℕ) → has_quotes line ≡ false → parts_of Blank line ≡ t ∷ n ∷ w ∷ [] → decimal_digits t ≡ Some time → 0 < length n → whole_word w ≡ Some raw
+pub fields_row : (order : BitOrder) (line t n w : List ℕ) (time raw : ℕ) → fields_of Blank line ≡ t ∷ n ∷ w ∷ [] → decimal_digits t ≡ Some time → whole_word w ≡ Some raw
     → row_of Microseconds order Blank plain_places (fields_of Blank line) ≡ Ok (in_micros (record { time = time; name = n; raw = unreversed order raw }))
 unfolding row_of width_of
+fields_row order line t n w time raw fields digits word = rw (fields, plain_time t time (number t time digits), word) refl
+
+pub plain_row : (order : BitOrder) (line t n w : List ℕ) (time raw : ℕ) → has_quotes line ≡ false → parts_of Blank line ≡ t ∷ n ∷ w ∷ [] → decimal_digits t ≡ Some time → 0 < length n → whole_word w ≡ Some raw
+    → row_of Microseconds order Blank plain_places (fields_of Blank line) ≡ Ok (in_micros (record { time = time; name = n; raw = unreversed order raw }))
 plain_row order line t n w time raw plain parts digits name word =
     let N = number t time digits in
-    let fields = three_fields line t n w plain parts N.some name (some_word w raw word) in
-    rw (fields, plain_time t time N, word) refl
+    fields_row order line t n w time raw (three_fields line t n w plain parts N.some name (some_word w raw word)) digits word

@@ -19,7 +19,7 @@ pub record IsNext (ds : List ℕ) (i : ℕ) : Type 0 where
   pub value : digits_value 10 (take (i + 1) ds) ≡ digits_value 10 (take i ds) * 10 + (get_or ds i 0 - 48)
   pub few : digits_value 10 (take (i + 1) ds) < 10 ^ 18
 
-pub next_digit : (ds : List ℕ) (i : ℕ) → list_all is_ascii_digit (take i ds) ≡ true → i < length ds → is_ascii_digit (get_or ds i 0) ≡ true → length ds ≤ 18 → IsNext ds i
+pub next_digit : (ds : List ℕ) (i : ℕ) → list_all is_ascii_digit (take i ds) ≡ true → i < length ds → is_ascii_digit (get_or ds i 0) ≡ true → i < 18 → IsNext ds i
 next_digit ds i before within digit few =
     let front = take (i + 1) ds in
     let more : front ≡ take i ds ++ get_or ds i 0 ∷ [] = take_more ds i 0 within in

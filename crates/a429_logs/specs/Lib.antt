@@ -10,4 +10,6 @@ pub mod LogColumns
 pub mod LateDates
 pub mod LogRows
 pub mod Logs
+pub mod LogPieces
+pub mod QuickRows
 pub mod LogsLeft

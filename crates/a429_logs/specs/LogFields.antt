@@ -2,6 +2,7 @@
 use Rattle.std.specs.Prelude.{◌≡◌, ◌==◌, ◌&&◌, ◌-◌, ◌∷◌, [], ℕ, Bool, false, List, Option, Some, None, MatchOption, if◌then◌else◌, drop, filter_map, get_or, is_some, length, nat_le, not, option_map, position, suc, take}
 use Rattle.std.specs.List.{list_any, onto_first, prefix_len, slice_split, suffix_len}
 use Rattle.std.specs.Option.{option_map_or}
+use Rattle.std.specs.Borrow.{Bor}
 use Rattle.std.specs.Char.{is_ascii_whitespace}
 use Rattle.a429_logs.specs.declared.fields.Fields.{Fields}
 use Rattle.a429_logs.specs.declared.fields.Mark.{Mark}
@@ -101,8 +102,11 @@ without_byte_order_mark text = text
 abbrev pub Takes : {X Y : Type 0} → (X → Y) → Option X → List Y → List Y → Type 0
 Takes shown result old new = MatchOption result ((old ≡ []) × (new ≡ [])) (λ x. old ≡ shown x ∷ new)
 
+abbrev pub parts_in : Mark → Option (Bor (List ℕ)) → List (List ℕ)
+parts_in mark left = option_map_or (λ text. parts_of mark text.now) left []
+
 abbrev pub parts_left : Parts → List (List ℕ)
-parts_left p = option_map_or (λ text. parts_of p.mark text.now) p.left []
+parts_left p = parts_in p.mark p.left
 
 abbrev pub quoted_left : QuotedParts → List (List ℕ)
 quoted_left p = option_map_or (λ text. quoted_parts p.mark false text.now) p.left []

@@ -1,6 +1,5 @@
 -- Logs of words, as recorders write them (profile: log): what their lines state, in order, up to the first fault.
-use Rattle.std.specs.Prelude.{◌==◌, ◌&&◌, ◌||◌, ◌+◌, ◌-◌, ◌≤◌, ◌∷◌, [], ⊤, ℕ, Bool, true, false, List, Option, Some, None, Result, Ok, Err, if◌then◌else◌, is_ok, map, nat_lt, not, unwrap_or}
-use Rattle.std.specs.List.{enumerate_from}
+use Rattle.std.specs.Prelude.{◌==◌, ◌&&◌, ◌||◌, ◌+◌, ◌-◌, ◌^◌, ◌≤◌, ◌∷◌, ◌++◌, [], ⊤, ℕ, Bool, true, false, List, Option, Some, None, Result, Ok, Err, if◌then◌else◌, is_ok, map, min, nat_lt, not, unwrap_or}
 use Rattle.a429_logs.specs.Calendars.{Timed, timed_row}
 use Rattle.a429_logs.specs.LogColumns.{columns_of, is_heading, names_of, plain_places, width_of}
 use Rattle.a429_logs.specs.LogFields.{fields_of, mark_in, parts_of, trimmed, without_byte_order_mark}
@@ -44,6 +43,15 @@ abbrev pub clock_after : Clock → Stated → Clock
 clock_after clock word = record { base = Some (base_of clock word); last = word.time - base_of clock word }
 
 -- ---- lines
+
+-- One more. The greatest count is 2^64 - 1, so all lines from that number on have the same one.
+abbrev pub one_more : ℕ → ℕ
+one_more n = min (n + 1) (2 ^ 64 - 1)
+
+-- lines with their numbers, from this one on
+abbrev pub numbered : ℕ → List (List ℕ) → List (ℕ × List ℕ)
+numbered n [] = []
+numbered n (line ∷ lines) = (n, line) ∷ numbered (one_more n) lines
 
 -- empty but for blanks, or with `#` before anything else
 abbrev pub is_passed : List ℕ → Bool
@@ -146,7 +154,7 @@ pub record Titled : Type 0 where
 
 abbrev pub one_title : Option Titled → Option Titled
 one_title None = None
-one_title (Some t) = Some (record t { titles = t.titles + 1 })
+one_title (Some t) = Some (record t { titles = one_more t.titles })
 
 abbrev pub heading_by : OpeningLine → List (ℕ × List ℕ) → Option Titled → Option Titled
 heading_by Passed lines later = later
@@ -219,7 +227,13 @@ entries_from reading ((n, line) ∷ lines) =
 
 -- the lines of a log, with their numbers
 abbrev pub lines_of : List ℕ → List (ℕ × List ℕ)
-lines_of text = enumerate_from 1 (parts_of LineFeed (without_byte_order_mark text))
+lines_of text = numbered 1 (parts_of LineFeed (without_byte_order_mark text))
+
+-- The text of a log that comes in pieces, with a line feed between each two of them (profile: log). Pieces are cut at line feeds.
+abbrev pub joined : List (List ℕ) → List ℕ
+joined [] = []
+joined (text ∷ []) = text
+joined (text ∷ (next ∷ texts)) = text ++ (10 ∷ joined (next ∷ texts))
 
 -- what a log states: its words, up to the first fault, if there is one
 unfoldable pub log_entries : Reading → List ℕ → List (Result WordAt LogFault)

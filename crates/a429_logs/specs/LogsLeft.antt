@@ -1,20 +1,42 @@
 -- What is left of a log that is read (profile: log).
-use Rattle.std.specs.Prelude.{◌≡◌, ◌+◌, ◌∷◌, [], ⊤, Bool, ℕ, List, Option, Some, None, Result, Ok, Err, if◌then◌else◌}
-use Rattle.std.specs.List.{enumerate_from}
-use Rattle.a429_logs.specs.LogFields.{parts_left}
+use Rattle.std.specs.Prelude.{◌≡◌, ◌∷◌, [], ⊤, Bool, ℕ, List, Option, Some, None, Result, Ok, Err, if◌then◌else◌}
+use Rattle.std.specs.declared.alloc.Global.{Global}
+use Rattle.std.specs.declared.vec.Vec.{Vec}
+use Rattle.a429_logs.specs.LogPieces.{IsBetweenIn, left_in, lines_in, next_in, pieces_in, texts_left}
 use Rattle.a429_logs.specs.LogRows.{Stated, stated_by}
 use Rattle.a429_logs.specs.LogDates.{or_second}
-use Rattle.a429_logs.specs.Logs.{Titled, WordAt, entries_from, is_tail, lines_of, next_log, read_line, reading_past, tail_at, without_titles}
+use Rattle.a429_logs.specs.Logs.{Titled, WordAt, entries_from, is_tail, lines_of, next_log, numbered, one_more, read_line, reading_past, tail_at, without_titles}
 use Rattle.a429_logs.specs.declared.reading.LineFault.{LineFault}
 use Rattle.a429_logs.specs.declared.reader.LogFault.{LogFault}
+use Rattle.a429_logs.specs.declared.reader.LogPoint.{LogPoint}
 use Rattle.a429_logs.specs.declared.reader.LogReader.{LogReader}
 use Rattle.a429_logs.specs.declared.reader.LogWord.{LogWord}
 use Rattle.a429_logs.specs.declared.reading.Reading.{Reading}
 use Rattle.a429_logs.specs.declared.reading.Shape.{Shape}
 
 -- the lines with their numbers; after a fault none
-unfoldable pub lines_left : LogReader → List (ℕ × List ℕ)
-lines_left r = if r.is_done then [] else enumerate_from (r.line + 1) (parts_left r.lines)
+abbrev pub lines_left : LogReader → List (ℕ × List ℕ)
+lines_left r = left_in r.lines
+
+-- ---- pieces
+
+-- the pieces of a reader
+abbrev pub pieces_of : LogReader → List (Vec ℕ Global)
+pieces_of r = pieces_in r.lines
+
+-- the number, from 0, of the first piece that was not begun
+abbrev pub next_of : LogReader → ℕ
+next_of r = next_in r.lines
+
+-- the texts of the pieces that were not begun
+abbrev pub texts_after : LogReader → List (List ℕ)
+texts_after r = texts_left r.lines
+
+-- no line is left of the piece that is read
+abbrev pub IsBetween : LogReader → Type 0
+IsBetween r = IsBetweenIn r.lines
+
+-- ---- what is left
 
 -- a line that was taken, and those after it, are a tail
 abbrev pub is_tail_of : LogReader → ℕ → List ℕ → Bool
@@ -74,3 +96,26 @@ shape_now r = r.reading.shape
 abbrev pub entry_of : Result LogWord LogFault → Result WordAt LogFault
 entry_of (Ok w) = Ok (record { line = w.line; word = stated_by w.word })
 entry_of (Err fault) = Err fault
+
+-- ---- what is left from a point on, if these are the texts of the later pieces
+
+-- how many lines are before it
+abbrev pub lines_before : LogPoint → ℕ
+lines_before point = point.taken
+
+abbrev pub lines_at : LogPoint → List (List ℕ) → List (ℕ × List ℕ)
+lines_at point texts = numbered (one_more (lines_before point)) (lines_in texts)
+
+abbrev pub entries_at : LogPoint → List (List ℕ) → List (Result WordAt LogFault)
+entries_at point texts = entries_from point.reading (lines_at point texts)
+
+-- how the first line of the next log is read
+abbrev pub reading_at : LogPoint → List (List ℕ) → Reading
+reading_at point texts = next_log (reading_past point.reading (lines_at point texts))
+
+-- the tail, and how many titles are above the heading
+abbrev pub tail_at_point : LogPoint → List (List ℕ) → Option ℕ
+tail_at_point point texts = or_second point.passed.tail (tail_from point.reading (lines_at point texts))
+
+abbrev pub titles_at : LogPoint → ℕ
+titles_at point = point.passed.titles

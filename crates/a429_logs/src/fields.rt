@@ -2,7 +2,7 @@
 ghost use Rattle.std.specs.Prelude.{◌≡◌, ◌<◌, ◌∷◌, [], Some, None, IfSome, MatchOption, filter_map, length, option_map, position};
 ghost use Rattle.std.specs.List.{list_any};
 ghost use Rattle.std.specs.Prelude.{false};
-ghost use Rattle.a429_logs.specs.LogFields.{Takes, ends_part, field_in, fields_left, fields_of, first_outside, has_mark, has_quotes, is_mark, is_quote, is_quoted, line_fields_left, mark_in, parts_left, parts_of, quoted_field_in, quoted_left, quoted_parts, trimmed, turned, unquoted, without_byte_order_mark};
+ghost use Rattle.a429_logs.specs.LogFields.{Takes, ends_part, field_in, fields_left, fields_of, first_outside, has_mark, has_quotes, is_mark, is_quote, is_quoted, line_fields_left, mark_in, parts_in, parts_left, parts_of, quoted_field_in, quoted_left, quoted_parts, trimmed, turned, unquoted, without_byte_order_mark};
 
 use memchr::memchr;
 
@@ -168,6 +168,25 @@ pub fn without_byte_order_mark(text: &[u8]) -> &[u8]
     }
 }
 
+/// Takes the first part of what is left of a text. `None` if nothing is left.
+#[inline(always)]
+pub fn next_part<'a>(mark: Mark, left: &mut Option<&'a [u8]>) -> Option<&'a [u8]>
+    ensures taken { Takes (λ part. part.now) result (parts_in mark left.old) (parts_in mark left.new) }
+    ensures ended { result ≡ None → (left.old ≡ None) × (left.new ≡ None) }
+{
+    let text = (*left)?;
+    match mark.first(text) {
+        Some(end) => {
+            *left = Some(&text[end + 1..]);
+            Some(&text[..end])
+        }
+        None => {
+            *left = None;
+            Some(text)
+        }
+    }
+}
+
 /// The parts of a text before, between and after marks, as long as some are left.
 #[derive(Clone, Copy)]
 pub struct Parts<'a> {
@@ -193,25 +212,7 @@ impl<'a> Parts<'a> {
         ensures mark { self.new.mark ≡ self.old.mark }
         ensures taken { Takes (λ part. part.now) result (parts_left self.old) (parts_left self.new) }
     {
-        let text = self.left?;
-        match self.mark.first(text) {
-            Some(end) => {
-                self.left = Some(&text[end + 1..]);
-                Some(&text[..end])
-            }
-            None => {
-                self.left = None;
-                Some(text)
-            }
-        }
-    }
-
-    /// How many bytes are left.
-    pub fn bytes_left(&self) -> usize {
-        match self.left {
-            Some(text) => text.len(),
-            None => 0,
-        }
+        next_part(self.mark, &mut self.left)
     }
 }
 

@@ -1,17 +1,19 @@
 //! The lines of a log.
-ghost use Rattle.std.specs.Prelude.{◌≡◌, [], IfSome, None, Ok, Some, false};
+ghost use Rattle.std.specs.Prelude.{◌≡◌, [], IfSome, None, Ok, Some, false, true};
 ghost use Rattle.a429_logs.specs.LogColumns.{plain_places};
 ghost use Rattle.a429_logs.specs.LogFields.{mark_in};
 ghost use Rattle.a429_logs.specs.Calendars.{shown_timed, timed_by};
-ghost use Rattle.a429_logs.specs.declared.calendars.Calendar.TheVariants.{Open};
+ghost use Rattle.a429_logs.specs.declared.calendars.Calendar.TheVariants.{Open, Units};
+ghost use Rattle.a429_logs.specs.QuickRows.{IsPlain, TakesRow, in_units};
 ghost use Rattle.a429_logs.specs.declared.words.BitOrder.TheVariants.{AsWritten};
-ghost use Rattle.a429_logs.specs.Logs.{has_time, is_no_row, is_passed_over, is_plain_row, is_short, names_columns, next_log, opening_line, read_first, read_line, read_row, renames_of, shown_line, unit_for, with_calendar, word_of_row};
+ghost use Rattle.a429_logs.specs.Logs.{has_time, is_no_row, is_passed, is_passed_over, is_plain_row, is_short, names_columns, next_log, opening_line, read_first, read_line, read_row, renames_of, shown_line, unit_for, with_calendar, word_of_row};
 
 use crate::calendars::{Calendar, TimedWord};
 use crate::clocks::Clock;
 use crate::columns::{Heading, HeadingFault, Places, Width, WordPlaces};
 use crate::fields::{Mark, trimmed};
-use crate::rows::{RowFault, StatedWord, field_at, quick_word, row_of};
+use crate::quick::{is_plain, plain_start, quick_word};
+use crate::rows::{RowFault, StatedWord, field_at, row_of};
 use crate::times::{TimeUnit, can_be_time};
 use crate::words::BitOrder;
 use crate::written::DateOrder;
@@ -107,14 +109,25 @@ pub enum OpeningLine {
     Title,
 }
 
+/// Whether a text without blanks at its ends is empty, or begins with `#`.
+fn is_passed(text: &[u8]) -> bool
+    ensures { result ≡ is_passed text.now }
+{
+    match text {
+        [] => true,
+        [first, ..] => *first == b'#',
+    }
+}
+
 /// Whether a line is passed over: it is empty but for blanks, or begins with `#` after blanks.
 #[tactic(auto, unfolding(crate::specs::Logs::is_passed_over))]
 pub fn is_passed_over(line: &[u8]) -> bool
     ensures { result ≡ is_passed_over line.now }
 {
-    match trimmed(line) {
-        [] => true,
-        [first, ..] => *first == b'#',
+    // the first byte decides, unless it is a blank
+    match line {
+        [first, ..] if !first.is_ascii_whitespace() => *first == b'#',
+        _ => is_passed(trimmed(line)),
     }
 }
 
@@ -248,6 +261,51 @@ impl<'a> Reading<'a> {
             word,
             calendar: Calendar::Units,
         })
+    }
+
+    /// A word with its time in the unit of the log, by its time on the clock. `None` if its time is faulty; then all is as
+    /// before.
+    #[inline(always)]
+    fn counted<'b>(&mut self, word: StatedWord<'b>) -> Option<StatedWord<'b>>
+        ensures word { IfSome result (λ w. (shape : Shape) → self.old.shape ≡ Some shape → self.old.calendar ≡ Units
+            → shown_line self.new (Ok (Some w)) ≡ with_calendar self.old shape (Ok (in_units word.entry))) }
+        ensures kept { result ≡ None → self.new ≡ self.old }
+    {
+        match self.clock.read(word) {
+            Ok(word) => {
+                self.has_rows = true;
+                Some(word)
+            }
+            Err(_) => None,
+        }
+    }
+
+    /// Whether rows are those that most logs have.
+    #[inline(always)]
+    fn is_plain(&self) -> bool
+        ensures { result ≡ true → IsPlain self.now }
+    {
+        match &self.shape {
+            Some(shape) => {
+                self.calendar.is_of_units() && is_plain(shape.unit, shape.mark, &shape.places)
+            }
+            None => false,
+        }
+    }
+
+    /// Takes the first line of a text, if it is a row that is read quickly: its word, and the place of the line feed after
+    /// it. `None` if it is not; then all is as before.
+    #[inline(always)]
+    pub(crate) fn first_row<'b>(&mut self, text: &'b [u8]) -> Option<(StatedWord<'b>, usize)>
+        ensures taken { IfSome result (λ found. TakesRow self.old self.new text.now found.1 found.0) }
+        ensures kept { result ≡ None → self.new ≡ self.old }
+    {
+        if !self.is_plain() {
+            return None;
+        }
+        let (word, end) = plain_start(self.order, text)?;
+        let word = self.counted(word)?;
+        Some((word, end))
     }
 
     /// The word of the first line that is not passed over; none if it is a heading.

@@ -1,21 +1,18 @@
 //! The rows of a log: a time, a name and a word.
-ghost use Rattle.std.specs.Prelude.{◌≡◌, IfSome, Ok, option_map, true};
+ghost use Rattle.std.specs.Prelude.{◌≡◌, option_map};
 ghost use Rattle.a429_logs.specs.LateDates.{late_time};
-ghost use Rattle.a429_logs.specs.LogColumns.{plain_places};
 ghost use Rattle.a429_logs.specs.LogDates.{or_second};
 ghost use Rattle.a429_logs.specs.LogExponents.{exponent_time};
 ghost use Rattle.a429_logs.specs.LogFields.{fields_of};
-ghost use Rattle.a429_logs.specs.LogRows.{caught, caught_in, field_at, in_micros, parts_word, row_of, row_parity, shown, shown_written, stated_by, word_in, word_place, written_time};
-ghost use Rattle.a429_logs.specs.declared.fields.Mark.TheVariants.{Blank};
-ghost use Rattle.a429_logs.specs.declared.times.TimeUnit.TheVariants.{Microseconds};
+ghost use Rattle.a429_logs.specs.LogRows.{caught, caught_in, field_at, parts_word, row_of, row_parity, shown, shown_written, word_in, word_place, written_time};
 ghost use Rattle.a429_logs.specs.declared.written.WrittenTime.TheVariants.{Micros};
 
 use crate::columns::{PartsPlaces, Places, Width, WordPlaces};
 use crate::dates::late_time;
 use crate::exponents::exponent_time;
-use crate::fields::{Fields, Mark, Parts, has_quotes};
+use crate::fields::{Fields, Mark};
 use crate::parts::{WrittenParity, parity_in, ssm_in, written_word};
-use crate::times::{TimeUnit, decimal_digits, time_of};
+use crate::times::{TimeUnit, time_of};
 use crate::words::{BitOrder, label_in, two_bits, value_in, whole_word};
 use crate::written::{WrittenTime, calendar_time};
 
@@ -168,63 +165,6 @@ fn word_in(
             }
         }
         WordPlaces::Parts(parts) => parts_word(parts, mark, line),
-    }
-}
-
-/// Whether rows are times in microseconds, names and words between blanks, as most are.
-fn is_plain(unit: TimeUnit, mark: Mark, places: &Places) -> bool
-    ensures { result ≡ true → (unit ≡ Microseconds) × (mark ≡ Blank) × (places.now ≡ plain_places) }
-{
-    match (unit, mark, places.word) {
-        (TimeUnit::Microseconds, Mark::Blank, WordPlaces::Whole(2)) => {
-            places.width.all == 3
-                && places.width.bare == 3
-                && places.unit.is_none()
-                && places.time == 0
-                && places.name == 1
-        }
-        _ => false,
-    }
-}
-
-/// The word that a row states which is a time in microseconds, a name and a word between single blanks. `None` for any
-/// other row.
-fn plain_row(order: BitOrder, line: &[u8]) -> Option<StatedWord<'_>>
-    ensures { IfSome result (λ w. row_of Microseconds order Blank plain_places (fields_of Blank line.now) ≡ Ok (in_micros (stated_by w))) }
-{
-    if has_quotes(line) {
-        return None;
-    }
-    let mut parts = Parts::of(Mark::Blank, line);
-    let time = parts.next()?;
-    let name = parts.next()?;
-    let word = parts.next()?;
-    if name.is_empty() || parts.next().is_some() {
-        return None;
-    }
-    let time = decimal_digits(time)?;
-    let raw = whole_word(word)?;
-    Some(StatedWord {
-        time,
-        name,
-        raw: order.unreversed(raw),
-    })
-}
-
-/// The word of a row, if the row is one of those that most logs have. `None` for any other row.
-pub fn quick_word<'a>(
-    unit: TimeUnit,
-    order: BitOrder,
-    mark: Mark,
-    places: &Places,
-    line: &'a [u8],
-) -> Option<StatedWord<'a>>
-    ensures { IfSome result (λ w. row_of unit order mark places.now (fields_of mark line.now) ≡ Ok (in_micros (stated_by w))) }
-{
-    if is_plain(unit, mark, places) {
-        plain_row(order, line)
-    } else {
-        None
     }
 }
 

@@ -5,16 +5,18 @@ ghost use Rattle.a429_logs.specs.LogTicks.{without_prefix};
 ghost use Rattle.a429_logs.specs.LogTimes.{decimal_digits};
 
 use crate::columns::Base;
+use crate::hexadecimal::eight_digits;
 use crate::ticks::without_prefix;
 use crate::times::decimal_digits;
 use a429_word::{Label, Sdi, Ssm, Word, raw_word};
 
 /// The 32 bits of eight hexadecimal digits, in either case. They may come after `0x`. `None` for any other text.
+#[inline(always)]
 #[tactic(auto, unfolding(crate::specs::LogRows::whole_word))]
 pub fn whole_word(text: &[u8]) -> Option<u32>
     ensures { result ≡ whole_word text.now }
 {
-    raw_word(without_prefix(text))
+    eight_digits(without_prefix(text))
 }
 
 /// In which order a recorder writes the bits of whole words.

@@ -4,7 +4,7 @@ ghost use Rattle.std.specs.Str.{bytes_eq};
 ghost use Rattle.a429_arguments.specs.Texts.{texts_of};
 ghost use Rattle.a429_page.specs.Parts.{file_in};
 
-use a429_cli::{FileFault, FileReader, FileTrouble, LARGEST_FILE};
+use a429_cli::{FileFault, FileReader, FileTrouble, LARGEST_FILE, in_one_piece};
 use std::alloc::Global;
 
 /// Files in memory: the bytes of each are at the place that its name has among the names. If two have one name, the first
@@ -41,6 +41,15 @@ impl FileReader for PassedFiles<'_, '_> {
                 Err(_) => Err(FileFault::NoMemory),
             },
         }
+    }
+
+    fn read_pieces(
+        &mut self,
+        alloc: Global,
+        name: &str,
+        most: usize,
+    ) -> Result<Vec<Vec<u8>>, FileFault> {
+        in_one_piece(alloc, self.read(name, most))
     }
 
     fn trouble(&self, name: &str) -> FileTrouble {

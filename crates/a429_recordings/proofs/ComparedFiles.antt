@@ -3,7 +3,7 @@ use Rattle.std.proofs.Common.{◌≡◌, ℕ, List, inr}
 use Rattle.std.specs.Prelude.{Err, Ok, Option, Result}
 use Rattle.a429_equipment.specs.TableRecord.{TableRecord}
 use Rattle.a429_table.specs.Reading.{reading}
-use Rattle.a429_console.specs.Files.{bytes_of}
+use Rattle.a429_console.specs.Files.{logs_of}
 use Rattle.a429_console.specs.declared.refusals.CommandRefusal.{CommandRefusal}
 use Rattle.a429_console.proofs.Refused.{or_memory_weaker}
 use Rattle.a429_recordings.specs.Comparing.{AreCompareFiles, IsCompareAnswer, IsComparing, IsComparingOf, IsUncompared, IsUncomparedBy}
@@ -24,8 +24,8 @@ compared_of table t view f logs (Err e) is bad =
 
 -- the files have these bytes
 pub compared_by : (file : List ℕ → Option (List ℕ)) (name : List ℕ) (names : LogNames) (i : CompareInput) (f : SurveyForm) (result : Result Compared CommandRefusal)
-    → AreCompareFiles file name (logs_named names) i → IsComparing i.table.items (view_named names) f (bytes_of i.logs.items) result → IsCompareAnswer file name names f result
-compared_by file name names i f (Ok c) (table, logs) is = (i.table.items, bytes_of i.logs.items, table, logs, is)
+    → AreCompareFiles file name (logs_named names) i → IsComparing i.table.items (view_named names) f (logs_of i.logs.items) result → IsCompareAnswer file name names f result
+compared_by file name names i f (Ok c) (table, logs) is = (i.table.items, logs_of i.logs.items, table, logs, is)
 compared_by file name names i f (Err e) (table, logs) bad =
-    or_memory_weaker (IsUncompared i.table.items (view_named names) f (bytes_of i.logs.items)) (IsUncomparedBy file name (logs_named names) (view_named names) f) e
-    (λ one. inr (i.table.items, bytes_of i.logs.items, table, logs, one)) bad
+    or_memory_weaker (IsUncompared i.table.items (view_named names) f (logs_of i.logs.items)) (IsUncomparedBy file name (logs_named names) (view_named names) f) e
+    (λ one. inr (i.table.items, logs_of i.logs.items, table, logs, one)) bad

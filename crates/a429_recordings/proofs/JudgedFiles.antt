@@ -1,10 +1,11 @@
 -- What is judged, from the bytes of files up to their names.
-use Rattle.std.proofs.Common.{◌≡◌, ◌∙◌, ℕ, Bool, List, Vec, Global, ap, inr, subst, sym}
-use Rattle.std.specs.Prelude.{◌==◌, Err, None, Ok, Option, Result, false, if◌then◌else◌}
+use Rattle.std.proofs.Common.{◌≡◌, ◌∙◌, ℕ, Bool, List, Vec, Global, ap, inl, inr, sym}
+use Rattle.std.specs.Prelude.{◌==◌, ◌⊎◌, Err, None, Ok, Option, Result, false, if◌then◌else◌, true}
+use Rattle.std.specs.List.{fold}
 use Rattle.std.proofs.lemmas.List.{length-map}
 use Rattle.a429_logs.specs.declared.reading.Reading.{Reading}
 use Rattle.a429_slots.specs.Proposed.{Proposed}
-use Rattle.a429_console.specs.Files.{bytes_of}
+use Rattle.a429_console.specs.Files.{logs_of}
 use Rattle.a429_console.specs.Names.{Naming, naming_of}
 use Rattle.a429_given.specs.GivenPlans.{IsGivenPlan}
 use Rattle.a429_console.specs.declared.refusals.CommandRefusal.{CommandRefusal}
@@ -12,40 +13,67 @@ use Rattle.a429_console.specs.declared.refusals.CommandRefusal.TheVariants as re
 use Rattle.a429_console.specs.RefusalText.{OrMemory}
 use Rattle.a429_console.proofs.Refused.{or_memory_weaker}
 use Rattle.a429_align.specs.declared.search.Alignment.{Alignment}
-use Rattle.a429_judge.specs.Recordings.{Recording}
-use Rattle.a429_recordings.specs.BoxLogs.{IsLogsReading, IsNoting, IsSentReading, overlap, part_word_by, restarted}
-use Rattle.a429_recordings.specs.JudgeReplies.{AreBoxFiles, BoxFiles, IsJudgeAnswer, IsJudging, IsJudgingOf, IsNoRecording, IsRecorded, IsUnjudged, IsUnjudgedBy, IsUnjudgedOf, MayBeFound, aligned_by, has_both, heard_words, is_mixed, logs_of_sent, no_group_of, sent_words}
-use Rattle.a429_recordings.specs.JudgedPlans.{is_any_wide}
-use Rattle.a429_recordings.specs.LogItems.{reading_behind}
+use Rattle.a429_judge.specs.Recordings.{JudgedLogs, nothing_noted}
+use Rattle.a429_recordings.specs.BoxLogs.{AreApartFrom, AreNoted, IsLaterNoting, notes, part_word_by, restarted}
+use Rattle.a429_recordings.specs.JudgeReplies.{AreBoxFiles, BoxFiles, IsJudgeAnswer, IsJudging, IsHeardFault, IsJudgingOf, IsNoRecording, IsRecorded, IsUnjudged, IsUnjudgedBy, IsUnjudgedOf, MayBeFound, aligned_by, has_both, heard_by, is_mixed, logs_of_sent, no_group_of}
+use Rattle.a429_recordings.specs.JudgedPlans.{all_duties, is_any_wide}
+use Rattle.a429_recordings.specs.LogItems.{IsItemFault}
+use Rattle.a429_equipment.specs.TableRecord.{TableRecord}
 use Rattle.a429_recordings.specs.LogViews.{View, view_after}
 use Rattle.a429_recordings.specs.declared.judge.JudgeForm.{JudgeForm}
 use Rattle.a429_recordings.specs.declared.judge.Judged.{Judged}
 use Rattle.a429_recordings.specs.declared.judge.words.BoxLog.TheVariants as log
-use Rattle.a429_recordings.specs.declared.judge.words.BoxPart.{BoxPart}
-use Rattle.a429_recordings.specs.declared.judge.words.BoxWord.{BoxWord}
-use Rattle.a429_recordings.specs.declared.judge.words.BoxWords.{BoxWords}
+use Rattle.a429_recordings.specs.declared.judge.noting.NotedLogs.{NotedLogs}
+use Rattle.a429_recordings.proofs.NotedBoxes.{both, both_duties, both_in_order, both_noted}
 
 -- there are as many texts as logs
-pub same_count : (logs : List (Vec ℕ Global)) → has_both logs ≡ has_both (bytes_of logs)
-same_count logs = ap (λ (n : ℕ). n == 0) (sym (length-map logs (λ (v : Vec ℕ Global). v.items)))
+pub same_count : (logs : List (Vec (Vec ℕ Global) Global)) → has_both logs ≡ has_both (logs_of logs)
+same_count logs = ap (λ (n : ℕ). n == 0) (sym (length-map logs _))
 
--- what was sent, in the logs that have it
-pub sent_read : (names : Naming) (view : View) (part : BoxPart) (i : BoxFiles (List ℕ)) (after : Reading) (mixed : Bool) (result : Result BoxWords CommandRefusal)
-    → part ≡ record { log = log.Sent; is_mixed = is_mixed i } → part.is_mixed ≡ mixed
-    → IsLogsReading (part_word_by names (view_after after view) part) (restarted after) (if mixed then i.heard else i.sent) result
-    → IsSentReading names view (is_mixed i) after (logs_of_sent i) result
-sent_read names view part i after mixed result is here read =
-    let same : mixed ≡ is_mixed i = sym here ∙ ap (λ (p : BoxPart). p.is_mixed) is in
-    let of_part = subst (λ (p : BoxPart). IsLogsReading (part_word_by names (view_after after view) p) (restarted after) (if mixed then i.heard else i.sent) result) is read in
-    let whole : BoxPart = record { log = log.Sent; is_mixed = is_mixed i } in
-    subst (λ (b : Bool). IsLogsReading (part_word_by names (view_after after view) whole) (restarted after) (if b then i.heard else i.sent) result) same of_part
+-- what came in was noted, and then what was sent
+pub recorded : (q : Proposed) (i : BoxFiles (List ℕ)) (reading : Reading) (heard : NotedLogs) (result : Result JudgedLogs CommandRefusal)
+    → AreNoted q.station log.Heard (heard_by q i) reading i.heard (nothing_noted (all_duties q i.tolerances)) heard
+    → IsLaterNoting q.station (naming_of q.station) i.sent_view (is_mixed i) heard (logs_of_sent i) result → IsRecorded q i reading result
+recorded q i reading heard (Ok j) H L =
+    let ds = all_duties q i.tolerances in
+    let is : j ≡ both q.station ds H.words L.noted.words = L.judge ∙ L.noted.judge ∙ ap (λ (k : JudgedLogs). fold (notes q.station log.Sent) k L.noted.words) H.judge in
+    record {
+      recorded = record {
+        heard = H.words;
+        sent = L.noted.words;
+        heard_are = H.read;
+        sent_are = rw H.next at L.noted.read;
+        common = rw (H.span, L.noted.span) at L.common;
+        recorded = ap (λ (k : JudgedLogs). k.noted) is ∙ both_noted q.station ds H.words L.noted.words;
+      };
+      duties = ap (λ (k : JudgedLogs). k.duties) is ∙ both_duties q.station ds H.words L.noted.words;
+      in_order = ap (λ (k : JudgedLogs). k.in_order) is ∙ both_in_order q.station ds H.words L.noted.words H.ordered L.noted.ordered;
+    }
+recorded q i reading heard (Err e) H bad =
+    let item = part_word_by (naming_of q.station) (view_after heard.next i.sent_view) (record { log = log.Sent; is_mixed = is_mixed i }) in
+    let first = IsItemFault item (restarted heard.next) (logs_of_sent i) in
+    let second = AreApartFrom q.station (naming_of q.station) i.sent_view (is_mixed i) heard (logs_of_sent i) in
+    let lost : first e ⊎ second e → IsNoRecording q i reading e = elim [
+      | inl fault ↦ inr (inl (H.words, H.read, rw H.next at fault))
+      | inr apart ↦ inr (inr (H.words, apart.noted.words, H.read, rw H.next at apart.noted.read, rw (H.span, apart.noted.span) at apart.apart, apart.refused))
+    ] in
+    or_memory_weaker (λ (refusal : CommandRefusal). first refusal ⊎ second refusal) (IsNoRecording q i reading) e lost bad
 
--- logs with these words
-pub recorded : (q : Proposed) (i : BoxFiles (List ℕ)) (reading : Reading) (heard sent : List BoxWord) (result : Result Recording CommandRefusal) → heard_words q i reading ≡ Ok heard
-    → sent_words q i (reading_behind reading i.heard) ≡ Ok sent → IsNoting q.station heard sent result → IsRecorded q i reading result
-recorded q i reading heard sent (Ok r) h s is = record { heard = heard; sent = sent; heard_are = h; sent_are = s; common = is.0; recorded = is.1 }
-recorded q i reading heard sent (Err e) h s bad =
-    or_memory_weaker (λ (refusal : CommandRefusal). (overlap heard sent ≡ false) × (refusal ≡ refused.Apart)) (IsNoRecording q i reading) e (λ one. inr (inr (heard, sent, h, s, one.0, one.1))) bad
+-- the logs that have what was sent
+pub same_heard : (i : BoxFiles (List ℕ)) → is_mixed i ≡ true → i.heard ≡ logs_of_sent i
+same_heard i mixed = sym (ap (λ (b : Bool). if b then i.heard else i.sent) mixed)
+
+pub same_sent : (i : BoxFiles (List ℕ)) → is_mixed i ≡ false → i.sent ≡ logs_of_sent i
+same_sent i apart = sym (ap (λ (b : Bool). if b then i.heard else i.sent) apart)
+
+-- by other names of the same values
+pub later_noted : (t u : TableRecord) (names known : Naming) (view moved : View) (mixed both : Bool) (heard : NotedLogs) (texts all : List (List ℕ)) (result : Result JudgedLogs CommandRefusal)
+    → t ≡ u → names ≡ known → view ≡ moved → mixed ≡ both → texts ≡ all → IsLaterNoting t names view mixed heard texts result → IsLaterNoting u known moved both heard all result
+later_noted t u names known view moved mixed both heard texts all result a b c d e noted = rw (a, b, c, d, e) at noted
+
+-- a line of what came in is faulty
+pub unheard : (q : Proposed) (i : BoxFiles (List ℕ)) (reading : Reading) (e : CommandRefusal) → OrMemory (IsHeardFault q i reading) e → IsRecorded q i reading (Err e)
+unheard q i reading e bad = or_memory_weaker (IsHeardFault q i reading) (IsNoRecording q i reading) e (λ one. inl one) bad
 
 -- each group is there, and no tolerance is too great
 pub unprinted : (q : Proposed) (i : BoxFiles (List ℕ)) (f : JudgeForm) (clock : Option Alignment) (e : CommandRefusal) → no_group_of (naming_of q.station) i.tolerances ≡ None → is_any_wide q i.tolerances ≡ false → MayBeFound i clock

@@ -1,4 +1,5 @@
 pub mod LogLines
+pub mod KeptPieces
 pub mod LogTimes
 pub mod JudgedRows
 mod DefaultTolerance
@@ -16,6 +17,7 @@ pub mod SimulationPrinted
 pub mod SendFigures
 pub mod FigureSteps
 pub mod SummedUp
+pub mod NotedBoxes
 pub mod SlotTimes
 pub mod StepOrder
 pub mod LastAccepted

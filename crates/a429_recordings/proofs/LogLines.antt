@@ -3,16 +3,16 @@ use Rattle.std.proofs.Common.{◌≡◌, ◌∙◌, ◌+◌, ◌<◌, ℕ, inl, 
 use Rattle.std.specs.Prelude.{Option, Some, None, Result, Ok, Err, option_map, slice_index_or}
 use Rattle.std.proofs.lemmas.List.{drop_more}
 use Rattle.a429_logs.specs.LogRows.{Stated}
-use Rattle.a429_logs.specs.Logs.{WordAt, and_then, log_entries, reading_after, series_entries}
+use Rattle.a429_logs.specs.Logs.{WordAt, and_then, joined, log_entries, reading_after, series_entries}
 use Rattle.a429_logs.specs.declared.reader.LogFault.{LogFault}
 use Rattle.a429_logs.specs.declared.reading.Reading.{Reading}
-use Rattle.a429_console.specs.Files.{bytes_of}
+use Rattle.a429_console.specs.Files.{bytes_of, logs_of}
 use Rattle.a429_console.specs.Lines.{entries_before}
 use Rattle.a429_console.specs.RefusalText.{OrMemory}
 use Rattle.a429_console.specs.declared.refusals.CommandRefusal.{CommandRefusal}
 use Rattle.a429_console.specs.declared.refusals.CommandRefusal.TheVariants as refused
 use Rattle.a429_console.proofs.EntryLines.{entries_before-nil}
-use Rattle.a429_recordings.specs.LogItems.{AreKept, IsItemFault, IsKept, RefusesLog, items_from, items_of, items_then}
+use Rattle.a429_recordings.specs.LogItems.{AreKept, IsItemFault, IsKept, Refuses, RefusesLog, items_from, items_of, items_then}
 use Rattle.a429_recordings.specs.LogViews.{items_by, one_item}
 use Rattle.a429_recordings.specs.declared.logs.keeping.KeepFault.{KeepFault}
 use Rattle.a429_recordings.specs.declared.logs.keeping.KeepFault.TheVariants as fault
@@ -42,33 +42,52 @@ module _ {A : Type 0} (item : Stated → Option (List A)) where
   fault_left done (Ok items) n is = absurd (cc is)
   fault_left done (Err m) n is = is
 
-  -- a log that has a word that is refused
-  pub refuses_word : (reading : Reading) (text : List ℕ) (start done : List A) (w : WordAt) (later : List (Result WordAt LogFault)) (e : CommandRefusal)
-      → entries_before start (items_from item (log_entries reading text)) ≡ entries_before done (items_from item (Ok w ∷ later))
-      → item w.word ≡ None → e ≡ refused.LogLine w.line → RefusesLog item reading text e
-  refuses_word reading text start done w later e before is named =
-      let all = items_from item (log_entries reading text) in
+  -- a word that is refused
+  pub refuses_word : (es : List (Result WordAt LogFault)) (start done : List A) (w : WordAt) (later : List (Result WordAt LogFault)) (e : CommandRefusal)
+      → entries_before start (items_from item es) ≡ entries_before done (items_from item (Ok w ∷ later))
+      → item w.word ≡ None → e ≡ refused.LogLine w.line → Refuses item es e
+  refuses_word es start done w later e before is named =
+      let all = items_from item es in
       inr (w.line, named, fault_left start all w.line (kept_none (entries_before start all) done w later before is))
 
+  -- a line that is faulty
+  pub refuses_line : (es : List (Result WordAt LogFault)) (start done : List A) (fault : LogFault) (later : List (Result WordAt LogFault)) (e : CommandRefusal)
+      → entries_before start (items_from item es) ≡ entries_before done (items_from item (Err fault ∷ later))
+      → e ≡ refused.LogLine fault.line → Refuses item es e
+  refuses_line es start done fault later e before named = inr (fault.line, named, fault_left start (items_from item es) fault.line before)
+
+  -- one of those that are left is refused
+  pub refuses_later : (es later : List (Result WordAt LogFault)) (start done : List A) (e : CommandRefusal)
+      → entries_before start (items_from item es) ≡ entries_before done (items_from item later) → Refuses item later e → Refuses item es e
+  refuses_later es later start done e before (inl is) = inl is
+  refuses_later es later start done e before (inr (n, named, bad)) =
+      inr (n, named, fault_left start (items_from item es) n (before ∙ ap (entries_before done) bad))
+
+  -- nothing is left
+  pub kept_all : (es left : List (Result WordAt LogFault)) (start done : List A)
+      → entries_before start (items_from item es) ≡ entries_before done (items_from item left) → left ≡ [] → entries_before start (items_from item es) ≡ Ok done
+  kept_all es left start done before none =
+      before ∙ ap (λ (rest : List (Result WordAt LogFault)). entries_before done (items_from item rest)) none ∙ ap Ok (append-nil done)
+
   -- some items and then others, or the first fault
-  abbrev joined : Result (List A) ℕ → Result (List A) ℕ → Result (List A) ℕ
-  joined (Ok items) later = entries_before items later
-  joined (Err n) later = Err n
+  abbrev chained : Result (List A) ℕ → Result (List A) ℕ → Result (List A) ℕ
+  chained (Ok items) later = entries_before items later
+  chained (Err n) later = Err n
 
-  joined_before : (done : List A) (r later : Result (List A) ℕ) → entries_before done (joined r later) ≡ joined (entries_before done r) later
-  joined_before done (Ok more) (Ok later) = ap Ok (sym (append_assoc done more later))
-  joined_before done (Ok more) (Err n) = refl
-  joined_before done (Err n) later = refl
+  chained_before : (done : List A) (r later : Result (List A) ℕ) → entries_before done (chained r later) ≡ chained (entries_before done r) later
+  chained_before done (Ok more) (Ok later) = ap Ok (sym (append_assoc done more later))
+  chained_before done (Ok more) (Err n) = refl
+  chained_before done (Err n) later = refl
 
-  joined_item : (n : ℕ) (o : Option (List A)) (r later : Result (List A) ℕ) → items_then n o (joined r later) ≡ joined (items_then n o r) later
-  joined_item n None r later = refl
-  joined_item n (Some xs) r later = joined_before xs r later
+  chained_item : (n : ℕ) (o : Option (List A)) (r later : Result (List A) ℕ) → items_then n o (chained r later) ≡ chained (items_then n o r) later
+  chained_item n None r later = refl
+  chained_item n (Some xs) r later = chained_before xs r later
 
-  items_joined : (es later : List (Result WordAt LogFault)) → items_from item (and_then es later) ≡ joined (items_from item es) (items_from item later)
-  items_joined [] later = sym (entries_before-nil (items_from item later))
-  items_joined (Err bad ∷ es) later = refl
-  items_joined (Ok w ∷ es) later =
-      ap (items_then w.line (item w.word)) (items_joined es later) ∙ joined_item w.line (item w.word) (items_from item es) (items_from item later)
+  items_chained : (es later : List (Result WordAt LogFault)) → items_from item (and_then es later) ≡ chained (items_from item es) (items_from item later)
+  items_chained [] later = sym (entries_before-nil (items_from item later))
+  items_chained (Err bad ∷ es) later = refl
+  items_chained (Ok w ∷ es) later =
+      ap (items_then w.line (item w.word)) (items_chained es later) ∙ chained_item w.line (item w.word) (items_from item es) (items_from item later)
 
   -- the items so far, before those of the logs that are left
   abbrev pub AreBefore : Reading → List (List ℕ) → Reading → List (List ℕ) → List A → Type 0
@@ -79,9 +98,9 @@ module _ {A : Type 0} (item : Stated → Option (List A)) where
       → (after ≡ reading_after next text) × (entries_before done (items_from item (log_entries next text)) ≡ Ok new) → AreBefore first all after left new
   before_more first all next after text left done new before (is, added) =
       before
-      ∙ ap (entries_before done) (items_joined (log_entries next text) (series_entries (reading_after next text) left))
-      ∙ joined_before done (items_from item (log_entries next text)) (items_of item (reading_after next text) left)
-      ∙ ap (λ (r : Result (List A) ℕ). joined r (items_of item (reading_after next text) left)) added
+      ∙ ap (entries_before done) (items_chained (log_entries next text) (series_entries (reading_after next text) left))
+      ∙ chained_before done (items_from item (log_entries next text)) (items_of item (reading_after next text) left)
+      ∙ ap (λ (r : Result (List A) ℕ). chained r (items_of item (reading_after next text) left)) added
       ∙ ap (λ (r : Reading). entries_before new (items_of item r left)) (sym is)
 
   -- the first faulty line
@@ -92,8 +111,8 @@ module _ {A : Type 0} (item : Stated → Option (List A)) where
       subst (OrMemory (IsItemFault item first all)) (sym is)
       (before
       ∙ ap (entries_before done)
-      (items_joined (log_entries next text) (series_entries (reading_after next text) left)
-      ∙ ap (λ (r : Result (List A) ℕ). joined r (items_of item (reading_after next text) left)) bad))
+      (items_chained (log_entries next text) (series_entries (reading_after next text) left)
+      ∙ ap (λ (r : Result (List A) ℕ). chained r (items_of item (reading_after next text) left)) bad))
 
 -- the one item of a word
 pub kept_one : {A B : Type 0} (item : Stated → Option A) (w : Stated) (old new : List A) (r : Result B KeepFault) → IsKept (item w) old new r
@@ -112,9 +131,9 @@ module _ {A B : Type 0} (items : Stated → Option (List A)) where
   pub kept_nothing : (v : Option Stated) (old : List A) (b : B) → v ≡ None → AreKept {B = B} (items_by items v) old old (Ok b)
   kept_nothing v old b is = ([], ap (items_by items) is, sym (append-nil old))
 
--- the bytes of the logs that are left, from one on
-pub logs_left : (logs : List (Vec ℕ Global)) (k : ℕ) (log : Vec ℕ Global) (text : List ℕ) → k < length logs → log ≡ slice_index_or logs k log → text ≡ log.items
-    → bytes_of (drop k logs) ≡ text ∷ bytes_of (drop (k + 1) logs)
+-- the texts of the logs that are left, from one on
+pub logs_left : (logs : List (Vec (Vec ℕ Global) Global)) (k : ℕ) (log : Vec (Vec ℕ Global) Global) (text : List ℕ) → k < length logs → log ≡ slice_index_or logs k log
+    → text ≡ joined (bytes_of log.items) → logs_of (drop k logs) ≡ text ∷ logs_of (drop (k + 1) logs)
 logs_left logs k log text within is same =
-    ap bytes_of (drop_more logs k log within) ∙ ap (λ (v : Vec ℕ Global). v.items ∷ bytes_of (drop (k + 1) logs)) (sym is)
-    ∙ ap (λ (t : List ℕ). t ∷ bytes_of (drop (k + 1) logs)) (sym same)
+    ap logs_of (drop_more logs k log within) ∙ ap (λ (v : Vec (Vec ℕ Global) Global). joined (bytes_of v.items) ∷ logs_of (drop (k + 1) logs)) (sym is)
+    ∙ ap (λ (t : List ℕ). t ∷ logs_of (drop (k + 1) logs)) (sym same)

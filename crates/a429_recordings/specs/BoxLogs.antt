@@ -1,5 +1,5 @@
 -- The logs of a box: what came in, and what it sent (profile: log of what was sent).
-use Rattle.std.specs.Prelude.{◌≡◌, ◌≤◌, ◌∷◌, [], ⊤, true, MatchResult, ◌==◌, ◌&&◌, ◌+◌, ℕ, List, Bool, length, false, Option, Some, None, Result, Ok, Err, drop, fold, if◌then◌else◌, is_some, nat_le, nat_lt, option_and_then, option_map, position, slice_get, take}
+use Rattle.std.specs.Prelude.{◌≡◌, ◌≤◌, ◌∷◌, ◌⊎◌, [], ⊤, true, MatchResult, ◌==◌, ◌&&◌, ◌+◌, ℕ, List, Bool, length, false, Option, Some, None, Result, Ok, Err, drop, fold, if◌then◌else◌, is_some, nat_le, nat_lt, option_and_then, option_map, position, slice_get, take}
 use Rattle.std.specs.Option.{option_map_or}
 use Rattle.a429_word.specs.Decimal.{decimal_number}
 use Rattle.a429_logs.specs.Calendars.{begun_again}
@@ -9,8 +9,10 @@ use Rattle.a429_equipment.specs.Agreement.{last_of}
 use Rattle.a429_equipment.specs.Arrivals.{sorted}
 use Rattle.a429_equipment.specs.TableRecord.{TableRecord}
 use Rattle.a429_equipment.specs.declared.arrivals.ArrivalRefusal.{ArrivalRefusal}
+use Rattle.a429_console.specs.Files.{logs_of}
 use Rattle.a429_console.specs.Names.{Naming, number_named}
-use Rattle.a429_judge.specs.Recordings.{Recording, no_words, with_heard, with_sent}
+use Rattle.a429_console.specs.declared.refusals.logs.LogRefusal.{LogRefusal}
+use Rattle.a429_judge.specs.Recordings.{JudgedLogs, Recording, hear, no_words, send, with_heard, with_sent}
 use Rattle.a429_judge.specs.declared.duties.Sent.{Sent}
 use Rattle.a429_judge.specs.declared.facts.Mark.{Mark}
 use Rattle.a429_console.specs.RefusalText.{OrMemory}
@@ -23,6 +25,10 @@ use Rattle.a429_recordings.specs.declared.judge.words.BoxLog.TheVariants as log
 use Rattle.a429_recordings.specs.declared.judge.words.BoxPart.{BoxPart}
 use Rattle.a429_recordings.specs.declared.judge.words.BoxWord.{BoxWord}
 use Rattle.a429_recordings.specs.declared.judge.words.BoxWords.{BoxWords}
+use Rattle.a429_recordings.specs.declared.judge.noting.LogTexts.{LogTexts}
+use Rattle.a429_recordings.specs.declared.judge.noting.LogTexts.TheVariants as texts
+use Rattle.a429_recordings.specs.declared.judge.noting.NotedLogs.{NotedLogs}
+use Rattle.a429_recordings.specs.declared.judge.spans.BoxSpan.{BoxSpan}
 use Rattle.a429_recordings.specs.declared.judge.words.Place.{Place}
 
 -- ---- the places of words
@@ -79,6 +85,17 @@ mixed_word names l w =
 abbrev pub part_word : Naming → BoxPart → Stated → Option (List BoxWord)
 part_word names part w = if part.is_mixed then mixed_word names part.log w else one_item (box_word names part.log) w
 
+-- the word that is read of a log, or none if it makes its line faulty
+abbrev pub word_in : Result BoxWord LogRefusal → Option BoxWord
+word_in (Ok w) = Some w
+word_in (Err why) = None
+
+-- the same in a log that may have words of the other kind
+abbrev pub words_in : Result (Option BoxWord) LogRefusal → Option (List BoxWord)
+words_in (Ok None) = Some []
+words_in (Ok (Some w)) = Some (w ∷ [])
+words_in (Err why) = None
+
 -- the same, of a word as it is taken
 abbrev pub part_word_by : Naming → View → BoxPart → Stated → Option (List BoxWord)
 part_word_by names view part = viewed view (part_word names part)
@@ -95,23 +112,29 @@ restarted reading =
       clock = record { base = option_map (λ _. 0) reading.clock.base; last = 0 };
     }
 
--- the first word of a log comes no later than the last of another
-abbrev pub begins_by : List BoxWord → List BoxWord → Bool
-begins_by words other = option_map_or (λ a. option_map_or (λ b. nat_le a.time b.time) (last_of other) false) (slice_get words 0) false
+-- the times of the first and the last word of a log; a log without words has none
+abbrev pub span_of : List BoxWord → Option BoxSpan
+span_of words = option_and_then (λ a. option_map (λ b. record { first = a.time; last = b.time }) (last_of words)) (slice_get words 0)
+
+-- neither begins after the other ends
+abbrev pub meet : Option BoxSpan → Option BoxSpan → Bool
+meet None other = false
+meet (Some a) None = false
+meet (Some a) (Some b) = nat_le a.first b.last && nat_le b.first a.last
 
 -- two logs have a time in common
 abbrev pub overlap : List BoxWord → List BoxWord → Bool
-overlap words other = begins_by words other && begins_by other words
+overlap words other = meet (span_of words) (span_of other)
+
+-- with one more word at this time
+abbrev pub with_time : Option BoxSpan → ℕ → Option BoxSpan
+with_time None time = Some (record { first = time; last = time })
+with_time (Some s) time = Some (record s { last = time })
 
 -- the words of logs and how the next log is read, or the first faulty line
 abbrev pub IsLogsReading : (Stated → Option (List BoxWord)) → Reading → List (List ℕ) → Result BoxWords CommandRefusal → Type 0
 IsLogsReading item reading texts result =
     MatchResult result (λ read. (items_of item reading texts ≡ Ok read.words.items) × (read.next ≡ reading_behind reading texts)) (OrMemory (IsItemFault item reading texts))
-
--- the words of what was sent, in logs after those that are read so; the logs may have both kinds of words
-abbrev pub IsSentReading : Naming → View → Bool → Reading → List (List ℕ) → Result BoxWords CommandRefusal → Type 0
-IsSentReading names view mixed after texts result =
-    IsLogsReading (part_word_by names (view_after after view) (record { log = log.Sent; is_mixed = mixed })) (restarted after) texts result
 
 -- no word comes before the one above it, nor before this time
 abbrev pub AreFrom : ℕ → List BoxWord → Type 0
@@ -148,8 +171,54 @@ sends r w = with_sent (sent_of w) r
 abbrev pub recording_of : TableRecord → List BoxWord → List BoxWord → Recording
 recording_of t heard sent = fold sends (fold (hears t) no_words heard) sent
 
--- the logs have a time in common, and this is the recording of their words; or they have none
-abbrev pub IsNoting : TableRecord → List BoxWord → List BoxWord → Result Recording CommandRefusal → Type 0
-IsNoting t heard sent result =
-    MatchResult result (λ r. (overlap heard sent ≡ true) × (r ≡ recording_of t heard sent))
-    (OrMemory (λ refusal. (overlap heard sent ≡ false) × (refusal ≡ refused.Apart)))
+-- the same with the outputs that are judged
+abbrev pub notes : TableRecord → BoxLog → JudgedLogs → BoxWord → JudgedLogs
+notes t log.Heard j w = hear (accepting t w) (mark_of w) j
+notes t log.Sent j w = send (sent_of w) j
+
+-- the texts of logs, whether they stay or not
+abbrev pub texts_of_logs : LogTexts → List (List ℕ)
+texts_of_logs (texts.Kept logs) = logs_of logs.now
+texts_of_logs (texts.Freed logs) = logs_of logs.items
+
+-- these words of logs are noted after those before
+pub record AreNoted (t : TableRecord) (l : BoxLog) (item : Stated → Option (List BoxWord)) (reading : Reading) (texts : List (List ℕ))
+    (before : JudgedLogs) (n : NotedLogs) : Type 0 where
+  pub words : List BoxWord
+  pub read : items_of item reading texts ≡ Ok words
+  pub judge : n.judge ≡ fold (notes t l) before words
+  pub span : n.span ≡ span_of words
+  pub next : n.next ≡ reading_behind reading texts
+  pub ordered : AreOrdered words
+
+-- they are, or a line of the logs is faulty
+abbrev pub IsNoting : TableRecord → BoxLog → (Stated → Option (List BoxWord)) → Reading → List (List ℕ) → JudgedLogs → Result NotedLogs CommandRefusal → Type 0
+IsNoting t l item reading texts before result =
+    MatchResult result (AreNoted t l item reading texts before) (OrMemory (IsItemFault item reading texts))
+
+-- the words of what was sent, in logs after those that are read so; the logs may have both kinds of words
+abbrev pub IsSentNoting : TableRecord → Naming → View → Bool → Reading → List (List ℕ) → JudgedLogs → Result NotedLogs CommandRefusal → Type 0
+IsSentNoting t names view mixed after texts before result =
+    IsNoting t log.Sent (part_word_by names (view_after after view) (record { log = log.Sent; is_mixed = mixed })) (restarted after) texts before result
+
+-- they are, and have a time in common with those of what came in
+pub record AreLaterNoted (t : TableRecord) (names : Naming) (view : View) (mixed : Bool) (heard : NotedLogs) (texts : List (List ℕ)) (j : JudgedLogs) : Type 0 where
+  pub sent : NotedLogs
+  pub noted : AreNoted t log.Sent (part_word_by names (view_after heard.next view) (record { log = log.Sent; is_mixed = mixed })) (restarted heard.next) texts
+      heard.judge sent
+  pub common : meet heard.span sent.span ≡ true
+  pub judge : j ≡ sent.judge
+
+-- they have none
+pub record AreApartFrom (t : TableRecord) (names : Naming) (view : View) (mixed : Bool) (heard : NotedLogs) (texts : List (List ℕ)) (refusal : CommandRefusal) : Type 0 where
+  pub sent : NotedLogs
+  pub noted : AreNoted t log.Sent (part_word_by names (view_after heard.next view) (record { log = log.Sent; is_mixed = mixed })) (restarted heard.next) texts
+      heard.judge sent
+  pub apart : meet heard.span sent.span ≡ false
+  pub refused : refusal ≡ refused.Apart
+
+abbrev pub IsLaterNoting : TableRecord → Naming → View → Bool → NotedLogs → List (List ℕ) → Result JudgedLogs CommandRefusal → Type 0
+IsLaterNoting t names view mixed heard texts result =
+    MatchResult result (AreLaterNoted t names view mixed heard texts)
+    (OrMemory (λ refusal. IsItemFault (part_word_by names (view_after heard.next view) (record { log = log.Sent; is_mixed = mixed })) (restarted heard.next) texts refusal
+    ⊎ AreApartFrom t names view mixed heard texts refusal))

@@ -9,7 +9,7 @@ use Rattle.a429_equipment.specs.declared.rows.SourceRow.{SourceRow}
 use Rattle.a429_table.specs.Reading.{reading}
 use Rattle.a429_survey.specs.Expected.{Expectation, compared_columns, compared_rows, has_finding, heard_at, sent_by}
 use Rattle.a429_survey.specs.Figures.{Noted}
-use Rattle.a429_console.specs.Files.{bytes_of}
+use Rattle.a429_console.specs.Files.{logs_of}
 use Rattle.a429_console.specs.FileReadings.{AreReadLogs, IsFileRefusal, IsFirstUnreadLog, readable}
 use Rattle.a429_console.specs.Names.{group_name, name_at, naming_of}
 use Rattle.a429_console.specs.RefusalText.{OrMemory}
@@ -82,7 +82,7 @@ IsUncomparedBy file name names view f refusal =
 
 -- these are the bytes of the files of these names
 abbrev pub AreCompareFiles : (List ℕ → Option (List ℕ)) → List ℕ → List (List ℕ) → CompareInput → Type 0
-AreCompareFiles file name names i = (readable (file name) ≡ Some i.table.items) × AreReadLogs file names (bytes_of i.logs.items)
+AreCompareFiles file name names i = (readable (file name) ≡ Some i.table.items) × AreReadLogs file names (logs_of i.logs.items)
 
 -- what reading them gives
 abbrev pub IsCompareReading : (List ℕ → Option (List ℕ)) → List ℕ → List (List ℕ) → Result CompareInput CommandRefusal → Type 0

@@ -8,7 +8,7 @@ use Rattle.a429_logs.specs.LogRows.{Stated}
 use Rattle.a429_logs.specs.declared.reading.Reading.{Reading}
 use Rattle.a429_slots.specs.Proposed.{Proposed}
 use Rattle.a429_console.specs.FileReadings.{AreReadLogs, IsFirstUnreadLog}
-use Rattle.a429_console.specs.Files.{bytes_of}
+use Rattle.a429_console.specs.Files.{logs_of}
 use Rattle.a429_arguments.specs.Texts.{texts_of}
 use Rattle.a429_arguments.specs.Tolerances.{tolerance_group}
 use Rattle.a429_console.specs.Names.{Naming, naming_of, number_named}
@@ -21,16 +21,16 @@ use Rattle.a429_given.specs.GivenTables.{IsTableRead, IsTableUnread, TableTexts,
 use Rattle.a429_console.specs.declared.refusals.CommandRefusal.{CommandRefusal}
 use Rattle.a429_console.specs.declared.refusals.CommandRefusal.TheVariants as refused
 use Rattle.a429_align.specs.declared.search.Alignment.{Alignment}
-use Rattle.a429_judge.specs.Recordings.{Recording}
+use Rattle.a429_judge.specs.Recordings.{JudgedLogs, Recording}
 use Rattle.a429_recordings.specs.BoxLogs.{overlap, part_word_by, recording_of, restarted}
-use Rattle.a429_recordings.specs.JudgedPlans.{event_columns, is_any_wide, is_found, judge_columns, judge_events, judged_rows}
+use Rattle.a429_recordings.specs.JudgedPlans.{all_duties, event_columns, is_any_wide, is_found, judge_columns, judge_events, judged_rows}
 use Rattle.a429_recordings.specs.LogItems.{IsItemFault, PassesNone, items_of, reading_behind}
 use Rattle.a429_recordings.specs.LogViews.{View, view_after, view_of}
 use Rattle.a429_recordings.specs.SimulationReplies.{IsReadingFor}
 use Rattle.a429_recordings.specs.declared.judge.JudgeForm.{JudgeForm}
 use Rattle.a429_recordings.specs.declared.judge.input.JudgeInput.{JudgeInput}
 use Rattle.a429_recordings.specs.declared.judge.input.JudgeNames.{JudgeNames}
-use Rattle.a429_recordings.specs.declared.judge.duties.Judging.{Judging}
+use Rattle.a429_recordings.specs.declared.judge.judging.Judging.{Judging}
 use Rattle.a429_recordings.specs.declared.judge.Judged.{Judged}
 use Rattle.a429_recordings.specs.declared.judge.sheets.Sheeted.{Sheeted}
 use Rattle.a429_recordings.specs.declared.judge.words.BoxLog.{BoxLog}
@@ -73,20 +73,16 @@ IsUnreadBoxFile file names refusal =
 
 -- ---- the clock of what was sent
 
--- the same files with what was sent on this clock
-abbrev pub on_clock : {A : Type 0} → ClockMove → BoxFiles A → BoxFiles A
-on_clock clock i = record i { sent_view = record i.sent_view { clock = clock } }
-
 abbrev pub clock_of : Alignment → ClockMove
 clock_of a = record { drift = a.drift; shift = a.shift }
 
 -- with the clock that is found, otherwise with that which is given
-abbrev pub aligned_by : {A : Type 0} → Option Alignment → BoxFiles A → BoxFiles A
-aligned_by found i = on_clock (option_map_or clock_of found i.sent_view.clock) i
+abbrev pub view_on : Option Alignment → View → View
+view_on found view = record view { clock = option_map_or clock_of found view.clock }
 
--- which words of what was sent are taken then
-abbrev pub aligned_view : {A : Type 0} → Option Alignment → BoxFiles A → View
-aligned_view found i = (aligned_by found i).sent_view
+-- the same files with what was sent on that clock
+abbrev pub aligned_by : {A : Type 0} → Option Alignment → BoxFiles A → BoxFiles A
+aligned_by found i = record i { sent_view = view_on found i.sent_view }
 
 -- none is found if none is looked for
 abbrev pub MayBeFound : {A : Type 0} → BoxFiles A → Option Alignment → Type 0
@@ -153,9 +149,15 @@ AreApart q i reading refusal =
 abbrev pub IsNoRecording : Proposed → BoxFiles (List ℕ) → Reading → CommandRefusal → Type 0
 IsNoRecording q i reading refusal = IsHeardFault q i reading refusal ⊎ (IsSentFault q i reading refusal ⊎ AreApart q i reading refusal)
 
+-- the logs are noted by the outputs of the plan
+pub record AreJudgedLogs (q : Proposed) (i : BoxFiles (List ℕ)) (reading : Reading) (j : JudgedLogs) : Type 0 where
+  pub recorded : IsRecording q i reading j.noted
+  pub duties : j.duties ≡ all_duties q i.tolerances
+  pub in_order : j.in_order ≡ true
+
 -- what reading logs gives
-abbrev pub IsRecorded : Proposed → BoxFiles (List ℕ) → Reading → Result Recording CommandRefusal → Type 0
-IsRecorded q i reading result = MatchResult result (IsRecording q i reading) (OrMemory (IsNoRecording q i reading))
+abbrev pub IsRecorded : Proposed → BoxFiles (List ℕ) → Reading → Result JudgedLogs CommandRefusal → Type 0
+IsRecorded q i reading result = MatchResult result (AreJudgedLogs q i reading) (OrMemory (IsNoRecording q i reading))
 
 -- no line of the logs is passed over, other than those that every log may have
 abbrev pub PassesNoneOf : BoxFiles (List ℕ) → Reading → Type 0
@@ -240,8 +242,8 @@ names_of n = record {
 abbrev pub files_of : JudgeInput → BoxFiles (List ℕ)
 files_of i = record {
   table = table_texts i.table;
-  heard = bytes_of i.heard.items;
-  sent = bytes_of i.sent.items;
+  heard = logs_of i.heard.items;
+  sent = logs_of i.sent.items;
   heard_view = view_of i.heard_view;
   sent_view = view_of i.sent_view;
   aligned = i.aligned;
@@ -259,8 +261,8 @@ given_by j = texts_of j.tolerances.now
 -- the sheet of some words, and whether something is found
 abbrev pub IsJudgeSheet : Bool → Judging → SheetForm → Sheeted → Type 0
 IsJudgeSheet events j form result =
-    (result.text.items ≡ judge_text events form j.proposal.now (given_by j) j.judge.now)
-    × (result.found ≡ judge_finds events j.proposal.now (given_by j) j.judge.now)
+    (result.text.items ≡ judge_text events form j.proposal.now (given_by j) j.judge.now.noted)
+    × (result.found ≡ judge_finds events j.proposal.now (given_by j) j.judge.now.noted)
 
 -- what judging logs gives
 abbrev pub IsPrinting : Proposed → BoxFiles (List ℕ) → JudgeForm → Result Sheeted CommandRefusal → Type 0

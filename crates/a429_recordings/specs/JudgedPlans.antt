@@ -82,6 +82,10 @@ duty_of q given g o =
 abbrev pub duties_of : Proposed → List (List ℕ) → ℕ → List Duty
 duties_of q given g = map (duty_of q given g) (outputs_at q g)
 
+-- those of all groups
+abbrev pub all_duties : Proposed → List (List ℕ) → List (List Duty)
+all_duties q given = map (duties_of q given) (groups_at q)
+
 -- the tolerance is more than half the period of an output
 abbrev pub is_wide : Duty → Bool
 is_wide d = nat_lt (36000000 * d.facts.period) (2 * (d.facts.tolerance * d.facts.rate))

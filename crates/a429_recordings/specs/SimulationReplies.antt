@@ -10,7 +10,7 @@ use Rattle.a429_logs.specs.Logs.{renames_of}
 use Rattle.a429_logs.specs.declared.reading.Reading.{Reading}
 use Rattle.a429_slots.specs.Proposed.{Proposed}
 use Rattle.a429_console.specs.FileReadings.{AreReadLogs, IsFirstUnreadLog}
-use Rattle.a429_console.specs.Files.{bytes_of}
+use Rattle.a429_console.specs.Files.{logs_of}
 use Rattle.a429_console.specs.Names.{naming_of}
 use Rattle.a429_console.specs.Outputs.{AppendsPending, IsPut, OrNoMemory, memory_refused}
 use Rattle.a429_console.specs.RefusalText.{OrMemory, refusal_line}
@@ -161,7 +161,7 @@ SimulatesSpacedWords file table logs view form =
 -- ---- by the values of the program
 
 abbrev pub files_of : SimulationInput → SimulationFiles
-files_of i = record { table = table_texts i.table; logs = bytes_of i.logs.items; view = view_of i.view }
+files_of i = record { table = table_texts i.table; logs = logs_of i.logs.items; view = view_of i.view }
 
 -- what it writes of the logs of these names
 abbrev pub IsSimulationOf : (List ℕ → Option (List ℕ)) → TableTexts → LogNames → SimulationForm → ℕ → List ℕ → Type 0

@@ -1,31 +1,33 @@
 //! The command `judge`.
 ghost use Rattle.std.specs.Prelude.{◌≡◌, None, option_map, IfOk};
-ghost use Rattle.a429_console.specs.Files.{bytes_of};
 ghost use Rattle.a429_arguments.specs.Texts.{texts_of};
 ghost use Rattle.a429_console.specs.Names.{naming_of};
 ghost use Rattle.a429_console.specs.Readings.{HasRead};
-ghost use Rattle.a429_recordings.specs.BoxLogs.{AreOrdered, IsNoting, IsSentReading, restarted};
-ghost use Rattle.a429_recordings.specs.JudgeReplies.{IsJudgeAnswer, IsJudging, IsJudgingOf, IsPrinting, IsRecorded, MayBeFound, PassesNoBoxLine, PassesNoneOf, aligned_by, aligned_view, files_of, is_mixed, is_no_group, logs_of_sent, names_of, no_group_of};
-ghost use Rattle.a429_recordings.specs.LogItems.{PassesNone};
-ghost use Rattle.a429_recordings.specs.LogViews.{view_of};
+ghost use Rattle.a429_recordings.specs.JudgeReplies.{IsJudgeAnswer, IsJudging, IsJudgingOf, IsPrinting, MayBeFound, PassesNoBoxLine, PassesNoneOf, aligned_by, files_of, is_no_group, names_of, no_group_of};
 
+mod boxes;
 mod clocks;
 mod duties;
 mod events;
 mod input;
+mod judging;
+mod marks;
+mod noted;
 mod noting;
 mod rows;
 mod sheets;
+mod spans;
 mod words;
 
+use crate::judge::boxes::read_notes;
 use crate::judge::clocks::{BoxTexts, found_clock};
-use crate::judge::duties::{Judging, is_any_wide};
+use crate::judge::duties::is_any_wide;
 pub use crate::judge::input::JudgeNames;
 use crate::judge::input::{JudgeInput, read_input};
-use crate::judge::noting::{notes_of, overlap};
+use crate::judge::judging::Judging;
 pub use crate::judge::sheets::Sheeted;
 use crate::judge::sheets::judge_sheet;
-use crate::judge::words::{BoxLog, BoxWord, BoxWords, read_again, read_words};
+use crate::judge::words::BoxLog;
 use crate::logs::reading_for;
 pub use crate::logs::views::{ClockMove, LogView};
 use a429_align::Alignment;
@@ -37,9 +39,7 @@ use a429_console::hints::warnings::Warning;
 use a429_console::planning::with_plan;
 use a429_console::refusals::tables::no_group;
 use a429_console::refusals::{CommandRefusal, Refused};
-use a429_equipment::Equipment;
-use a429_judge::Judge;
-use a429_logs::{Clock, Reading};
+use a429_logs::Reading;
 use a429_replay::Names;
 use a429_slots::{OUTPUTS, Proposal};
 use a429_text::SheetForm;
@@ -78,125 +78,6 @@ pub struct Judged {
     pub alignment: Option<Alignment>,
 }
 
-/// How the first line of the logs of what was sent is read, after those of what came in: its times begin again. If no word
-/// came in, they are counted from the first.
-fn restarted(reading: Reading<'_>) -> Reading<'_>
-    ensures { result ≡ restarted reading.entry }
-{
-    let base = match reading.clock.base {
-        Some(_) => Some(0),
-        None => None,
-    };
-    Reading {
-        shape: None,
-        calendar: reading.calendar.begun_again(),
-        clock: Clock { base, last: 0 },
-        ..reading
-    }
-}
-
-/// Which words of what was sent are taken, on the clock that is found, otherwise on that which is given.
-fn sent_view<'a>(input: &'a JudgeInput<'a>, found: Option<Alignment>) -> LogView<'a>
-    ensures { view_of result ≡ aligned_view found (files_of input.now) }
-{
-    match found {
-        Some(alignment) => {
-            let clock = ClockMove {
-                drift: alignment.drift,
-                shift: alignment.shift,
-            };
-            input.sent_view.on_clock(clock)
-        }
-        None => input.sent_view,
-    }
-}
-
-/// Reads the logs of what was sent, after those of what came in. Error: the first faulty line.
-fn read_sent<'a, F: FileReader>(
-    alloc: Global,
-    files: &F,
-    names: &Names,
-    after: Reading<'a>,
-    input: &'a JudgeInput<'a>,
-    found: Option<Alignment>,
-    warnings: &mut Vec<Warning>,
-) -> Result<BoxWords<'a>, Refused>
-    ensures silent { PassesNone (restarted after.entry) (files_of input.now).sent → warnings.new.items ≡ warnings.old.items }
-    ensures read { IsSentReading names.now (aligned_view found (files_of input.now)) (is_mixed (files_of input.now))
-        after.entry (logs_of_sent (files_of input.now)) result }
-    ensures ordered { IfOk result (λ read. AreOrdered read.words.items) }
-{
-    let view = sent_view(input, found).after(after);
-    let next = restarted(after);
-    let part = input.part(BoxLog::Sent);
-    if part.is_mixed {
-        return read_again(alloc, files, names, view, part, next, &input.heard);
-    }
-    let first = input.heard.len();
-    match read_words(
-        alloc,
-        files,
-        names,
-        view,
-        part,
-        next,
-        first,
-        &input.sent,
-        warnings,
-    ) {
-        Ok(words) => Ok(words),
-        Err(refusal) => Err(refusal.after_logs(input.heard.len())),
-    }
-}
-
-/// The words of both logs, noted. Error: the two have no time in common.
-fn note_words(
-    alloc: Global,
-    equipment: &Equipment,
-    heard: &[BoxWord],
-    sent: &[BoxWord],
-) -> Result<Judge, Refused>
-    requires heard { AreOrdered heard.now }
-    requires sent { AreOrdered sent.now }
-    ensures { IsNoting equipment.now heard.now sent.now result }
-{
-    if !overlap(heard, sent) {
-        return Err(Refused::plain(CommandRefusal::Apart));
-    }
-    Ok(notes_of(alloc, equipment, heard, sent)?)
-}
-
-/// The words of the logs, noted, on the clock that is found, otherwise on that which is given. Errors: the first faulty line;
-/// the two logs have no time in common.
-fn read_notes<'a, F: FileReader>(
-    alloc: Global,
-    files: &F,
-    proposal: &Proposal<OUTPUTS>,
-    names: &Names,
-    input: &'a JudgeInput<'a>,
-    found: Option<Alignment>,
-    reading: Reading<'a>,
-    warnings: &mut Vec<Warning>,
-) -> Result<Judge, Refused>
-    requires { names.now ≡ naming_of proposal.now.station }
-    ensures silent { PassesNoneOf (files_of input.now) reading.entry → warnings.new.items ≡ warnings.old.items }
-    ensures recorded { IsRecorded proposal.now (aligned_by found (files_of input.now)) reading.entry result }
-{
-    let heard = read_words(
-        alloc,
-        files,
-        names,
-        input.heard_view,
-        input.part(BoxLog::Heard),
-        reading,
-        0,
-        &input.heard,
-        warnings,
-    )?;
-    let sent = read_sent(alloc, files, names, heard.next, input, found, warnings)?;
-    note_words(alloc, proposal.equipment(), &heard.words, &sent.words)
-}
-
 /// What is said of the words of the logs, on the clock that is found, otherwise on that which is given. Error: a log is
 /// refused.
 fn judge_words<'a, F: FileReader>(
@@ -204,15 +85,16 @@ fn judge_words<'a, F: FileReader>(
     files: &F,
     proposal: &Proposal<OUTPUTS>,
     names: &Names,
-    input: &'a JudgeInput<'a>,
+    input: JudgeInput<'a>,
     found: Option<Alignment>,
     form: JudgeForm<'a>,
     warnings: &mut Vec<Warning>,
 ) -> Result<Sheeted, Refused>
     requires { names.now ≡ naming_of proposal.now.station }
-    ensures silent { PassesNoneOf (files_of input.now) form.entry.reading → warnings.new.items ≡ warnings.old.items }
-    ensures printed { IsPrinting proposal.now (aligned_by found (files_of input.now)) form.entry result }
+    ensures silent { PassesNoneOf (files_of input.entry) form.entry.reading → warnings.new.items ≡ warnings.old.items }
+    ensures printed { IsPrinting proposal.now (aligned_by found (files_of input.entry)) form.entry result }
 {
+    let tolerances = input.tolerances;
     let judge = read_notes(
         alloc,
         files,
@@ -226,7 +108,7 @@ fn judge_words<'a, F: FileReader>(
     let judging = Judging {
         proposal,
         judge: &judge,
-        tolerances: input.tolerances,
+        tolerances,
     };
     Ok(judge_sheet(alloc, &judging, form.events, form.form)?)
 }
@@ -259,7 +141,7 @@ fn asked_clock<'a, F: FileReader>(
     files: &F,
     proposal: &Proposal<OUTPUTS>,
     names: &Names,
-    input: &'a JudgeInput<'a>,
+    input: &JudgeInput<'a>,
     reading: Reading<'a>,
 ) -> Result<Option<Alignment>, AllocError>
     ensures { IfOk result (MayBeFound (files_of input.now)) }
@@ -287,20 +169,20 @@ fn judge_plan<'a, F: FileReader>(
     files: &F,
     proposal: &Proposal<OUTPUTS>,
     names: &Names,
-    input: &'a JudgeInput<'a>,
+    input: JudgeInput<'a>,
     form: JudgeForm<'a>,
     warnings: &mut Vec<Warning>,
 ) -> Result<Judged, Refused>
     requires names { names.now ≡ naming_of proposal.now.station }
-    requires groups { no_group_of (naming_of proposal.now.station) (texts_of input.now.tolerances.now) ≡ None }
-    ensures silent { PassesNoneOf (files_of input.now) form.entry.reading → warnings.new.items ≡ warnings.old.items }
-    ensures judged { IsJudgingOf proposal.now (files_of input.now) form.entry result }
+    requires groups { no_group_of (naming_of proposal.now.station) (texts_of input.tolerances.now) ≡ None }
+    ensures silent { PassesNoneOf (files_of input.entry) form.entry.reading → warnings.new.items ≡ warnings.old.items }
+    ensures judged { IsJudgingOf proposal.now (files_of input.entry) form.entry result }
 {
     let wide = is_any_wide(alloc, proposal, input.tolerances)?;
     if wide {
         return Err(Refused::plain(CommandRefusal::Tolerance));
     }
-    let found = asked_clock(alloc, files, proposal, names, input, form.reading)?;
+    let found = asked_clock(alloc, files, proposal, names, &input, form.reading)?;
     match judge_words(alloc, files, proposal, names, input, found, form, warnings) {
         Ok(sheet) => Ok(Judged {
             sheet,
@@ -315,12 +197,12 @@ fn judge_box<'a, F: FileReader>(
     alloc: Global,
     files: &F,
     proposal: &Proposal<OUTPUTS>,
-    input: &'a JudgeInput<'a>,
+    input: JudgeInput<'a>,
     form: JudgeForm<'a>,
     warnings: &mut Vec<Warning>,
 ) -> Result<Judged, Refused>
-    ensures silent { PassesNoneOf (files_of input.now) form.entry.reading → warnings.new.items ≡ warnings.old.items }
-    ensures judged { IsJudgingOf proposal.now (files_of input.now) form.entry result }
+    ensures silent { PassesNoneOf (files_of input.entry) form.entry.reading → warnings.new.items ≡ warnings.old.items }
+    ensures judged { IsJudgingOf proposal.now (files_of input.entry) form.entry result }
 {
     let names = Names::of(alloc, proposal.equipment())?;
     match no_group_of(&names, input.tolerances) {
@@ -333,12 +215,12 @@ fn judge_box<'a, F: FileReader>(
 fn judge_input<'a, F: FileReader>(
     alloc: Global,
     files: &F,
-    input: &'a JudgeInput<'a>,
+    input: JudgeInput<'a>,
     form: JudgeForm<'a>,
     warnings: &mut Vec<Warning>,
 ) -> Result<Judged, Refused>
-    ensures silent { PassesNoneOf (files_of input.now) form.entry.reading → warnings.new.items ≡ warnings.old.items }
-    ensures judged { IsJudging (files_of input.now) form.entry result }
+    ensures silent { PassesNoneOf (files_of input.entry) form.entry.reading → warnings.new.items ≡ warnings.old.items }
+    ensures judged { IsJudging (files_of input.entry) form.entry result }
 {
     let proposal = input.table.propose(alloc)?;
     let judged = judge_box(alloc, files, &proposal, input, form, warnings);
@@ -361,5 +243,5 @@ pub fn judge_logs<'a, F: FileReader>(
     ensures answer { HasRead F.answers (λ file. IsJudgeAnswer file (names_of names.entry) form.entry result) files.old files.new }
 {
     let input = read_input(alloc, files, names)?;
-    judge_input(alloc, files, &input, form, warnings)
+    judge_input(alloc, files, input, form, warnings)
 }

@@ -93,7 +93,7 @@ fn line_style(sent: bool, form: SheetForm) -> LineStyle
 #[derive(Drop)]
 struct SimulationInput<'a> {
     table: GivenTable,
-    logs: Vec<Vec<u8>>,
+    logs: Vec<Vec<Vec<u8>>>,
     view: LogView<'a>,
 }
 

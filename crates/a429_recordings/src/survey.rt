@@ -1,6 +1,6 @@
 //! The command `survey`.
 ghost use Rattle.std.specs.Prelude.{◌≡◌, Ok, IfOk, MatchResult, option_map};
-ghost use Rattle.a429_console.specs.Files.{bytes_of};
+ghost use Rattle.a429_console.specs.Files.{logs_of};
 ghost use Rattle.a429_console.specs.Readings.{HasRead};
 ghost use Rattle.a429_console.specs.RefusalText.{OrMemory};
 ghost use Rattle.a429_recordings.specs.LogItems.{IsItemFault, PassesNoLine, PassesNone, items_of, logs_named};
@@ -78,6 +78,7 @@ fn text_in(name: &[u8]) -> Option<&str>
 }
 
 impl WordKeeper for Survey {
+    ghost use Rattle.std.specs.Prelude.{ℕ};
     ghost use Rattle.a429_survey.specs.Figures.{Noted};
     ghost use Rattle.a429_recordings.specs.LogViews.{one_item};
     ghost use Rattle.a429_recordings.specs.Surveys.{noted_of};
@@ -87,6 +88,10 @@ impl WordKeeper for Survey {
     ghost items = { λ _. one_item noted_of };
 
     ghost kept = { λ noted. noted };
+
+    ghost Fixed = { ℕ };
+
+    ghost fixed = { λ _. 0 };
 
     /// Notes a word. Error: its name is not UTF-8, or an allocation failed.
     #[tactic(auto, using(crate::proofs::LogLines::kept_one), unfolding(crate::specs::Surveys::noted_of))]
@@ -111,12 +116,12 @@ fn survey_of<'a, F: FileReader>(
     files: &F,
     view: LogView<'a>,
     reading: Reading<'a>,
-    logs: &'a [Vec<u8>],
+    logs: &'a [Vec<Vec<u8>>],
     warnings: &mut Vec<Warning>,
 ) -> Result<Survey, Refused>
-    ensures silent { PassesNone reading.entry (bytes_of logs.now) → warnings.new.items ≡ warnings.old.items }
-    ensures survey { MatchResult result (λ survey. items_of (noted_by (view_of view.entry)) reading.entry (bytes_of logs.now) ≡ Ok survey)
-        (OrMemory (IsItemFault (noted_by (view_of view.entry)) reading.entry (bytes_of logs.now))) }
+    ensures silent { PassesNone reading.entry (logs_of logs.now) → warnings.new.items ≡ warnings.old.items }
+    ensures survey { MatchResult result (λ survey. items_of (noted_by (view_of view.entry)) reading.entry (logs_of logs.now) ≡ Ok survey)
+        (OrMemory (IsItemFault (noted_by (view_of view.entry)) reading.entry (logs_of logs.now))) }
 {
     let mut survey = Survey::new(alloc);
     match keep_logs(alloc, files, &mut survey, view, reading, 0, logs, warnings) {

@@ -29,16 +29,27 @@ fn word_for(names: &[&str], word: StatedWord<'_>) -> Option<Word> {
     None
 }
 
-/// The words of a log. Error: the line of the first that is faulty, or is of no receiver.
+/// A log in these pieces.
+fn log_of(rt: &impl Abort, alloc: Global, texts: &[&str]) -> Vec<Vec<u8>> {
+    let mut pieces = Vec::new(alloc);
+    for text in texts {
+        let piece = Vec::from_slice(alloc, text.as_bytes()).expect(rt, "memory");
+        pieces.push(piece).expect(rt, "memory");
+    }
+    pieces
+}
+
+/// The words of a log in these pieces. Error: the line of the first that is faulty, or is of no receiver.
 fn words_in(
     rt: &impl Abort,
     alloc: Global,
     names: &[&str],
-    log: &[u8],
+    texts: &[&str],
 ) -> Result<Vec<Word>, usize> {
     let reading = Reading::new(Some(TimeUnit::Microseconds), Clock::from_time(0));
     let mut words = Vec::new(alloc);
-    let mut reader = LogReader::open(reading, log);
+    let log = log_of(rt, alloc, texts);
+    let mut reader = LogReader::open(reading, &log);
     while let Some(entry) = reader.next() {
         let entry = match entry {
             Ok(entry) => entry,
@@ -54,8 +65,8 @@ fn words_in(
 
 #[test]
 fn words_come_with_their_receivers(rt: HostRuntime) {
-    let log = b"# time receiver word\n5 irs 600000c1\n\n7 adc 000000c1\n";
-    let words = words_in(&rt, rt.alloc(), &NAMES, log).ok();
+    let log = "# time receiver word\n5 irs 600000c1\n\n7 adc 000000c1\n";
+    let words = words_in(&rt, rt.alloc(), &NAMES, &[log]).ok();
     let words = words.expect(&rt, "words");
     let (first, second) = (words.first().copied(), words.last().copied());
     assert!(rt; words.len() == 2);
@@ -75,8 +86,48 @@ fn words_come_with_their_receivers(rt: HostRuntime) {
 
 #[test]
 fn a_line_of_no_receiver_is_named(rt: HostRuntime) {
-    let faulty = words_in(&rt, rt.alloc(), &NAMES, b"5 irs 600000c1\n7 gps 000000c1\n").err();
+    let faulty = words_in(
+        &rt,
+        rt.alloc(),
+        &NAMES,
+        &["5 irs 600000c1\n7 gps 000000c1\n"],
+    )
+    .err();
     assert!(rt; faulty == Some(2));
-    let faulty = words_in(&rt, rt.alloc(), &NAMES, b"5 irs 600000c1\n7 adc 00c1\n").err();
+    let faulty = words_in(&rt, rt.alloc(), &NAMES, &["5 irs 600000c1", "7 adc 00c1\n"]).err();
     assert!(rt; faulty == Some(2));
+}
+
+/// The line and the time of the next word of the piece that is read.
+fn next_time(reader: &mut LogReader<'_, '_>) -> Option<(usize, u64)> {
+    match reader.next_here() {
+        Some(Ok(entry)) => Some((entry.line, entry.word.time)),
+        _ => None,
+    }
+}
+
+#[test]
+fn a_log_goes_on_after_pieces_that_are_dropped(rt: HostRuntime) {
+    let reading = Reading::new(Some(TimeUnit::Microseconds), Clock::from_time(0));
+    let log = log_of(
+        &rt,
+        rt.alloc(),
+        &["a title\ntime,name,word\n5,irs,600000c1"],
+    );
+    let mut reader = LogReader::open(reading, &log);
+    assert!(rt; next_time(&mut reader) == Some((3, 5)));
+    assert!(rt; next_time(&mut reader).is_none());
+    assert!(rt; reader.next_piece() == 1);
+    let point = reader.point();
+    drop(log);
+    let later = log_of(&rt, rt.alloc(), &["7,adc,000000c1", "", "9,irs,600000c1"]);
+    let mut reader = LogReader::go_on(point, &later);
+    assert!(rt; next_time(&mut reader) == Some((4, 7)));
+    assert!(rt; next_time(&mut reader).is_none());
+    assert!(rt; reader.next_piece() == 1);
+    let mut reader = LogReader::go_on(reader.point(), &later[1..]);
+    assert!(rt; next_time(&mut reader).is_none());
+    let mut reader = LogReader::go_on(reader.point(), &later[2..]);
+    assert!(rt; next_time(&mut reader) == Some((6, 9)));
+    assert!(rt; reader.passed_over().titles == 1);
 }

@@ -1,6 +1,8 @@
 //! Words of recordings whose times fall.
+ghost use Rattle.std.specs.Prelude.{◌<◌, length};
+ghost use Rattle.a429_judge.specs.Recordings.{group_at};
 
-use a429_judge::{Duty, Facts, Judge, Judgement, Mark, NoteFault, Sent, Verdict};
+use a429_judge::{Duty, Facts, Judge, JudgeFault, Judgement, Mark, Sent, Verdict};
 use a429_survey::Survey;
 use a429_text::{Sheet, SheetForm};
 use std::alloc::Global;
@@ -72,22 +74,48 @@ fn sent(time: u64) -> Sent {
     }
 }
 
-/// The judgement of a word that came in and was sent, after two words of earlier times, which are refused.
+/// A judge of the output of `DUTY`, after a word that came in and was sent.
+fn judge_of_words(rt: &impl Abort, alloc: Global) -> Judge
+    ensures { 0 < length (group_at result.duties 0) }
+{
+    let outputs = vec![in alloc; DUTY].expect(rt, "outputs");
+    let groups = vec![in alloc; outputs].expect(rt, "groups");
+    let mut judge = Judge::new(alloc, groups).expect(rt, "a judge");
+    judge.heard(Some(0), mark(1000));
+    judge.sent(sent(1440));
+    judge
+}
+
+/// The judgement of that output.
 fn judgement_of_words(rt: &impl Abort, alloc: Global) -> Judgement {
-    let mut judge = Judge::new(alloc);
-    judge.heard(Some(0), mark(1000)).expect(rt, "a word");
-    judge.sent(sent(1440)).expect(rt, "a word");
-    assert!(rt; judge.heard(Some(0), mark(999)) == Err(NoteFault::TimeFalls));
-    assert!(rt; judge.sent(sent(1439)) == Err(NoteFault::TimeFalls));
-    let judgement = judge
-        .judgement(alloc, &[DUTY], &DUTY)
-        .expect(rt, "a judgement");
+    let judge = judge_of_words(rt, alloc);
+    let judgement = judge.judgement(alloc, 0, 0).expect(rt, "a judgement");
     judgement
 }
 
 #[test]
-fn words_of_falling_times_are_not_judged(rt: HostRuntime) {
+fn a_word_that_was_sent_is_judged(rt: HostRuntime) {
     let judgement = judgement_of_words(&rt, rt.alloc());
     assert!(rt; judgement.verdict == Verdict::TooShort && judgement.sent == 1);
     assert!(rt; judgement.delay == Some(440) && judgement.found == 0);
+}
+
+/// Whether the output is not judged, since the times of a log fall.
+fn is_refused(judge: &Judge, alloc: Global) -> bool
+    requires { 0 < length (group_at judge.now.duties 0) }
+{
+    match judge.judgement(alloc, 0, 0) {
+        Err(fault) => fault == JudgeFault::TimesFall,
+        Ok(_) => false,
+    }
+}
+
+#[test]
+fn words_of_falling_times_are_not_judged(rt: HostRuntime) {
+    let mut judge = judge_of_words(&rt, rt.alloc());
+    judge.heard(Some(0), mark(999));
+    assert!(rt; is_refused(&judge, rt.alloc()));
+    let mut judge = judge_of_words(&rt, rt.alloc());
+    judge.sent(sent(1439));
+    assert!(rt; is_refused(&judge, rt.alloc()));
 }

@@ -1,5 +1,6 @@
 //! Files of the system.
 
+use crate::files::pieces::read_in_pieces;
 use crate::files::{FileFault, FileReader, FileTrouble};
 use std::alloc::Global;
 use std::fs::File;
@@ -27,27 +28,72 @@ impl<'a, R: Files + Input + AllocGlobal> DiskFiles<'a, R> {
         }
     }
 
-    /// The bytes of a file, or of a larger one the first, one more than it may have.
-    fn first_bytes(&mut self, name: &str, most: usize) -> io::Result<Vec<u8>> {
+    /// The bytes of a file. `None` if there are more than `most`.
+    fn read_file(&mut self, name: &str, most: usize) -> io::Result<Option<Vec<u8>>> {
         if name != "-" {
-            let file = File::open(self.rt, name)?;
-            return first_of(self.rt.alloc(), file, most);
+            return read_whole(self.rt.alloc(), File::open(self.rt, name)?, most);
         }
+        self.begin_input()?;
+        read_whole(self.rt.alloc(), self.rt.reader(), most)
+    }
+
+    /// The bytes of a file in pieces. `None` if there are more than `most`.
+    fn read_file_in_pieces(
+        &mut self,
+        alloc: Global,
+        name: &str,
+        most: usize,
+    ) -> io::Result<Option<Vec<Vec<u8>>>> {
+        if name != "-" {
+            return read_in_pieces(alloc, File::open(self.rt, name)?, most);
+        }
+        self.begin_input()?;
+        read_in_pieces(alloc, self.rt.reader(), most)
+    }
+
+    /// Notes that the standard input is read. Error: it was read before.
+    fn begin_input(&mut self) -> io::Result<()> {
         if self.is_input_read {
             return Err(io::Error::from(ErrorKind::NotFound));
         }
         self.is_input_read = true;
-        first_of(self.rt.alloc(), self.rt.reader(), most)
+        Ok(())
+    }
+
+    /// The answer to the name of a file of which this was read. The file has at most `most` bytes if anything was.
+    fn answer<T: Drop>(
+        &mut self,
+        read: io::Result<Option<T>>,
+        most: usize,
+    ) -> Result<T, FileFault> {
+        match read {
+            Ok(Some(contents)) => Ok(contents),
+            Ok(None) => {
+                self.trouble = FileTrouble::TooLarge(most);
+                Err(FileFault::Refused)
+            }
+            Err(error) => {
+                self.trouble = trouble_of(error.kind());
+                Err(fault_of(error.kind()))
+            }
+        }
     }
 }
 
-/// The first bytes that are left of a reader, at most one more than these.
-fn first_of<I: Read + Drop>(alloc: Global, reader: I, most: usize) -> io::Result<Vec<u8>> {
+/// The bytes that are left of a reader. `None` if there are more than `most`: the rest of them is not read.
+fn read_whole<I: Read + Drop>(
+    alloc: Global,
+    reader: I,
+    most: usize,
+) -> io::Result<Option<Vec<u8>>> {
     let mut bytes = Vec::new(alloc);
     reader
         .take((most as u64).saturating_add(1))
         .read_to_end(&mut bytes)?;
-    Ok(bytes)
+    if bytes.len() > most {
+        return Ok(None);
+    }
+    Ok(Some(bytes))
 }
 
 impl<R: Files + Input + AllocGlobal> FileReader for DiskFiles<'_, R> {
@@ -63,17 +109,18 @@ impl<R: Files + Input + AllocGlobal> FileReader for DiskFiles<'_, R> {
     ghost known = { λ _ _ _ _ told _. not_told told };
 
     fn read(&mut self, name: &str, most: usize) -> Result<Vec<u8>, FileFault> {
-        match self.first_bytes(name, most) {
-            Ok(bytes) if bytes.len() <= most => Ok(bytes),
-            Ok(_) => {
-                self.trouble = FileTrouble::TooLarge(most);
-                Err(FileFault::Refused)
-            }
-            Err(error) => {
-                self.trouble = trouble_of(error.kind());
-                Err(fault_of(error.kind()))
-            }
-        }
+        let read = self.read_file(name, most);
+        self.answer(read, most)
+    }
+
+    fn read_pieces(
+        &mut self,
+        alloc: Global,
+        name: &str,
+        most: usize,
+    ) -> Result<Vec<Vec<u8>>, FileFault> {
+        let read = self.read_file_in_pieces(alloc, name, most);
+        self.answer(read, most)
     }
 
     fn trouble(&self, _name: &str) -> FileTrouble {

@@ -2,7 +2,9 @@
 ghost use Rattle.std.specs.Prelude.{◌≡◌, option_map};
 ghost use Rattle.a429_console.specs.MemoryFile.{file_of};
 
+use crate::files::pieces::in_one_piece;
 use crate::files::{FileFault, FileReader, FileTrouble, LARGEST_FILE};
+use std::alloc::Global;
 
 /// Files by name. If two have one name, the first is read.
 #[derive(Drop)]
@@ -32,6 +34,15 @@ impl FileReader for MemoryFiles {
                 Err(_) => Err(FileFault::NoMemory),
             },
         }
+    }
+
+    fn read_pieces(
+        &mut self,
+        alloc: Global,
+        name: &str,
+        most: usize,
+    ) -> Result<Vec<Vec<u8>>, FileFault> {
+        in_one_piece(alloc, self.read(name, most))
     }
 
     fn trouble(&self, name: &str) -> FileTrouble {

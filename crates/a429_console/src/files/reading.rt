@@ -1,9 +1,10 @@
 //! Files as the commands read them.
 ghost use Rattle.std.specs.Prelude.{◌≡◌, ◌∷◌, List, ℕ, Option, IfOk, string_bytes};
 ghost use Rattle.a429_arguments.specs.Texts.{texts_of};
-ghost use Rattle.a429_console.specs.Readings.{HasRead, IsAnswerOf, answer_of};
-ghost use Rattle.a429_console.specs.FileReadings.{AreLogReadings, AreReadings, AreReadingsIn, IsReading, IsReadingIn, printable_char, printable_name};
+ghost use Rattle.a429_console.specs.Readings.{HasRead, IsAnswerOf, answer_by};
+ghost use Rattle.a429_console.specs.FileReadings.{AreLogReadings, AreReadings, AreReadingsOf, IsReading, IsReadingOf, printable_char, printable_name};
 
+use crate::files::contents::Contents;
 use crate::files::{FileFault, FileReader, FileTrouble, LARGEST_FILE, LARGEST_LOG};
 use crate::refusals::evidence::Evidence;
 use crate::refusals::{CommandRefusal, Refused};
@@ -25,17 +26,18 @@ pub fn printable_name(alloc: Global, name: &str) -> Result<String, AllocError>
 }
 
 /// What a command takes of the answer to a file's name: at most `most` bytes. A refusal has the reader's reason.
-fn bytes_of_answer(
+fn contents_of_answer<C: Contents>(
     alloc: Global,
     name: &str,
     most: usize,
-    answer: Result<Vec<u8>, FileFault>,
+    answer: Result<C, FileFault>,
     trouble: FileTrouble,
-) -> Result<Vec<u8>, Refused>
-    ensures { (file : List ℕ → Option (List ℕ)) → IsAnswerOf file name.now (answer_of answer) → IsReadingIn most file name.now result }
+) -> Result<C, Refused>
+    ensures { (file : List ℕ → Option (List ℕ)) → IsAnswerOf file name.now (answer_by C.text answer)
+        → IsReadingOf C.text most file name.now result }
 {
     match answer {
-        Ok(bytes) if bytes.len() <= most => Ok(bytes),
+        Ok(contents) if contents.has_at_most(most) => Ok(contents),
         Ok(_) | Err(FileFault::Refused) => match printable_name(alloc, name) {
             Ok(name) => Err(Refused::with(CommandRefusal::File(name), Evidence::File(trouble))),
             Err(_) => Err(Refused::plain(CommandRefusal::Memory)),
@@ -44,18 +46,19 @@ fn bytes_of_answer(
     }
 }
 
-/// The bytes of a file, at most `most`. Error: the file cannot be read or is larger, or an allocation failed.
-fn read_up_to<F: FileReader>(
+/// What is kept of a file, which has at most `most` bytes. Error: the file cannot be read or is larger, or an allocation
+/// failed.
+fn read_up_to<F: FileReader, C: Contents>(
     alloc: Global,
     files: &mut F,
     name: &str,
     most: usize,
-) -> Result<Vec<u8>, Refused>
-    ensures { HasRead F.answers (λ file. IsReadingIn most file name.now result) files.old files.new }
+) -> Result<C, Refused>
+    ensures { HasRead F.answers (λ file. IsReadingOf C.text most file name.now result) files.old files.new }
 {
-    let answer = files.read(name, most);
+    let answer = C::ask(alloc, files, name, most);
     let trouble = files.trouble(name);
-    bytes_of_answer(alloc, name, most, answer, trouble)
+    contents_of_answer(alloc, name, most, answer, trouble)
 }
 
 /// The bytes of a file, at most 16 MiB. Error: the file cannot be read or is larger, or an allocation failed.
@@ -69,14 +72,14 @@ pub fn read_file<F: FileReader>(
     read_up_to(alloc, files, name, LARGEST_FILE)
 }
 
-/// The bytes of several files, at most `most` of each. Error: that of the first file that has one.
-fn read_all_up_to<F: FileReader>(
+/// What is kept of several files, each of which has at most `most` bytes. Error: that of the first file that has one.
+fn read_all_up_to<F: FileReader, C: Contents>(
     alloc: Global,
     files: &mut F,
     names: &[&str],
     most: usize,
-) -> Result<Vec<Vec<u8>>, Refused>
-    ensures { HasRead F.answers (λ file. AreReadingsIn most file (texts_of names.now) result) files.old files.new }
+) -> Result<Vec<C>, Refused>
+    ensures { HasRead F.answers (λ file. AreReadingsOf C.text most file (texts_of names.now) result) files.old files.new }
 {
     let mut all = Vec::new(alloc);
     for name in names {
@@ -111,26 +114,26 @@ fn log_names<'a>(
     Ok(names)
 }
 
-/// The bytes of several logs, at most 1 GiB each. Error: the first log that cannot be read or is larger, or an allocation
+/// Several logs in pieces, at most 1 GiB each. Error: the first log that cannot be read or is larger, or an allocation
 /// failed.
 pub fn read_log_files<F: FileReader>(
     alloc: Global,
     files: &mut F,
     names: &[&str],
-) -> Result<Vec<Vec<u8>>, Refused>
+) -> Result<Vec<Vec<Vec<u8>>>, Refused>
     ensures { HasRead F.answers (λ file. AreLogReadings file (texts_of names.now) result) files.old files.new }
 {
     read_all_up_to(alloc, files, names, LARGEST_LOG)
 }
 
-/// The bytes of a log and of those that follow it, at most 1 GiB each. Error: the first log that cannot be read or is
-/// larger, or an allocation failed.
+/// A log and those that follow it, in pieces, at most 1 GiB each. Error: the first log that cannot be read or is larger, or
+/// an allocation failed.
 pub fn read_logs<'a, F: FileReader>(
     alloc: Global,
     files: &mut F,
     first: &'a str,
     more: &'a [&'a str],
-) -> Result<Vec<Vec<u8>>, Refused>
+) -> Result<Vec<Vec<Vec<u8>>>, Refused>
     ensures { HasRead F.answers (λ file. AreLogReadings file (first.now ∷ texts_of more.now) result) files.old files.new }
 {
     match log_names(alloc, first, more) {

@@ -120,6 +120,16 @@ impl<F: FileReader, C: Clock, W: Write + Copy> FileReader for ShownFiles<'_, F, 
         self.files.read(name, most)
     }
 
+    fn read_pieces(
+        &mut self,
+        alloc: Global,
+        name: &str,
+        most: usize,
+    ) -> Result<Vec<Vec<u8>>, FileFault> {
+        self.begin();
+        self.files.read_pieces(alloc, name, most)
+    }
+
     fn show_done(&self, done: usize, all: usize) {
         self.begin();
         let now = self.now();

@@ -189,6 +189,12 @@ impl LineEvidence {
         })
     }
 
+    /// The same line, by its number in a longer text.
+    pub fn with_number(mut self, number: usize) -> LineEvidence {
+        self.number = number;
+        self
+    }
+
     /// The line of the byte at this place, up to that byte. `None`: there is none, or an allocation fails.
     fn at(alloc: Global, bytes: &[u8], place: usize) -> Option<LineEvidence> {
         let before = bytes.get(..place)?;

@@ -1,9 +1,9 @@
 //! The clock of what was sent, by the words that came in.
 ghost use Rattle.std.specs.Prelude.{◌≤◌};
 
-use crate::judge::noting::accepting;
-use crate::judge::restarted;
-use crate::judge::words::{BoxPart, BoxWord, read_again};
+use crate::judge::boxes::restarted;
+use crate::judge::marks::accepting;
+use crate::judge::words::{BoxPart, BoxWord, read_words};
 use crate::logs::views::{ClockMove, LogView};
 use a429_align::{Alignment, Recorded, Span, align};
 use a429_console::files::FileReader;
@@ -19,7 +19,7 @@ use std::alloc::{AllocError, Global};
 pub struct BoxTexts<'a> {
     pub view: LogView<'a>,
     pub part: BoxPart,
-    pub texts: &'a [Vec<u8>],
+    pub texts: &'a [Vec<Vec<u8>>],
 }
 
 /// These spans, with the times of the first and the last of them.
@@ -60,7 +60,7 @@ fn sent_spans<'a, F: FileReader>(
         ..sent.view
     };
     let next = restarted(after);
-    let read = read_again(alloc, files, names, view, sent.part, next, sent.texts);
+    let read = read_words(alloc, files, names, view, sent.part, next, sent.texts);
     let words = read.ok()?.words;
     let mut spans = Gathered::new(alloc);
     for word in &words {
@@ -170,7 +170,7 @@ pub fn found_clock<'a, F: FileReader>(
     sent: BoxTexts<'a>,
     reading: Reading<'a>,
 ) -> Result<Option<Alignment>, AllocError> {
-    let read = read_again(
+    let read = read_words(
         alloc,
         files,
         names,

@@ -4,7 +4,8 @@ ghost use Rattle.std.specs.Prelude.{◌≡◌, ◌||◌, ◌*◌, ◌^◌, ◌<�
 ghost use Rattle.std.specs.List.{list_any};
 ghost use Rattle.a429_slots.specs.Tables.{groups_of, outputs_of};
 ghost use Rattle.a429_arguments.specs.Texts.{texts_of};
-ghost use Rattle.a429_recordings.specs.JudgedPlans.{duties_of, duty_of, is_any_wide, is_wide, label_of, period_at, row_of, sdi_of, shortest_period, tolerance_of};
+ghost use Rattle.a429_judge.specs.Recordings.{lists_of};
+ghost use Rattle.a429_recordings.specs.JudgedPlans.{all_duties, duties_of, duty_of, is_any_wide, is_wide, label_of, period_at, row_of, sdi_of, shortest_period, tolerance_of};
 ghost use Rattle.a429_recordings.specs.SimulationRuns.{HasPlannedGroup};
 ghost use Rattle.a429_recordings.specs.Timeline.{rate_of, table_of};
 
@@ -12,19 +13,10 @@ use a429_arguments::tolerances::tolerance_for;
 use a429_console::refusals::names::group_name;
 use a429_equipment::{Equipment, OutputRow};
 use a429_grid::SLOT_TIME;
-use a429_judge::{Duty, Facts, Judge, default_tolerance};
+use a429_judge::{Duty, Facts, default_tolerance};
 use a429_slots::{OUTPUTS, OutputId, Proposal};
 use a429_text::Gathered;
 use std::alloc::{AllocError, Global};
-
-/// A plan, the words that are judged by it, and the tolerances of their times that are given: each is US or GROUP=US, in
-/// microseconds. A group without one has its default.
-#[derive(Clone, Copy)]
-pub struct Judging<'a> {
-    pub proposal: &'a Proposal<OUTPUTS>,
-    pub judge: &'a Judge,
-    pub tolerances: &'a [&'a str],
-}
 
 /// The bit rate of a group.
 fn rate_of(proposal: &Proposal<OUTPUTS>, group: usize) -> u32
@@ -167,6 +159,21 @@ pub fn duties_of(
         duties.push(duty_of(proposal, tolerances, group, output));
     }
     duties.into_vec()
+}
+
+/// The outputs of all groups, by their groups. Error: an allocation failed.
+pub fn all_duties(
+    alloc: Global,
+    proposal: &Proposal<OUTPUTS>,
+    tolerances: &[&str],
+) -> Result<Vec<Vec<Duty>>, AllocError>
+    ensures { IfOk result (λ duties. lists_of duties.items ≡ all_duties proposal.now (texts_of tolerances.now)) }
+{
+    let mut all = Vec::new(alloc);
+    for group in 0..proposal.plan().groups() {
+        all.push(duties_of(alloc, proposal, tolerances, group)?)?;
+    }
+    Ok(all)
 }
 
 /// The product of two numbers.

@@ -4,15 +4,16 @@ ghost use Rattle.a429_text.specs.Fields.{Text};
 ghost use Rattle.a429_text.specs.Sheets.{field_of};
 ghost use Rattle.a429_recordings.specs.JudgeReplies.{given_by};
 ghost use Rattle.a429_slots.specs.Tables.{outputs_of};
-ghost use Rattle.a429_recordings.specs.JudgedPlans.{bus_field, duties_of, event_row, finding_row, foreign_event, foreign_in, foreign_rows, group_events, judge_events, kind_text, output_events, outputs_at};
+ghost use Rattle.a429_recordings.specs.JudgedPlans.{bus_field, event_row, finding_row, foreign_event, foreign_in, foreign_rows, group_events, judge_events, kind_text, output_events, outputs_at};
 ghost use Rattle.a429_console.specs.Names.{group_name, output_name};
 ghost use Rattle.a429_recordings.specs.SimulationRuns.{HasPlannedGroup};
 ghost use Rattle.a429_recordings.specs.Timeline.{table_of};
 
-use crate::judge::duties::{Judging, duties_of, duty_of};
+use crate::judge::duties::duty_of;
+use crate::judge::judging::Judging;
 use a429_console::refusals::names::{group_name, source_name};
 use a429_equipment::Equipment;
-use a429_judge::{Duty, Finding, Kind, Mark, Sent};
+use a429_judge::{Finding, Kind, Mark, Sent};
 use a429_text::{Cell, Gathered, Rows};
 use std::alloc::{AllocError, Global};
 
@@ -112,17 +113,15 @@ fn add_output(
     alloc: Global,
     judging: &Judging<'_>,
     group: usize,
-    duties: &[Duty],
     output: usize,
 ) -> Result<(), AllocError>
     requires known { HasPlannedGroup judging.now.proposal.now group }
     requires output { output < length (outputs_of (table_of judging.now.proposal.now group)) }
-    requires duties { duties.now ≡ duties_of judging.now.proposal.now (given_by judging.now) group }
     ensures { OnOk result (rows.new ≡ rows.old
-        ++ output_events judging.now.proposal.now (given_by judging.now) judging.now.judge.now group output) }
+        ++ output_events judging.now.proposal.now (given_by judging.now) judging.now.judge.now.noted group output) }
 {
     let duty = duty_of(judging.proposal, judging.tolerances, group, output);
-    let found = judging.judge.found(alloc, duties, &duty)?;
+    let found = judging.found(alloc, group, output)?;
     let found = found.as_slice()?;
     let equipment = judging.proposal.equipment();
     add_found(rows, equipment, group, output, duty.bus, found);
@@ -135,16 +134,14 @@ fn add_outputs(
     alloc: Global,
     judging: &Judging<'_>,
     group: usize,
-    duties: &[Duty],
 ) -> Result<(), AllocError>
     requires known { HasPlannedGroup judging.now.proposal.now group }
-    requires duties { duties.now ≡ duties_of judging.now.proposal.now (given_by judging.now) group }
     ensures { OnOk result (rows.new ≡ rows.old
-        ++ flat_map (output_events judging.now.proposal.now (given_by judging.now) judging.now.judge.now group)
+        ++ flat_map (output_events judging.now.proposal.now (given_by judging.now) judging.now.judge.now.noted group)
         (outputs_at judging.now.proposal.now group)) }
 {
     for output in 0..judging.proposal.plan().group(group).outputs() {
-        add_output(rows, alloc, judging, group, duties, output)?;
+        add_output(rows, alloc, judging, group, output)?;
     }
     Ok(())
 }
@@ -166,19 +163,12 @@ fn add_foreign(rows: &mut Rows, group: &str, foreign: &[Sent])
 }
 
 /// Adds the rows of a group's foreign words. Error: an allocation failed.
-fn add_foreign_of(
-    rows: &mut Rows,
-    alloc: Global,
-    judging: &Judging<'_>,
-    group: usize,
-    duties: &[Duty],
-) -> Result<(), AllocError>
-    requires { duties.now ≡ duties_of judging.now.proposal.now (given_by judging.now) group }
+fn add_foreign_of(rows: &mut Rows, judging: &Judging<'_>, group: usize) -> Result<(), AllocError>
+    requires { HasPlannedGroup judging.now.proposal.now group }
     ensures { OnOk result (rows.new ≡ rows.old ++ foreign_rows (group_name judging.now.proposal.now.station group)
-        (foreign_in judging.now.proposal.now (given_by judging.now) judging.now.judge.now group)) }
+        (foreign_in judging.now.proposal.now (given_by judging.now) judging.now.judge.now.noted group)) }
 {
-    let foreign = judging.judge.foreign(alloc, duties, group);
-    let words = foreign.as_slice()?;
+    let words = judging.foreign(group)?;
     let name = group_name(judging.proposal.equipment(), group);
     add_foreign(rows, name.as_str(), words);
     Ok(())
@@ -193,18 +183,17 @@ fn add_group(
 ) -> Result<(), AllocError>
     requires { HasPlannedGroup judging.now.proposal.now group }
     ensures { OnOk result (rows.new ≡ rows.old
-        ++ group_events judging.now.proposal.now (given_by judging.now) judging.now.judge.now group) }
+        ++ group_events judging.now.proposal.now (given_by judging.now) judging.now.judge.now.noted group) }
 {
-    let duties = duties_of(alloc, judging.proposal, judging.tolerances, group)?;
-    add_outputs(rows, alloc, judging, group, &duties)?;
-    add_foreign_of(rows, alloc, judging, group, &duties)?;
+    add_outputs(rows, alloc, judging, group)?;
+    add_foreign_of(rows, judging, group)?;
     Ok(())
 }
 
 /// Adds the rows of all groups. Error: an allocation failed.
 pub fn add_events(rows: &mut Rows, alloc: Global, judging: &Judging<'_>) -> Result<(), AllocError>
     ensures { OnOk result (rows.new ≡ rows.old
-        ++ judge_events judging.now.proposal.now (given_by judging.now) judging.now.judge.now) }
+        ++ judge_events judging.now.proposal.now (given_by judging.now) judging.now.judge.now.noted) }
 {
     for group in 0..judging.proposal.plan().groups() {
         add_group(rows, alloc, judging, group)?;

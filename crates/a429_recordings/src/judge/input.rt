@@ -1,6 +1,6 @@
 //! The files that are judged.
 ghost use Rattle.std.specs.Prelude.{◌≡◌};
-ghost use Rattle.a429_console.specs.Files.{bytes_of};
+ghost use Rattle.a429_console.specs.Files.{logs_of};
 ghost use Rattle.a429_console.specs.Readings.{HasRead};
 ghost use Rattle.a429_recordings.specs.JudgeReplies.{IsBoxReading, files_of, names_of};
 
@@ -34,8 +34,8 @@ pub struct JudgeNames<'a> {
 #[derive(Drop)]
 pub struct JudgeInput<'a> {
     pub table: GivenTable,
-    pub heard: Vec<Vec<u8>>,
-    pub sent: Vec<Vec<u8>>,
+    pub heard: Vec<Vec<Vec<u8>>>,
+    pub sent: Vec<Vec<Vec<u8>>>,
     pub heard_view: LogView<'a>,
     pub sent_view: LogView<'a>,
     pub aligned: bool,
@@ -54,8 +54,8 @@ impl JudgeInput<'_> {
     }
 
     /// The logs that have what was sent.
-    pub fn logs_of_sent(&self) -> &[Vec<u8>]
-        ensures { bytes_of result.now ≡ logs_of_sent (files_of self.now) }
+    pub fn logs_of_sent(&self) -> &[Vec<Vec<u8>>]
+        ensures { logs_of result.now ≡ logs_of_sent (files_of self.now) }
     {
         if self.is_mixed() {
             &self.heard

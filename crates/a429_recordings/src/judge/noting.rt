@@ -1,108 +1,96 @@
-//! The words of a box's logs, as they are judged.
+//! The words of logs, noted.
+ghost use Rattle.std.specs.Prelude.{◌≡◌};
+ghost use Rattle.a429_recordings.specs.BoxLogs.{IsNoting, part_word_by, texts_of_logs};
+ghost use Rattle.a429_recordings.specs.LogItems.{PassesNone};
+ghost use Rattle.a429_recordings.specs.LogViews.{view_of};
 
-ghost use Rattle.std.specs.Prelude.{◌≡◌, ◌≤◌, fold, IfOk, OnOk};
-ghost use Rattle.a429_recordings.specs.BoxLogs.{AreFrom, AreOrdered, accepting, begins_by, hears, mark_of, overlap, recording_of, sends, sent_of};
-
-use crate::judge::words::BoxWord;
+use crate::judge::noted::NotedWords;
+use crate::judge::spans::BoxSpan;
+use crate::judge::words::BoxPart;
+use crate::logs::keeping::freeing::keep_logs_and_free;
+use crate::logs::keeping::keep_logs;
+use crate::logs::views::LogView;
+use a429_console::files::FileReader;
+use a429_console::hints::warnings::Warning;
+use a429_console::refusals::Refused;
 use a429_equipment::Equipment;
-use a429_judge::{Judge, Mark, NoteFault, Sent};
-use std::alloc::{AllocError, Global};
+use a429_judge::{Judge, Told};
+use a429_logs::Reading;
+use a429_replay::Names;
+use std::alloc::Global;
+use std::snapshot::Snapshot;
 
-/// The source that accepts a word. `None` if none does.
-pub fn accepting(equipment: &Equipment, word: BoxWord) -> Option<usize>
-    ensures { result ≡ accepting equipment.now word }
-{
-    let receiver = usize::from(word.place.number);
-    if receiver >= equipment.receivers().len() {
-        return None;
-    }
-    match equipment.source_for(receiver, word.raw) {
-        Ok((source, _)) => Some(source),
-        Err(_) => None,
-    }
+/// A judge that has noted the words of logs, the times of these, and how the log after them would be read.
+#[derive(Drop)]
+pub struct NotedLogs<'a> {
+    pub judge: Judge,
+    pub span: Option<BoxSpan>,
+    pub next: Reading<'a>,
 }
 
-/// The time and the bits of a word.
-fn mark_of(word: BoxWord) -> Mark
-    ensures { result ≡ mark_of word }
-{
-    Mark {
-        time: word.time,
-        raw: word.raw,
-    }
+/// The words of a part of logs: which of them are taken, how the first line is read, and the number of the first log.
+#[derive(Clone, Copy)]
+pub struct PartLogs<'a> {
+    pub view: LogView<'a>,
+    pub part: BoxPart,
+    pub reading: Reading<'a>,
+    pub first: usize,
 }
 
-/// A word that was sent.
-fn sent_of(word: BoxWord) -> Sent
-    ensures { result ≡ sent_of word }
-{
-    Sent {
-        group: usize::from(word.place.number),
-        bus: word.place.bus,
-        mark: mark_of(word),
-    }
+/// The texts of logs: they stay as they are, or their memory is given back as they are read.
+#[derive(Drop)]
+pub enum LogTexts<'a> {
+    Kept(&'a [Vec<Vec<u8>>]),
+    Freed(Vec<Vec<Vec<u8>>>),
 }
 
-/// Notes the words that came in. Error: an allocation failed.
-fn note_heard(judge: &mut Judge, equipment: &Equipment, words: &[BoxWord]) -> Result<(), AllocError>
-    requires { AreFrom judge.old.last_heard words.now }
-    ensures { OnOk result (judge.new ≡ fold (hears equipment.now) judge.old words.now) }
-{
-    for word in words {
-        match judge.heard(accepting(equipment, *word), mark_of(*word)) {
-            Ok(()) => {}
-            Err(NoteFault::NoMemory) => return Err(AllocError),
-            Err(NoteFault::TimeFalls) => unreachable!(),
-        }
-    }
-    Ok(())
-}
-
-/// Notes the words that were sent. Error: an allocation failed.
-fn note_sent(judge: &mut Judge, words: &[BoxWord]) -> Result<(), AllocError>
-    requires { AreFrom judge.old.last_sent words.now }
-    ensures { OnOk result (judge.new ≡ fold sends judge.old words.now) }
-{
-    for word in words {
-        match judge.sent(sent_of(*word)) {
-            Ok(()) => {}
-            Err(NoteFault::NoMemory) => return Err(AllocError),
-            Err(NoteFault::TimeFalls) => unreachable!(),
-        }
-    }
-    Ok(())
-}
-
-/// The words of both logs. Error: an allocation failed.
-pub fn notes_of(
+/// Notes the words of a part of logs, one after another as if they were one, as they are taken. What is passed over is noted.
+/// Error: the number of the first faulty line, from 1 in its log, or an allocation failed. A line is faulty as the reader of logs says.
+/// It is faulty too if there is no place of its name, or places of both kinds, or if its word is at 10^14 us or later.
+pub fn note_logs<'a, F: FileReader>(
     alloc: Global,
+    files: &F,
     equipment: &Equipment,
-    heard: &[BoxWord],
-    sent: &[BoxWord],
-) -> Result<Judge, AllocError>
-    requires heard { AreOrdered heard.now }
-    requires sent { AreOrdered sent.now }
-    ensures { IfOk result (λ judge. judge ≡ recording_of equipment.now heard.now sent.now) }
+    names: &Names,
+    logs: PartLogs<'a>,
+    texts: LogTexts<'_>,
+    judge: Judge,
+    warnings: &mut Vec<Warning>,
+) -> Result<NotedLogs<'a>, Refused>
+    ensures silent { PassesNone logs.entry.reading (texts_of_logs texts.entry) → warnings.new.items ≡ warnings.old.items }
+    ensures noted { IsNoting equipment.now logs.entry.part.log
+        (part_word_by names.now (view_of logs.entry.view) logs.entry.part) logs.entry.reading (texts_of_logs texts.entry) judge result }
 {
-    let mut judge = Judge::new(alloc);
-    note_heard(&mut judge, equipment, heard)?;
-    note_sent(&mut judge, sent)?;
-    Ok(judge)
-}
-
-/// Whether the first word of one log comes no later than the last of another. A log without words has neither.
-fn begins_by(words: &[BoxWord], other: &[BoxWord]) -> bool
-    ensures { result ≡ begins_by words.now other.now }
-{
-    match (words.first(), other.last()) {
-        (Some(first), Some(last)) => first.time <= last.time,
-        _ => false,
+    let before = Snapshot::of(&judge);
+    let PartLogs {
+        view,
+        part,
+        reading,
+        first,
+    } = logs;
+    let mut kept = NotedWords {
+        equipment,
+        names,
+        part,
+        judge,
+        span: None,
+        before,
+        told: Told::new(),
+    };
+    let read = match texts {
+        LogTexts::Kept(texts) => keep_logs(
+            alloc, files, &mut kept, view, reading, first, texts, warnings,
+        ),
+        LogTexts::Freed(texts) => keep_logs_and_free(
+            alloc, files, &mut kept, view, reading, first, texts, warnings,
+        ),
+    };
+    match read {
+        Ok(next) => Ok(NotedLogs {
+            judge: kept.judge,
+            span: kept.span,
+            next,
+        }),
+        Err(refusal) => Err(refusal),
     }
-}
-
-/// Whether two logs have a time in common.
-pub fn overlap(words: &[BoxWord], other: &[BoxWord]) -> bool
-    ensures { result ≡ overlap words.now other.now }
-{
-    begins_by(words, other) && begins_by(other, words)
 }

@@ -3,8 +3,8 @@ ghost use Rattle.std.specs.Prelude.{false, true, IfOk};
 ghost use Rattle.a429_recordings.specs.JudgeReplies.{IsJudgeSheet};
 
 use crate::judge::JudgeForm;
-use crate::judge::duties::Judging;
 use crate::judge::events::{EVENT_COLUMNS, add_events};
+use crate::judge::judging::Judging;
 use crate::judge::rows::add_groups;
 use a429_console::answered::Found;
 use a429_judge::COLUMNS;

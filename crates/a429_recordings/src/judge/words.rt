@@ -1,10 +1,8 @@
 //! Words of the logs of a box.
-ghost use Rattle.std.specs.Prelude.{◌≡◌, ◌==◌, ◌<◌, length, option_map, position, IfOk, IfSome};
-ghost use Rattle.a429_console.specs.Files.{bytes_of};
-ghost use Rattle.a429_recordings.specs.BoxLogs.{AreOrdered, IsLogsReading, at_number, bus_named, bus_place, has_place, other_log, part_word_by, place_named, sent_place};
+ghost use Rattle.std.specs.Prelude.{◌≡◌, ◌==◌, ◌<◌, length, option_map, position, IfSome};
+ghost use Rattle.a429_logs.specs.LogRows.{stated_by};
+ghost use Rattle.a429_recordings.specs.BoxLogs.{at_number, box_word, bus_named, bus_place, has_place, other_log, part_word, place_named, sent_place, word_in, words_in};
 ghost use Rattle.a429_console.specs.Names.{number_named};
-ghost use Rattle.a429_recordings.specs.LogItems.{PassesNone};
-ghost use Rattle.a429_recordings.specs.LogViews.{view_of};
 
 use crate::logs::keeping::{KeepFault, WordKeeper, keep_logs};
 use crate::logs::views::LogView;
@@ -168,6 +166,46 @@ fn no_place(part: BoxPart) -> LogRefusal {
     }
 }
 
+/// A word of the kind that is read, at its place. Error: its time is not below 10^14 us, or there is no place of its name.
+#[tactic(auto, unfolding(crate::specs::BoxLogs::box_word))]
+fn own_word(names: &Names, part: BoxPart, word: StatedWord<'_>) -> Result<BoxWord, LogRefusal>
+    ensures { word_in result ≡ box_word names.now part.log (stated_by word.entry) }
+{
+    if word.time >= 100_000_000_000_000 {
+        return Err(LogRefusal::Late);
+    }
+    match place_named(names, part.log, word.name) {
+        Some(place) => Ok(BoxWord {
+            time: word.time,
+            place,
+            raw: word.raw,
+        }),
+        None => Err(no_place(part)),
+    }
+}
+
+/// The word that a log has in the part that is read. `None`: it is of the other kind, in a log that has both. Error: its name stands for
+/// places of both kinds, its time is not below 10^14 us, or there is no place of its name.
+#[tactic(auto, unfolding(crate::specs::BoxLogs::mixed_word))]
+pub fn part_word(
+    names: &Names,
+    part: BoxPart,
+    word: StatedWord<'_>,
+) -> Result<Option<BoxWord>, LogRefusal>
+    ensures { words_in result ≡ part_word names.now part (stated_by word.entry) }
+{
+    if part.is_mixed && has_place(names, part.log.other(), word.name) {
+        if has_place(names, part.log, word.name) {
+            return Err(LogRefusal::Both);
+        }
+        return Ok(None);
+    }
+    match own_word(names, part, word) {
+        Ok(word) => Ok(Some(word)),
+        Err(why) => Err(why),
+    }
+}
+
 /// The words of logs at places of these names.
 #[derive(Drop)]
 struct PlaceWords<'a> {
@@ -176,43 +214,8 @@ struct PlaceWords<'a> {
     words: Vec<BoxWord>,
 }
 
-impl PlaceWords<'_> {
-    ghost use Rattle.a429_logs.specs.LogRows.{stated_by};
-    ghost use Rattle.a429_recordings.specs.BoxLogs.{box_word};
-    ghost use Rattle.a429_recordings.specs.LogItems.{IsKept};
-
-    /// Keeps a word of the kind that is read. Error: its time is not below 10^14 us, there is no place of its name, or an
-    /// allocation failed.
-    #[tactic(auto, unfolding(crate::specs::BoxLogs::box_word))]
-    fn keep_own(&mut self, word: StatedWord<'_>) -> Result<(), KeepFault>
-        ensures kept { IsKept (box_word self.old.names.now self.old.part.log (stated_by word.entry))
-            self.old.words.items self.new.words.items result }
-        ensures names { self.new.names ≡ self.old.names }
-        ensures part { self.new.part ≡ self.old.part }
-    {
-        if word.time >= 100_000_000_000_000 {
-            return Err(KeepFault::Line(LogRefusal::Late));
-        }
-        let Some(place) = place_named(self.names, self.part.log, word.name) else {
-            return Err(KeepFault::Line(no_place(self.part)));
-        };
-        self.words.push(BoxWord {
-            time: word.time,
-            place,
-            raw: word.raw,
-        })?;
-        Ok(())
-    }
-
-    /// Whether a word of a log that has both kinds is of the other one.
-    fn is_other(&self, name: &[u8]) -> bool
-        ensures { result ≡ has_place self.now.names.now (other_log self.now.part.log) name.now }
-    {
-        has_place(self.names, self.part.log.other(), name)
-    }
-}
-
 impl WordKeeper for PlaceWords<'_> {
+    ghost use Rattle.std.specs.Prelude.{ℕ};
     ghost use Rattle.a429_recordings.specs.BoxLogs.{part_word};
     ghost use Rattle.a429_recordings.specs.declared.judge.words.BoxWord.{BoxWord};
 
@@ -222,15 +225,16 @@ impl WordKeeper for PlaceWords<'_> {
 
     ghost kept = { λ kept. kept.words.items };
 
-    /// Keeps a word, unless it is of the other kind in a log that has both. Error: its name stands for places of both kinds, its time
-    /// is not below 10^14 us, there is no place of its name, or an allocation failed.
-    #[tactic(auto, using(crate::proofs::LogLines::kept_one), unfolding(crate::specs::BoxLogs::mixed_word))]
+    ghost Fixed = { ℕ };
+
+    ghost fixed = { λ _. 0 };
+
+    /// Keeps a word, unless it is of the other kind. Error: it makes its line faulty, or an allocation failed.
     fn keep(&mut self, word: StatedWord<'_>) -> Result<(), KeepFault> {
-        if !self.part.is_mixed || !self.is_other(word.name) {
-            return self.keep_own(word);
-        }
-        if has_place(self.names, self.part.log, word.name) {
-            return Err(KeepFault::Line(LogRefusal::Both));
+        match part_word(self.names, self.part, word) {
+            Ok(Some(word)) => self.words.push(word)?,
+            Ok(None) => {}
+            Err(why) => return Err(KeepFault::Line(why)),
         }
         Ok(())
     }
@@ -240,10 +244,8 @@ impl WordKeeper for PlaceWords<'_> {
     }
 }
 
-/// Reads a part of logs, one after another as if they were one, with words as they are taken. The first has this number. What is
-/// passed over is noted. Error: the number of the first faulty line, from 1 in its log, or an allocation failed. A line is faulty
-/// as the reader of logs says. It is faulty too if there is no place of its name, or places of both kinds, or if its word is at
-/// 10^14 us or later.
+/// Reads a part of logs, one after another as if they were one, with words as they are taken. What is passed over is not noted. Error:
+/// the number of the first faulty line, from 1 in its log, or an allocation failed.
 pub fn read_words<'a, F: FileReader>(
     alloc: Global,
     files: &F,
@@ -251,21 +253,23 @@ pub fn read_words<'a, F: FileReader>(
     view: LogView<'a>,
     part: BoxPart,
     reading: Reading<'a>,
-    first: usize,
-    texts: &'a [Vec<u8>],
-    warnings: &mut Vec<Warning>,
-) -> Result<BoxWords<'a>, Refused>
-    ensures silent { PassesNone reading.entry (bytes_of texts.now) → warnings.new.items ≡ warnings.old.items }
-    ensures read { IsLogsReading (part_word_by names.now (view_of view.entry) part) reading.entry (bytes_of texts.now) result }
-    ensures ordered { IfOk result (λ read. AreOrdered read.words.items) }
-{
+    texts: &'a [Vec<Vec<u8>>],
+) -> Result<BoxWords<'a>, Refused> {
+    let mut passed: Vec<Warning> = Vec::new(alloc);
     let mut kept = PlaceWords {
         names,
         part,
         words: Vec::new(alloc),
     };
     match keep_logs(
-        alloc, files, &mut kept, view, reading, first, texts, warnings,
+        alloc,
+        files,
+        &mut kept,
+        view,
+        reading,
+        0,
+        texts,
+        &mut passed,
     ) {
         Ok(next) => Ok(BoxWords {
             words: kept.words,
@@ -273,23 +277,4 @@ pub fn read_words<'a, F: FileReader>(
         }),
         Err(refusal) => Err(refusal),
     }
-}
-
-/// Reads a part of logs as `read_words` does. What is passed over is not noted.
-pub fn read_again<'a, F: FileReader>(
-    alloc: Global,
-    files: &F,
-    names: &Names,
-    view: LogView<'a>,
-    part: BoxPart,
-    reading: Reading<'a>,
-    texts: &'a [Vec<u8>],
-) -> Result<BoxWords<'a>, Refused>
-    ensures read { IsLogsReading (part_word_by names.now (view_of view.entry) part) reading.entry (bytes_of texts.now) result }
-    ensures ordered { IfOk result (λ read. AreOrdered read.words.items) }
-{
-    let mut noted: Vec<Warning> = Vec::new(alloc);
-    read_words(
-        alloc, files, names, view, part, reading, 0, texts, &mut noted,
-    )
 }

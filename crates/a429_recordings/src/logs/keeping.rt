@@ -1,18 +1,21 @@
 //! Logs that are read one after another, as if they were one.
-ghost use Rattle.std.specs.Prelude.{◌≡◌, [], IfOk, None, Option, List};
+ghost use Rattle.std.specs.Prelude.{◌≡◌, ◌≤◌, [], IfOk, None, OnOk, Option, List, drop, length};
 ghost use Rattle.a429_logs.specs.LogRows.{Stated, stated_by};
-ghost use Rattle.a429_console.specs.Files.{bytes_of};
+ghost use Rattle.a429_logs.specs.Logs.{joined};
+ghost use Rattle.a429_console.specs.Files.{bytes_of, logs_of};
 ghost use Rattle.a429_console.specs.declared.refusals.CommandRefusal.TheVariants.{LogLine};
-ghost use Rattle.a429_recordings.specs.LogItems.{AreKept, KeepsLog, KeepsLogs, PassesNone};
-ghost use Rattle.a429_logs.specs.LogsLeft.{tail_of, titles_of};
+ghost use Rattle.a429_recordings.specs.LogItems.{AreKept, GoesOnFrom, KeepsLog, KeepsLogs, KeepsPiece, KeepsPieces, PassesNone, left_at, whole_log};
+ghost use Rattle.a429_logs.specs.LogsLeft.{reading_at, tail_at_point, tail_of, titles_at, titles_of};
 ghost use Rattle.a429_recordings.specs.LogViews.{view_of, viewed};
+
+pub mod freeing;
 
 use crate::logs::views::LogView;
 use a429_console::files::FileReader;
 use a429_console::hints::warnings::{PassedLines, Warning};
 use a429_console::refusals::evidence::{Evidence, LineEvidence, LogEvidence, LogRefusal};
 use a429_console::refusals::{CommandRefusal, Refused};
-use a429_logs::{LogReader, PassedOver, Reading, Shape, StatedWord, TimeUnit};
+use a429_logs::{LogPoint, LogReader, PassedOver, Reading, Shape, StatedWord, TimeUnit};
 use std::alloc::{AllocFailed, Global};
 
 /// Why a word of a log was not kept.
@@ -46,43 +49,69 @@ pub trait WordKeeper {
     /// What was kept, in order.
     ghost kept: { Self → List Self.Item };
 
+    /// The type of what stays the same.
+    ghost Fixed: { Type 0 };
+
+    /// What stays the same, whatever is kept.
+    ghost fixed: { Self → Self.Fixed };
+
     /// Keeps a word. Error: it makes its line faulty, or an allocation failed.
     fn keep(&mut self, word: StatedWord<'_>) -> Result<(), KeepFault>
         ensures kept { AreKept (items self.old (stated_by word.entry)) (kept self.old) (kept self.new) result }
-        ensures same { items self.new ≡ items self.old };
+        ensures same { items self.new ≡ items self.old }
+        ensures fixed { fixed self.new ≡ fixed self.old };
 
     /// The line of this number of a log, for a hint. `None` if an allocation fails.
     fn line_evidence(&self, alloc: Global, text: &[u8], line: usize) -> Option<LineEvidence>;
 }
 
-/// One of several logs: its number from 0, its bytes, and how its first line is read.
+/// One of several logs: its number from 0, and how its first line is read.
 #[derive(Clone, Copy)]
 struct NumberedLog<'a> {
     number: usize,
-    text: &'a [u8],
     reading: Reading<'a>,
-    /// How many bytes the logs before it have, and how many all have.
-    before: usize,
+    /// How many bytes this log and those before it have, and how many all have.
+    until: usize,
     all: usize,
+}
+
+/// Pieces of a log, and how many lines are above them.
+#[derive(Clone, Copy)]
+struct LogPieces<'a> {
+    pieces: &'a [Vec<u8>],
+    lines: usize,
 }
 
 /// After how many lines it is shown again how much is done.
 const STRIDE: usize = 1 << 14;
 
+/// How many bytes the pieces of a log have together.
+fn bytes_of_log(pieces: &[Vec<u8>]) -> usize {
+    let mut bytes: usize = 0;
+    for piece in pieces {
+        bytes = bytes.saturating_add(piece.len()).saturating_add(1);
+    }
+    bytes
+}
+
 /// How many bytes logs have together.
-pub fn bytes_in(logs: &[Vec<u8>]) -> usize {
+pub fn bytes_in(logs: &[Vec<Vec<u8>>]) -> usize {
     let mut bytes: usize = 0;
     for log in logs {
-        bytes = bytes.saturating_add(log.len());
+        bytes = bytes.saturating_add(bytes_of_log(log));
     }
     bytes
 }
 
 /// Shows how much of the logs is done after this line, now and then.
-fn show_line<F: FileReader>(files: &F, log: &NumberedLog<'_>, reader: &LogReader<'_>, line: usize) {
+fn show_line<F: FileReader>(
+    files: &F,
+    log: &NumberedLog<'_>,
+    reader: &LogReader<'_, '_>,
+    line: usize,
+) {
     if line % STRIDE == 0 {
-        let here = log.text.len().saturating_sub(reader.bytes_left());
-        files.show_done(log.before.saturating_add(here), log.all);
+        files.show_done(log.until.saturating_sub(reader.bytes_left()), log.all);
     }
 }
 
@@ -94,11 +123,32 @@ fn unit_in(shape: Option<Shape>, reading: Reading<'_>) -> TimeUnit {
     }
 }
 
+/// The line of this number of a log, for a hint. `None` if an allocation fails.
+fn line_evidence<T: WordKeeper>(
+    alloc: Global,
+    keeper: &T,
+    pieces: LogPieces<'_>,
+    line: usize,
+) -> Option<LineEvidence> {
+    let mut above = pieces.lines;
+    for piece in pieces.pieces {
+        let feeds = piece.iter().filter(|byte| **byte == b'\n').count();
+        let until = above.saturating_add(feeds).saturating_add(1);
+        if line <= until {
+            let evidence = keeper.line_evidence(alloc, piece, line.saturating_sub(above))?;
+            return Some(evidence.with_number(line));
+        }
+        above = until;
+    }
+    None
+}
+
 /// The refusal of a faulty line of a log, with that line. The log's rows have this form so far.
 fn refuse_line<T: WordKeeper>(
     alloc: Global,
     keeper: &T,
     log: NumberedLog<'_>,
+    pieces: LogPieces<'_>,
     shape: Option<Shape>,
     line: usize,
     why: LogRefusal,
@@ -113,7 +163,7 @@ fn refuse_line<T: WordKeeper>(
     };
     Refused::with(
         CommandRefusal::LogLine { line },
-        Evidence::of_log(keeper.line_evidence(alloc, log.text, line), evidence),
+        Evidence::of_log(line_evidence(alloc, keeper, pieces, line), evidence),
     )
 }
 
@@ -150,6 +200,7 @@ fn keep_taken<'a, T: WordKeeper>(
     ensures kept { AreKept (viewed (view_of view.entry) (T.items keeper.old) (stated_by word.entry))
         (T.kept keeper.old) (T.kept keeper.new) result }
     ensures same { T.items keeper.new ≡ T.items keeper.old }
+    ensures fixed { T.fixed keeper.new ≡ T.fixed keeper.old }
 {
     match view.taken(word) {
         Some(word) => keeper.keep(word),
@@ -157,44 +208,146 @@ fn keep_taken<'a, T: WordKeeper>(
     }
 }
 
+/// Keeps the words of the piece of a log that is read, as they are taken. Error: the first faulty line, or an allocation failed.
+#[tactic(auto, using(crate::proofs::LogLines::kept_more))]
+fn keep_piece<'a, T: WordKeeper, F: FileReader>(
+    alloc: Global,
+    files: &F,
+    keeper: &mut T,
+    view: LogView<'a>,
+    log: NumberedLog<'a>,
+    pieces: LogPieces<'_>,
+    reader: &mut LogReader<'a, '_>,
+) -> Result<(), Refused>
+    ensures kept { KeepsPiece (viewed (view_of view.entry) (T.items keeper.old)) reader.old reader.new
+        (T.kept keeper.old) (T.kept keeper.new) result }
+    ensures goes_on { OnOk result (GoesOnFrom reader.old reader.new) }
+    ensures same { T.items keeper.new ≡ T.items keeper.old }
+    ensures fixed { T.fixed keeper.new ≡ T.fixed keeper.old }
+{
+    while let Some(entry) = reader.next_here() {
+        let entry = match entry {
+            Ok(entry) => entry,
+            Err(fault) => {
+                let (shape, why) = (reader.shape(), LogRefusal::Line(fault.why));
+                return Err(refuse_line(alloc, keeper, log, pieces, shape, fault.line, why));
+            }
+        };
+        match keep_taken(keeper, view, entry.word) {
+            Ok(()) => {}
+            Err(KeepFault::Line(why)) => {
+                let shape = reader.shape();
+                return Err(refuse_line(alloc, keeper, log, pieces, shape, entry.line, why));
+            }
+            Err(KeepFault::NoMemory) => return Err(Refused::plain(CommandRefusal::Memory)),
+        }
+        show_line(files, &log, reader, entry.line);
+    }
+    Ok(())
+}
+
+/// How far a log is read: the number of the first of its pieces that was not begun, and how the log goes on there.
+#[derive(Clone, Copy)]
+struct PieceEnd<'a> {
+    next: usize,
+    point: LogPoint<'a>,
+}
+
+impl<'a> PieceEnd<'a> {
+    /// How the next log is read, and what is passed over, if no piece is left.
+    fn log_end(&self) -> LogEnd<'a>
+        ensures next { result.next ≡ reading_at self.now.point [] }
+        ensures titles { result.passed.titles ≡ titles_at self.now.point }
+        ensures tail { result.passed.tail ≡ tail_at_point self.now.point [] }
+    {
+        LogEnd {
+            next: self.point.for_next_log(),
+            passed: self.point.passed_over(),
+        }
+    }
+}
+
+/// Keeps the words of the first piece of a log that has rows, as they are taken. Error: the first faulty line, or an allocation failed.
+fn keep_first<'a, T: WordKeeper, F: FileReader>(
+    alloc: Global,
+    files: &F,
+    keeper: &mut T,
+    view: LogView<'a>,
+    log: NumberedLog<'a>,
+    pieces: &[Vec<u8>],
+) -> Result<PieceEnd<'a>, Refused>
+    ensures kept { KeepsPieces (viewed (view_of view.entry) (T.items keeper.old)) (whole_log log.entry.reading (joined (bytes_of pieces.now)))
+        pieces.now (T.kept keeper.old) (T.kept keeper.new) result }
+    ensures same { T.items keeper.new ≡ T.items keeper.old }
+    ensures fixed { T.fixed keeper.new ≡ T.fixed keeper.old }
+{
+    let mut reader = LogReader::open(log.reading, pieces);
+    let all = LogPieces { pieces, lines: 0 };
+    match keep_piece(alloc, files, keeper, view, log, all, &mut reader) {
+        Ok(()) => Ok(PieceEnd {
+            next: reader.next_piece(),
+            point: reader.point(),
+        }),
+        Err(refusal) => Err(refusal),
+    }
+}
+
+/// Keeps the words of the next piece of a log from this point on, as they are taken. Error: the first faulty line, or an allocation failed.
+fn keep_next<'a, T: WordKeeper, F: FileReader>(
+    alloc: Global,
+    files: &F,
+    keeper: &mut T,
+    view: LogView<'a>,
+    log: NumberedLog<'a>,
+    point: LogPoint<'a>,
+    pieces: &[Vec<u8>],
+) -> Result<PieceEnd<'a>, Refused>
+    ensures kept { KeepsPieces (viewed (view_of view.entry) (T.items keeper.old)) (left_at point.entry (bytes_of pieces.now))
+        pieces.now (T.kept keeper.old) (T.kept keeper.new) result }
+    ensures same { T.items keeper.new ≡ T.items keeper.old }
+    ensures fixed { T.fixed keeper.new ≡ T.fixed keeper.old }
+{
+    let mut reader = LogReader::go_on(point, pieces);
+    let left = LogPieces {
+        pieces,
+        lines: point.lines_before(),
+    };
+    match keep_piece(alloc, files, keeper, view, log, left, &mut reader) {
+        Ok(()) => Ok(PieceEnd {
+            next: reader.next_piece(),
+            point: reader.point(),
+        }),
+        Err(refusal) => Err(refusal),
+    }
+}
+
 /// Keeps the words of a log as they are taken. The answer is how the next log is read, and what is passed over. Error: the first faulty line of the
 /// log, or an allocation failed.
-#[tactic(auto, using(crate::proofs::LogLines::kept_more))]
 fn keep_log<'a, T: WordKeeper, F: FileReader>(
     alloc: Global,
     files: &F,
     keeper: &mut T,
     view: LogView<'a>,
     log: NumberedLog<'a>,
+    pieces: &[Vec<u8>],
 ) -> Result<LogEnd<'a>, Refused>
-    ensures kept { KeepsLog (viewed (view_of view.entry) (T.items keeper.old)) log.entry.reading log.entry.text.now
+    ensures kept { KeepsLog (viewed (view_of view.entry) (T.items keeper.old)) log.entry.reading (joined (bytes_of pieces.now))
         (T.kept keeper.old) (T.kept keeper.new) result }
-    ensures titles { IfOk result (λ end. end.passed.titles ≡ titles_of log.entry.reading log.entry.text.now) }
-    ensures tail { IfOk result (λ end. end.passed.tail ≡ tail_of log.entry.reading log.entry.text.now) }
+    ensures titles { IfOk result (λ end. end.passed.titles ≡ titles_of log.entry.reading (joined (bytes_of pieces.now))) }
+    ensures tail { IfOk result (λ end. end.passed.tail ≡ tail_of log.entry.reading (joined (bytes_of pieces.now))) }
     ensures same { T.items keeper.new ≡ T.items keeper.old }
+    ensures fixed { T.fixed keeper.new ≡ T.fixed keeper.old }
 {
-    let mut reader = LogReader::open(log.reading, log.text);
-    while let Some(entry) = reader.next() {
-        let entry = match entry {
-            Ok(entry) => entry,
-            Err(fault) => {
-                let why = LogRefusal::Line(fault.why);
-                return Err(refuse_line(alloc, keeper, log, reader.shape(), fault.line, why));
-            }
+    let mut left = pieces;
+    let mut end = keep_first(alloc, files, keeper, view, log, left)?;
+    while end.next < left.len() {
+        left = left.split_at(end.next).1;
+        end = match keep_next(alloc, files, keeper, view, log, end.point, left) {
+            Ok(end) => end,
+            Err(refusal) => return Err(refusal),
         };
-        match keep_taken(keeper, view, entry.word) {
-            Ok(()) => {}
-            Err(KeepFault::Line(why)) => {
-                return Err(refuse_line(alloc, keeper, log, reader.shape(), entry.line, why));
-            }
-            Err(KeepFault::NoMemory) => return Err(Refused::plain(CommandRefusal::Memory)),
-        }
-        show_line(files, &log, &reader, entry.line);
     }
-    Ok(LogEnd {
-        next: reader.for_next_log(),
-        passed: reader.passed_over(),
-    })
+    Ok(end.log_end())
 }
 
 /// Keeps the words of logs as they are taken, one after another as if they were one. The first has this number. The answer is
@@ -207,30 +360,31 @@ pub fn keep_logs<'a, T: WordKeeper, F: FileReader>(
     view: LogView<'a>,
     reading: Reading<'a>,
     first: usize,
-    logs: &'a [Vec<u8>],
+    logs: &[Vec<Vec<u8>>],
     warnings: &mut Vec<Warning>,
 ) -> Result<Reading<'a>, Refused>
     requires { T.kept keeper.old ≡ [] }
-    ensures silent { PassesNone reading.entry (bytes_of logs.now) → warnings.new.items ≡ warnings.old.items }
-    ensures kept { KeepsLogs (viewed (view_of view.entry) (T.items keeper.old)) reading.entry (bytes_of logs.now)
+    ensures silent { PassesNone reading.entry (logs_of logs.now) → warnings.new.items ≡ warnings.old.items }
+    ensures kept { KeepsLogs (viewed (view_of view.entry) (T.items keeper.old)) reading.entry (logs_of logs.now)
         (T.kept keeper.new) result }
+    ensures fixed { T.fixed keeper.new ≡ T.fixed keeper.old }
 {
     let mut next = reading;
-    let mut before: usize = 0;
+    let mut until: usize = 0;
     let all = bytes_in(logs);
     for number in 0..logs.len() {
+        let pieces = &logs[number];
+        until = until.saturating_add(bytes_of_log(pieces));
         let log = NumberedLog {
             number,
-            text: &logs[number],
             reading: next,
-            before,
+            until,
             all,
         };
-        match keep_log(alloc, files, keeper, view, log) {
+        match keep_log(alloc, files, keeper, view, log, pieces) {
             Ok(end) => {
                 note_passed(first.saturating_add(number), end.passed, warnings);
                 next = end.next;
-                before = before.saturating_add(log.text.len());
             }
             Err(refusal) => {
                 files.show_end();

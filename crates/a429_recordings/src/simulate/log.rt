@@ -1,7 +1,7 @@
 //! Logs of words at receivers of a station.
 ghost use Rattle.std.specs.Prelude.{◌≡◌, IfOk};
 ghost use Rattle.a429_recordings.specs.LogItems.{PassesNone};
-ghost use Rattle.a429_console.specs.Files.{bytes_of};
+ghost use Rattle.a429_console.specs.Files.{logs_of};
 ghost use Rattle.a429_recordings.specs.LogViews.{view_of};
 ghost use Rattle.a429_recordings.specs.SimulationLog.{AreInTime, IsLogReading};
 
@@ -32,6 +32,7 @@ struct ReceiverWords<'a> {
 }
 
 impl WordKeeper for ReceiverWords<'_> {
+    ghost use Rattle.std.specs.Prelude.{ℕ};
     ghost use Rattle.a429_recordings.specs.LogViews.{one_item};
     ghost use Rattle.a429_recordings.specs.SimulationLog.{word_for};
     ghost use Rattle.a429_recordings.specs.declared.simulate.log.LogWord.{LogWord};
@@ -41,6 +42,10 @@ impl WordKeeper for ReceiverWords<'_> {
     ghost items = { λ kept. one_item (word_for kept.names.now) };
 
     ghost kept = { λ kept. kept.words.items };
+
+    ghost Fixed = { ℕ };
+
+    ghost fixed = { λ _. 0 };
 
     /// Keeps a word. Error: no receiver has its name, its time is not below 10^14 us, or an allocation failed.
     #[tactic(auto, using(crate::proofs::LogLines::kept_one), unfolding(crate::specs::SimulationLog::word_for))]
@@ -73,11 +78,11 @@ pub fn read_words<'a, F: FileReader>(
     names: &Names,
     view: LogView<'a>,
     reading: Reading<'a>,
-    logs: &'a [Vec<u8>],
+    logs: &'a [Vec<Vec<u8>>],
     warnings: &mut Vec<Warning>,
 ) -> Result<Vec<LogWord>, Refused>
-    ensures silent { PassesNone reading.entry (bytes_of logs.now) → warnings.new.items ≡ warnings.old.items }
-    ensures words { IsLogReading names.now (view_of view.entry) reading.entry (bytes_of logs.now) result }
+    ensures silent { PassesNone reading.entry (logs_of logs.now) → warnings.new.items ≡ warnings.old.items }
+    ensures words { IsLogReading names.now (view_of view.entry) reading.entry (logs_of logs.now) result }
     ensures in_time { IfOk result (λ words. AreInTime words.items) }
 {
     let mut kept = ReceiverWords {

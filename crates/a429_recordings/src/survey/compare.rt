@@ -1,6 +1,6 @@
 //! `survey --table`: what is on the lines of logs, and what a table says of it.
 ghost use Rattle.std.specs.Prelude.{◌≡◌, IfOk};
-ghost use Rattle.a429_console.specs.Files.{bytes_of};
+ghost use Rattle.a429_console.specs.Files.{logs_of};
 ghost use Rattle.a429_console.specs.Readings.{HasRead};
 ghost use Rattle.a429_recordings.specs.Comparing.{IsCompareAnswer, IsComparedSheet, IsComparing, IsComparingOf, IsCompareReading};
 ghost use Rattle.a429_recordings.specs.LogItems.{PassesNoLine, PassesNone, logs_named};
@@ -32,7 +32,7 @@ pub struct Compared {
 #[derive(Drop)]
 struct CompareInput {
     table: Vec<u8>,
-    logs: Vec<Vec<u8>>,
+    logs: Vec<Vec<Vec<u8>>>,
 }
 
 /// Reads the files of these names.
@@ -71,12 +71,12 @@ fn compare_words<'a, F: FileReader>(
     files: &F,
     equipment: &Equipment,
     view: LogView<'a>,
-    logs: &'a [Vec<u8>],
+    logs: &'a [Vec<Vec<u8>>],
     form: SurveyForm<'a>,
     warnings: &mut Vec<Warning>,
 ) -> Result<Compared, Refused>
-    ensures silent { PassesNone form.entry.reading (bytes_of logs.now) → warnings.new.items ≡ warnings.old.items }
-    ensures compared { IsComparingOf equipment.now (view_of view.entry) form.entry (bytes_of logs.now) result }
+    ensures silent { PassesNone form.entry.reading (logs_of logs.now) → warnings.new.items ≡ warnings.old.items }
+    ensures compared { IsComparingOf equipment.now (view_of view.entry) form.entry (logs_of logs.now) result }
 {
     let survey = survey_of(alloc, files, view, form.reading, logs, warnings)?;
     Ok(sheet_of(alloc, &survey, equipment, form)?)
@@ -91,8 +91,8 @@ fn compare_input<'a, F: FileReader>(
     form: SurveyForm<'a>,
     warnings: &mut Vec<Warning>,
 ) -> Result<Compared, Refused>
-    ensures silent { PassesNone form.entry.reading (bytes_of input.now.logs.items) → warnings.new.items ≡ warnings.old.items }
-    ensures compared { IsComparing input.now.table.items (view_of view.entry) form.entry (bytes_of input.now.logs.items) result }
+    ensures silent { PassesNone form.entry.reading (logs_of input.now.logs.items) → warnings.new.items ≡ warnings.old.items }
+    ensures compared { IsComparing input.now.table.items (view_of view.entry) form.entry (logs_of input.now.logs.items) result }
 {
     let equipment = read_table(alloc, &input.table)?;
     compare_words(alloc, files, &equipment, view, &input.logs, form, warnings)

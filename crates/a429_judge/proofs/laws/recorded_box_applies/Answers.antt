@@ -1,9 +1,8 @@
-use Rattle.std.proofs.Common.{◌≡◌, ℕ, zero, suc, ◌+◌, ◌*◌, ◌-◌, ◌<◌, ◌≤◌, List, [], ◌∷◌, length, refl, arith, Some}
-use Rattle.std.specs.List.Sorted.{IsNonDecreasingBy}
+use Rattle.std.proofs.Common.{◌≡◌, ℕ, zero, suc, ◌+◌, ◌*◌, ◌-◌, ◌<◌, ◌≤◌, List, [], ◌∷◌, refl, arith, Some}
 use Rattle.std.proofs.lemmas.List.Sorted.{IsNonDecreasingBy-from_default}
 use Rattle.a429_judge.specs.declared.facts.Mark.{Mark}
 use Rattle.a429_judge.specs.Judging.{mark_at, no_mark, time_at}
-use Rattle.a429_judge.specs.Laws.{AreSlots, IsPieceOf, length_of}
+use Rattle.a429_judge.specs.Laws.{AreSlots, IsPieceOf}
 use Rattle.a429_judge.specs.Machine.{box_sends, moment_at, send_at}
 use Rattle.a429_judge.specs.RecordExample.{example_begin, example_facts, example_heard, example_sends}
 use Rattle.a429_judge.proofs.laws.recorded_box_applies.Goals as goal

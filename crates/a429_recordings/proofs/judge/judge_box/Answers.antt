@@ -12,7 +12,7 @@ use Rattle.a429_recordings.proofs.judge.judge_box.Goals as goal
 pub returns-in-Some-clause-judged : goal.returns-in-Some-clause-judged
 returns-in-Some-clause-judged g c =
     let q = c.args.proposal.now in
-    let i = files_of c.args.input.now in
+    let i = files_of c.args.input in
     let name = c.in-Some.group.now in
     let named : c.in_ok-names.names ≡ naming_of q.station = c.in_ok-names.ensures ∙ ap naming_of c.equipment.ensures.equipment in
     let first : no_group_of (naming_of q.station) i.tolerances ≡ Some name =
@@ -23,6 +23,6 @@ returns-in-Some-clause-judged g c =
 pub judge_plan-requires-clause-groups : goal.judge_plan-requires-clause-groups
 judge_plan-requires-clause-groups g c =
     let q = c.args.proposal.now in
-    let given = texts_of c.args.input.now.tolerances.now in
+    let given = texts_of c.args.input.tolerances.now in
     let named : c.in_ok-names.names ≡ naming_of q.station = c.in_ok-names.ensures ∙ ap naming_of c.equipment.ensures.equipment in
     ap (λ (n : Naming). no_group_of n given) (sym named) ∙ (sym c.no_group_of.ensures ∙ ap (option_map (λ group. group.now)) c.in-None.is)

@@ -10,7 +10,7 @@ use Rattle.a429_recordings.proofs.judge.judge_input.Goals as goal
 
 pub returns-in_err-proposal-clause-judged : goal.returns-in_err-proposal-clause-judged
 returns-in_err-proposal-clause-judged g c =
-    let i = files_of c.args.input.now in
+    let i = files_of c.args.input in
     let e = c.in_err-proposal.field-0.0 in
     let p = err_from_is_err_and c.from_residual.result c.from_residual.ensures.1 in
     failed c.from_residual.result _ (OrMemory (IsUnjudged i c.args.form)) e (p.1 ∙ ap Err p.2)
@@ -18,6 +18,6 @@ returns-in_err-proposal-clause-judged g c =
 
 pub returns-clause-judged : goal.returns-clause-judged
 returns-clause-judged g c =
-    let i = files_of c.args.input.now in
+    let i = files_of c.args.input in
     let q = c.in_ok-proposal.proposal in
     rw c.with_plan.ensures (judged_of q i c.args.form c.judge_box-judged.result c.in_ok-proposal.ensures.given c.judge_box-judged.ensures.judged)

@@ -8,4 +8,4 @@ returns-in-Ok-clause-judged g c = (c.requires.groups, search rules, c.in_ok-foun
 
 pub returns-in-Err-clause-judged : goal.returns-in-Err-clause-judged
 returns-in-Err-clause-judged g c =
-    unprinted c.args.proposal.now (files_of c.args.input.now) c.args.form c.in_ok-found.found c.in-Err.refusal c.requires.groups (search rules) c.in_ok-found.ensures c.in-Err.ensures.printed
+    unprinted c.args.proposal.now (files_of c.args.input) c.args.form c.in_ok-found.found c.in-Err.refusal c.requires.groups (search rules) c.in_ok-found.ensures c.in-Err.ensures.printed

@@ -9,12 +9,12 @@ use Rattle.a429_recordings.proofs.judge.judge_words.Goals as goal
 pub returns-in_err-judge-clause-printed : goal.returns-in_err-judge-clause-printed
 returns-in_err-judge-clause-printed g c =
     let p = err_from_is_err_and c.from_residual.result c.from_residual.ensures.1 in
-    failed c.from_residual.result _ (OrMemory (IsNoRecording c.args.proposal.now (aligned_by c.args.found (files_of c.args.input.now)) c.args.form.reading)) c.in_err-judge.field-0.0 (p.1 ∙ ap Err p.2) c.in_err-judge.ensures.recorded
+    failed c.from_residual.result _ (OrMemory (IsNoRecording c.args.proposal.now (aligned_by c.args.found (files_of c.args.input)) c.args.form.reading)) c.in_err-judge.field-0.0 (p.1 ∙ ap Err p.2) c.in_err-judge.ensures.recorded
 
 pub returns-clause-printed : goal.returns-clause-printed
 returns-clause-printed g c = record {
-  recording = c.in_ok-judge.judge;
-  recorded = c.in_ok-judge.ensures.recorded;
+  recording = c.in_ok-judge.judge.noted;
+  recorded = c.in_ok-judge.ensures.recorded.recorded;
   text = c.in_ok-judge_sheet.ensures.0;
   finds = c.in_ok-judge_sheet.ensures.1;
 }

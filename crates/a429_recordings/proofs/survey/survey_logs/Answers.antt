@@ -2,7 +2,7 @@ use Rattle.std.proofs.Common.{◌≡◌, ◌∙◌, ℕ, List, Vec, Global, ap, 
 use Rattle.std.specs.Prelude.{Err, Ok}
 use Rattle.std.proofs.lemmas.Result.{err_from_is_err_and}
 use Rattle.a429_console.specs.FileReadings.{IsFirstUnreadLog}
-use Rattle.a429_console.specs.Files.{bytes_of}
+use Rattle.a429_console.specs.Files.{logs_of}
 use Rattle.a429_console.specs.RefusalText.{OrMemory}
 use Rattle.a429_console.specs.declared.refusals.CommandRefusal.TheVariants as refused
 use Rattle.a429_console.proofs.ReadingParts.{read_weaker}
@@ -24,7 +24,7 @@ pub returns-in_err-survey-clause-answer : goal.returns-in_err-survey-clause-answ
 returns-in_err-survey-clause-answer g c =
     let names = logs_named c.args.names in
     let view = view_named c.args.names in
-    let logs = bytes_of c.in_ok-logs.logs.items in
+    let logs = logs_of c.in_ok-logs.logs.items in
     let reading = c.args.form.reading in
     let f = noted_by view in
     let e = c.in_err-survey.field-0.0 in
@@ -42,7 +42,7 @@ returns-in_err-text_of-clause-answer g c =
 
 pub returns-clause-answer : goal.returns-clause-answer
 returns-clause-answer g c =
-    let logs = bytes_of c.in_ok-logs.logs.items in
+    let logs = logs_of c.in_ok-logs.logs.items in
     let words = c.in_ok-survey.survey in
     let its : items_of (noted_by (view_named c.args.names)) c.args.form.reading logs ≡ Ok words = rw c.deref.ensures.value at c.in_ok-survey.ensures.survey in
     read_weaker c.in_ok-logs.ensures (λ file read. (logs, words, read, its, c.in_ok-text_of.ensures))
@@ -51,16 +51,16 @@ pub returns-in_err-survey-clause-silent : goal.returns-in_err-survey-clause-sile
 returns-in_err-survey-clause-silent g c =
     read_weaker c.in_ok-logs.ensures (λ file read none.
     c.in_err-survey.ensures.silent
-    (subst (λ (ls : List (Vec ℕ Global)). PassesNone c.args.form.reading (bytes_of ls)) (sym c.deref.ensures.value) (none (bytes_of c.in_ok-logs.logs.items) read)))
+    (subst (λ (ls : List (Vec (Vec ℕ Global) Global)). PassesNone c.args.form.reading (logs_of ls)) (sym c.deref.ensures.value) (none (logs_of c.in_ok-logs.logs.items) read)))
 
 pub returns-in_err-text_of-clause-silent : goal.returns-in_err-text_of-clause-silent
 returns-in_err-text_of-clause-silent g c =
     read_weaker c.in_ok-logs.ensures (λ file read none.
     c.in_ok-survey.ensures.silent
-    (subst (λ (ls : List (Vec ℕ Global)). PassesNone c.args.form.reading (bytes_of ls)) (sym c.deref.ensures.value) (none (bytes_of c.in_ok-logs.logs.items) read)))
+    (subst (λ (ls : List (Vec (Vec ℕ Global) Global)). PassesNone c.args.form.reading (logs_of ls)) (sym c.deref.ensures.value) (none (logs_of c.in_ok-logs.logs.items) read)))
 
 pub returns-clause-silent : goal.returns-clause-silent
 returns-clause-silent g c =
     read_weaker c.in_ok-logs.ensures (λ file read none.
     c.in_ok-survey.ensures.silent
-    (subst (λ (ls : List (Vec ℕ Global)). PassesNone c.args.form.reading (bytes_of ls)) (sym c.deref.ensures.value) (none (bytes_of c.in_ok-logs.logs.items) read)))
+    (subst (λ (ls : List (Vec (Vec ℕ Global) Global)). PassesNone c.args.form.reading (logs_of ls)) (sym c.deref.ensures.value) (none (logs_of c.in_ok-logs.logs.items) read)))

@@ -21,7 +21,7 @@ loop-name-preserved g c =
     let left = drop (c.loop-name.name-index + 1) c.args.names.now in
     let more : drop c.loop-name.name-index c.args.names.now ≡ name ∷ left = drop_more c.args.names.now c.loop-name.name-index none c.loop-name-test.true in
     read_then c.loop-name.invariant c.in_ok-read_up_to.ensures
-    (λ file so_far is. rw (c.in_ok-push.ensures.items, map-append) (one_more c.args.most names (map (λ n. n.now) left) (map (λ b. b.items) c.loop-name.all.items) name.now c.in_ok-read_up_to.field-0.items file (rw more at so_far) is))
+    (λ file so_far is. rw (c.in_ok-push.ensures.items, map-append) (one_more c.args.most names (map (λ n. n.now) left) (map g.C.Contents.text c.loop-name.all.items) name.now (g.C.Contents.text c.in_ok-read_up_to.field-0) file (rw more at so_far) is))
 
 pub returns-in_err-read_up_to : goal.returns-in_err-read_up_to
 returns-in_err-read_up_to g c =
@@ -43,4 +43,4 @@ returns-in_err-push g c =
 pub returns : goal.returns
 returns g c =
     let none_left : drop c.loop-name.name-index c.args.names.now ≡ [] = drop_of_length-le c.args.names.now c.loop-name-test.false in
-    read_weaker c.loop-name.invariant (λ file so_far. rw (append-nil (map (λ b. b.items) c.loop-name.all.items)) at (so_far.1 [] (rw none_left tt)))
+    read_weaker c.loop-name.invariant (λ file so_far. rw (append-nil (map g.C.Contents.text c.loop-name.all.items)) at (so_far.1 [] (rw none_left tt)))

@@ -1,8 +1,8 @@
-use Rattle.std.proofs.Common.{rules}
-use Rattle.a429_judge.proofs.Logs.{kept_sent}
+use Rattle.a429_judge.proofs.Kept.{judge_sent}
 use Rattle.a429_judge.proofs.recordings.Judge.sent.Goals as goal
 
-pub invariant_of-self-2 : goal.invariant_of-self-2
-invariant_of-self-2 c =
-    kept_sent (record { heard = c.self.inside.heard.items; last_heard = c.self.inside.last_heard; sent = c.self.inside.sent.items; last_sent = c.self.inside.last_sent })
-    c.add_sent.new.sent.items c.args.word c.self.invariant (search rules) c.if-word-self.false
+pub invariant_of-self : goal.invariant_of-self
+invariant_of-self c =
+    judge_sent c.self.inside.groups.items c.add_sent.new.groups.items c.self.inside.accepted.items c.self.inside.first c.or-self-inside.result c.self.inside.in_order c.stays_in_order-self-inside.result
+    (record { heard = c.self.inside.all_heard; last_heard = c.self.inside.last_heard; sent = c.self.inside.all_sent; last_sent = c.self.inside.last_sent })
+    c.push.new.self c.args.word c.push.ensures c.add_sent.ensures.outputs c.add_sent.ensures.words c.or-self-inside.ensures c.stays_in_order-self-inside.ensures c.self.invariant

@@ -1,7 +1,7 @@
 use Rattle.std.proofs.Common.{◌≡◌, ◌≤◌, length}
 use Rattle.std.specs.Prelude.{None}
 use Rattle.a429_logs.specs.Logs.{heading_from}
-use Rattle.a429_logs.specs.LogsLeft.{lines_left}
+use Rattle.a429_logs.specs.LogsLeft.{lines_left, next_of, pieces_of}
 use Rattle.a429_logs.proofs.Titles.{more_titles}
 use Rattle.a429_logs.proofs.reader.LogReader.at_heading.Given as goal
 
@@ -11,7 +11,8 @@ invariant-loop-line l = record {
   heading : heading_from l.fn.self.reading (lines_left l.fn.self) ≡ more_titles l.titles (heading_from l.self.reading (lines_left l.self));
   reading : l.self.reading ≡ l.fn.self.reading;
   tail : l.self.passed.tail ≡ None;
-  few : l.titles ≤ l.self.line;
+  pieces : pieces_of l.self ≡ pieces_of l.fn.self;
+  piece : next_of l.fn.self ≤ next_of l.self;
 }
 
 abbrev pub decreases-loop-line : goal.decreases-loop-line

@@ -10,6 +10,6 @@ pub returns : goal.returns
 returns c =
     let j = c.args.judging.now in
     let g = c.args.group in
-    let events = flat_map (output_events j.proposal.now (texts_of j.tolerances.now) j.judge.now g) (outputs_at j.proposal.now g) in
-    let foreign = foreign_rows (group_name j.proposal.now.station g) (foreign_in j.proposal.now (texts_of j.tolerances.now) j.judge.now g) in
+    let events = flat_map (output_events j.proposal.now (texts_of j.tolerances.now) j.judge.now.noted g) (outputs_at j.proposal.now g) in
+    let foreign = foreign_rows (group_name j.proposal.now.station g) (foreign_in j.proposal.now (texts_of j.tolerances.now) j.judge.now.noted g) in
     c.in_ok-add_foreign_of.ensures ∙ (ap (λ (rows : List (List Field)). rows ++ foreign) c.in_ok-add_outputs.ensures ∙ append_assoc c.args.rows.now events foreign)

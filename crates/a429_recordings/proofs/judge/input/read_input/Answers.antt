@@ -2,7 +2,7 @@ use Rattle.std.proofs.Common.{◌∙◌, ap, inl, inr, refl}
 use Rattle.std.specs.Prelude.{Err}
 use Rattle.std.proofs.lemmas.Result.{err_from_is_err_and}
 use Rattle.a429_console.specs.FileReadings.{AreReadLogs, IsFirstUnreadLog}
-use Rattle.a429_console.specs.Files.{bytes_of}
+use Rattle.a429_console.specs.Files.{logs_of}
 use Rattle.a429_console.specs.RefusalText.{OrMemory}
 use Rattle.a429_console.proofs.ReadingParts.{read_then, read_weaker}
 use Rattle.a429_console.proofs.Refused.{failed, or_memory_weaker}
@@ -32,14 +32,14 @@ returns-in_err-sent g c =
     let names = names_of c.args.names in
     let e = c.in_err-sent.field-0.0 in
     let p = err_from_is_err_and c.from_residual-in_err-sent.result c.from_residual-in_err-sent.ensures.1 in
-    read_then {Q = λ file. AreReadLogs file names.heard (bytes_of c.in_ok-heard.heard.items) × OrMemory (IsFirstUnreadLog file names.sent) e} c.in_ok-table.ensures
+    read_then {Q = λ file. AreReadLogs file names.heard (logs_of c.in_ok-heard.heard.items) × OrMemory (IsFirstUnreadLog file names.sent) e} c.in_ok-table.ensures
     (read_then c.in_ok-heard.ensures c.in_err-sent.ensures (λ file read bad. (read, bad)))
     (λ file table rest. failed c.from_residual-in_err-sent.result _ (OrMemory (IsUnreadBoxFile file names)) e (p.1 ∙ ap Err p.2)
     (or_memory_weaker (IsFirstUnreadLog file names.sent) (IsUnreadBoxFile file names) e
-    (λ one. inr (inr (table_texts c.in_ok-table.table, bytes_of c.in_ok-heard.heard.items, table, rest.0, one))) rest.1))
+    (λ one. inr (inr (table_texts c.in_ok-table.table, logs_of c.in_ok-heard.heard.items, table, rest.0, one))) rest.1))
 
 pub returns : goal.returns
 returns g c =
     let names = names_of c.args.names in
-    read_then {Q = λ file. AreReadLogs file names.heard (bytes_of c.in_ok-heard.heard.items) × AreReadLogs file names.sent (bytes_of c.in_ok-sent.sent.items)} c.in_ok-table.ensures
+    read_then {Q = λ file. AreReadLogs file names.heard (logs_of c.in_ok-heard.heard.items) × AreReadLogs file names.sent (logs_of c.in_ok-sent.sent.items)} c.in_ok-table.ensures
     (read_then c.in_ok-heard.ensures c.in_ok-sent.ensures (λ file heard sent. (heard, sent))) (λ file table rest. (table, rest.0, rest.1, refl, refl, refl, refl))

@@ -8,6 +8,6 @@ use Rattle.a429_recordings.proofs.judge.sheets.row_sheet.Goals as goal
 pub returns : goal.returns
 returns c =
     let j = c.args.judging.now in
-    let judged = judged_rows j.proposal.now (given_by j) j.judge.now in
+    let judged = judged_rows j.proposal.now (given_by j) j.judge.now.noted in
     let rows : c.add_groups.new.rows ≡ judged = c.in_ok-found.ensures.rows ∙ ap (λ (rs : List (List Field)). rs ++ judged) c.new-rows.ensures in
     (c.in_ok-text.ensures ∙ ap (sheet_text c.args.form judge_columns) rows, c.in_ok-found.ensures.found)

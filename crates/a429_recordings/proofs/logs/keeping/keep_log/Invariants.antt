@@ -1,24 +1,20 @@
 use Rattle.std.proofs.Common.{◌≡◌, length}
-use Rattle.a429_console.specs.Lines.{entries_before}
-use Rattle.a429_logs.specs.Logs.{log_entries, reading_after}
-use Rattle.a429_logs.specs.LogsLeft.{entries_left, reading_left, tail_left, tail_of, titles_now, titles_of}
-use Rattle.a429_recordings.specs.LogItems.{items_from}
+use Rattle.a429_console.specs.Files.{bytes_of}
+use Rattle.a429_logs.specs.Logs.{joined}
+use Rattle.a429_recordings.specs.LogItems.{PiecesEnd, whole_log}
 use Rattle.a429_recordings.specs.LogViews.{view_of, viewed}
 use Rattle.a429_recordings.proofs.logs.keeping.keep_log.Given as goal
 
-abbrev pub invariant-loop-entry : goal.invariant-loop-entry
-invariant-loop-entry g l =
+abbrev pub invariant-loop-end : goal.invariant-loop-end
+invariant-loop-end g l =
     let k = g.T.WordKeeper in
-    let f = viewed (view_of l.view) (k.items l.fn.keeper) in
     record {
       same : k.items l.keeper ≡ k.items l.fn.keeper;
+      fixed : k.fixed l.keeper ≡ k.fixed l.fn.keeper;
       read :
-          entries_before (k.kept l.fn.keeper) (items_from f (log_entries l.fn.log.reading l.fn.log.text.now))
-          ≡ entries_before (k.kept l.keeper) (items_from f (entries_left l.reader));
-      after : reading_left l.reader ≡ reading_after l.fn.log.reading l.fn.log.text.now;
-      titles : titles_now l.reader ≡ titles_of l.fn.log.reading l.fn.log.text.now;
-      tail : tail_left l.reader ≡ tail_of l.fn.log.reading l.fn.log.text.now;
+          PiecesEnd (viewed (view_of l.view) (k.items l.fn.keeper)) (whole_log l.fn.log.reading (joined (bytes_of l.fn.pieces))) l.left
+          (k.kept l.fn.keeper) (k.kept l.keeper) l.end;
     }
 
-abbrev pub decreases-loop-entry : goal.decreases-loop-entry
-decreases-loop-entry g l = length (entries_left l.reader)
+abbrev pub decreases-loop-end : goal.decreases-loop-end
+decreases-loop-end g l = length l.left

@@ -1,5 +1,6 @@
-use Rattle.std.proofs.Common.{◌≡◌, ◌∙◌, ◌+◌, ◌∷◌, ap, drop, subst, sym}
-use Rattle.a429_console.specs.Files.{bytes_of}
+use Rattle.std.proofs.Common.{◌≡◌, ◌∙◌, ◌+◌, ◌∷◌, ℕ, List, Vec, Global, ap, drop, subst, sym}
+use Rattle.a429_console.specs.Files.{bytes_of, logs_of}
+use Rattle.a429_logs.specs.Logs.{joined}
 use Rattle.a429_logs.specs.declared.reading.Reading.{Reading}
 use Rattle.a429_recordings.specs.LogItems.{PassesNone, reading_behind}
 use Rattle.a429_recordings.specs.LogViews.{view_of, viewed}
@@ -12,10 +13,10 @@ returns-in-Err-clause-kept g c =
     let f = viewed (view_of c.args.view) (k.items c.args.keeper.now) in
     let logs = c.args.logs.now in
     let now = c.loop-number in
-    let text = c.deref.result.now in
-    let left = bytes_of (drop (now.number + 1) logs) in
-    let here : bytes_of (drop now.number logs) ≡ text ∷ left = logs_left logs now.number c.index-logs-number.result text c.loop-number-test.true c.index-logs-number.is c.deref.ensures.value in
-    before_fault f c.args.reading (bytes_of logs) now.next text left (k.kept now.keeper) c.in-Err.refusal
+    let text = joined (bytes_of c.deref-in-loop-number.result.now) in
+    let left = logs_of (drop (now.number + 1) logs) in
+    let here : logs_of (drop now.number logs) ≡ text ∷ left = logs_left logs now.number c.index-logs-number.result text c.loop-number-test.true c.index-logs-number.is (ap (λ (ps : List (Vec ℕ Global)). joined (bytes_of ps)) c.deref-in-loop-number.ensures.value) in
+    before_fault f c.args.reading (logs_of logs) now.next text left (k.kept now.keeper) c.in-Err.refusal
     (rw here at now.invariant.items) (rw now.invariant.same at c.in-Err.ensures.kept)
 
 pub loop-number-preserved : goal.loop-number-preserved
@@ -25,13 +26,14 @@ loop-number-preserved g c =
     let logs = c.args.logs.now in
     let now = c.loop-number in
     let end = c.in-Ok.end in
-    let text = c.deref.result.now in
-    let left = bytes_of (drop (now.number + 1) logs) in
-    let here : bytes_of (drop now.number logs) ≡ text ∷ left = logs_left logs now.number c.index-logs-number.result text c.loop-number-test.true c.index-logs-number.is c.deref.ensures.value in
+    let text = joined (bytes_of c.deref-in-loop-number.result.now) in
+    let left = logs_of (drop (now.number + 1) logs) in
+    let here : logs_of (drop now.number logs) ≡ text ∷ left = logs_left logs now.number c.index-logs-number.result text c.loop-number-test.true c.index-logs-number.is (ap (λ (ps : List (Vec ℕ Global)). joined (bytes_of ps)) c.deref-in-loop-number.ensures.value) in
     let kept = rw now.invariant.same at c.in-Ok.ensures.kept in
     record {
       same = c.in-Ok.ensures.same ∙ now.invariant.same;
-      items = before_more f c.args.reading (bytes_of logs) now.next end.next text left (k.kept now.keeper) (k.kept c.keep_log.new.keeper) (rw here at now.invariant.items) kept;
+      fixed = c.in-Ok.ensures.fixed ∙ now.invariant.fixed;
+      items = before_more f c.args.reading (logs_of logs) now.next end.next text left (k.kept now.keeper) (k.kept c.keep_log.new.keeper) (rw here at now.invariant.items) kept;
       silent = λ none.
           let before = now.invariant.silent none in
           let these : PassesNone now.next (text ∷ left) = subst (PassesNone now.next) here before.1 in (

@@ -1,7 +1,7 @@
 use Rattle.std.proofs.Common.{◌≡◌, ◌+◌, ℕ, List, refl}
 use Rattle.std.specs.Prelude.{Some}
 use Rattle.a429_logs.specs.LogRows.{Stated}
-use Rattle.a429_console.specs.Files.{bytes_of}
+use Rattle.a429_console.specs.Files.{logs_of}
 use Rattle.a429_console.specs.Names.{Naming, number_named}
 use Rattle.a429_recordings.specs.LogViews.{one_item, view_of}
 use Rattle.a429_recordings.specs.SimulationLog.{log_words, word_for}
@@ -30,7 +30,7 @@ returns-in-Ok-clause-in_time g c =
     let view = view_of c.args.view in
     let last = moved_to view c.args.reading.clock.last in
     let words = c.keep_logs.new.keeper.words.items in
-    let are = items_timed time_of view (one_item (word_for names)) c.args.reading (bytes_of c.args.logs.now) words (have_time names) c.in-Ok.ensures.kept.0 in
+    let are = items_timed time_of view (one_item (word_for names)) c.args.reading (logs_of c.args.logs.now) words (have_time names) c.in-Ok.ensures.kept.0 in
     record {
       in_order = λ i w v here next. timed_in_order time_of last words i (i + 1) w v are refl here next;
       few = λ i w here. timed_few time_of last words i w are here;

@@ -1,7 +1,7 @@
 use Rattle.std.proofs.Common.{◌∙◌, ap, inl}
 use Rattle.std.specs.Prelude.{Err}
 use Rattle.std.proofs.lemmas.Result.{err_from_is_err_and}
-use Rattle.a429_console.specs.Files.{bytes_of}
+use Rattle.a429_console.specs.Files.{logs_of}
 use Rattle.a429_console.specs.RefusalText.{OrMemory}
 use Rattle.a429_console.proofs.ReadingParts.{read_weaker}
 use Rattle.a429_console.proofs.Refused.{failed, or_memory_weaker}
@@ -26,4 +26,4 @@ returns-clause-answer g c =
 
 pub returns-clause-silent : goal.returns-clause-silent
 returns-clause-silent g c =
-    read_weaker c.in_ok-input.ensures (λ file are none. c.compare_input.ensures.silent (none (bytes_of c.in_ok-input.input.logs.items) are.1))
+    read_weaker c.in_ok-input.ensures (λ file are none. c.compare_input.ensures.silent (none (logs_of c.in_ok-input.input.logs.items) are.1))

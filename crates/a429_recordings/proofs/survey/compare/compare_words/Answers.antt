@@ -1,7 +1,7 @@
 use Rattle.std.proofs.Common.{◌∙◌, ap}
 use Rattle.std.specs.Prelude.{Err}
 use Rattle.std.proofs.lemmas.Result.{err_from_is_err_and}
-use Rattle.a429_console.specs.Files.{bytes_of}
+use Rattle.a429_console.specs.Files.{logs_of}
 use Rattle.a429_console.specs.RefusalText.{OrMemory}
 use Rattle.a429_console.specs.declared.refusals.CommandRefusal.TheVariants as refused
 use Rattle.a429_console.proofs.Refused.{failed}
@@ -12,13 +12,13 @@ use Rattle.a429_recordings.proofs.survey.compare.compare_words.Goals as goal
 
 pub returns-in_err-survey-clause-compared : goal.returns-in_err-survey-clause-compared
 returns-in_err-survey-clause-compared g c =
-    let fault = IsItemFault (noted_by (view_of c.args.view)) c.args.form.reading (bytes_of c.args.logs.now) in
+    let fault = IsItemFault (noted_by (view_of c.args.view)) c.args.form.reading (logs_of c.args.logs.now) in
     let p = err_from_is_err_and c.from_residual.result c.from_residual.ensures.1 in
     failed c.from_residual.result _ (OrMemory fault) c.in_err-survey.field-0.0 (p.1 ∙ ap Err p.2) c.in_err-survey.ensures.survey
 
 pub returns-in_err-sheet_of-clause-compared : goal.returns-in_err-sheet_of-clause-compared
 returns-in_err-sheet_of-clause-compared g c =
-    let fault = IsItemFault (noted_by (view_of c.args.view)) c.args.form.reading (bytes_of c.args.logs.now) in
+    let fault = IsItemFault (noted_by (view_of c.args.view)) c.args.form.reading (logs_of c.args.logs.now) in
     let p = err_from_is_err_and c.from_residual-in_err-sheet_of.result c.from_residual-in_err-sheet_of.ensures.1 in
     failed c.from_residual-in_err-sheet_of.result _ (OrMemory fault) refused.Memory (p.1 ∙ ap Err p.2) tt
 
