@@ -125,9 +125,11 @@ fn a_log_goes_on_after_pieces_that_are_dropped(rt: HostRuntime) {
     assert!(rt; next_time(&mut reader) == Some((4, 7)));
     assert!(rt; next_time(&mut reader).is_none());
     assert!(rt; reader.next_piece() == 1);
-    let mut reader = LogReader::go_on(reader.point(), &later[1..]);
+    let rest = log_of(&rt, rt.alloc(), &["", "9,irs,600000c1"]);
+    let mut reader = LogReader::go_on(reader.point(), &rest);
     assert!(rt; next_time(&mut reader).is_none());
-    let mut reader = LogReader::go_on(reader.point(), &later[2..]);
+    let last = log_of(&rt, rt.alloc(), &["9,irs,600000c1"]);
+    let mut reader = LogReader::go_on(reader.point(), &last);
     assert!(rt; next_time(&mut reader) == Some((6, 9)));
     assert!(rt; reader.passed_over().titles == 1);
 }
