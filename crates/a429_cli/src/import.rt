@@ -16,8 +16,8 @@ use a429_console::refusals::kinds::CsvKind;
 use a429_console::refusals::rows::{RowEvidence, RowsEvidence};
 use a429_console::refusals::{CommandRefusal, Refused};
 use a429_import::{
-    CsvFaultKind, CsvLine, ImportFault, ImportOptions, Imported, RefusedRows, heading_texts,
-    import_or_keep, keep_texts,
+    CsvFaultKind, CsvLine, ImportFault, ImportOptions, Imported, RefusedRows, Watch,
+    heading_texts, import_table, keep_texts,
 };
 use a429_table::TableFault;
 use std::alloc::{AllocError, Global};
@@ -90,8 +90,9 @@ fn rows_evidence(
     column: Option<&'static str>,
     refused: RefusedRows,
 ) -> Result<RowsEvidence, AllocError> {
+    let mut refused = refused;
+    let titles = refused.take_titles()?;
     let RefusedRows {
-        titles,
         heading,
         rows,
         faulty,
@@ -125,6 +126,18 @@ fn evidence_of(
     match rows_evidence(alloc, bytes, column_name(fault), refused) {
         Ok(rows) => Evidence::Rows(rows),
         Err(_) => Evidence::Nothing,
+    }
+}
+
+/// Files of which a person sees how much is read.
+#[derive(Clone, Copy)]
+struct WatchedFiles<'a, F> {
+    files: &'a F,
+}
+
+impl<F: FileReader> Watch for WatchedFiles<'_, F> {
+    fn show_done(&self, done: usize, all: usize) {
+        self.files.show_done(done, all);
     }
 }
 
@@ -200,8 +213,9 @@ fn import_by<F: FileReader>(
         → warnings.new.items ≡ warnings.old.items) files.old files.new }
 {
     let bytes = read_file(alloc, files, name)?;
+    let watch = WatchedFiles { files: &*files };
     let mut refused = None;
-    match import_or_keep(alloc, maps, options, &bytes, &mut refused) {
+    match import_table(alloc, maps, options, &bytes, &watch, &mut refused) {
         Ok(imported) => {
             note_import(alloc, &imported, warnings);
             Ok(Reply::done(imported.text))

@@ -10,6 +10,9 @@ use std::str::Chars;
 /// How many rows are looked at to see what a field may be.
 const ROWS: usize = 8;
 
+/// The longest heading that may be meant by a column, in bytes.
+const LONGEST: usize = 256;
+
 /// A field of a heading that is likely meant by a column, and the name of the column that it should have.
 #[derive(Clone, Copy)]
 pub struct Guess {
@@ -180,6 +183,13 @@ fn is_taken(guesses: &[Guess], place: usize) -> bool {
     guesses.iter().any(|guess| guess.place == place)
 }
 
+/// Whether a field may be meant by a column that the heading lacks: it names no column, is not taken, and is no long text.
+fn is_free(file: FileRows, guesses: &[Guess], place: usize) -> bool {
+    file.titles.field(place).len() <= LONGEST
+        && !is_column(file.heading.line.field(place))
+        && !is_taken(guesses, place)
+}
+
 /// How many fields of a heading name a column.
 pub fn times_in(heading: &CsvLine, column: ImportColumn) -> usize {
     let mut times: usize = 0;
@@ -196,11 +206,11 @@ pub fn is_missing(file: FileRows, column: ImportColumn) -> bool {
     column.is_needed() && times_in(&file.heading.line, column) == 0
 }
 
-/// The likeliest field for a column among those that name no column and are not taken.
+/// The likeliest field for a column.
 fn likeliest(file: FileRows, column: ImportColumn, guesses: &[Guess]) -> Option<usize> {
     let mut best: Option<(usize, usize)> = None;
     for place in 0..field_count(file.titles) {
-        if is_column(file.heading.line.field(place)) || is_taken(guesses, place) {
+        if !is_free(file, guesses, place) {
             continue;
         }
         let Some(rank) = rank_at(file, column, place) else {
@@ -243,8 +253,8 @@ pub fn are_alike(a: &str, b: &str) -> bool {
     next_letter(&mut rest).is_none()
 }
 
-/// The field that is nearest to the name of a column, among those that name no column and are not taken: the first one with the
-/// same letters, or the one that takes the fewest edits.
+/// The field that is nearest to the name of a column: the first one with the same letters, or the one that takes the fewest
+/// edits.
 fn nearest(
     alloc: Global,
     file: FileRows,
@@ -253,7 +263,7 @@ fn nearest(
 ) -> Option<usize> {
     let mut nearest = Nearest::to(column.name());
     for place in 0..field_count(file.titles) {
-        if is_column(file.heading.line.field(place)) || is_taken(guesses, place) {
+        if !is_free(file, guesses, place) {
             continue;
         }
         let title = text_of(file.titles.field(place));

@@ -1,8 +1,9 @@
 -- All records of a text are those that its reader gives.
 use Rattle.std.proofs.Common.{Bor, ◌≡◌, ◌∙◌, ◌∷◌, ◌++◌, ◌+◌, ◌-◌, ◌≤◌, [], ℕ, true, false, zero, suc, Bool, List, None, Option, Some, ap, ap₂, arith, get_or, length, map, refl, subst, sym}
-use Rattle.std.specs.Prelude.{◌||◌, if◌then◌else◌}
+use Rattle.std.specs.Prelude.{◌||◌, ◌==◌, if◌then◌else◌}
 use Rattle.std.specs.List.{list_any}
 use Rattle.std.specs.Option.{option_map_or}
+use Rattle.std.proofs.lemmas.Bool.{eqb-true}
 use Rattle.std.proofs.lemmas.List.{length-map, map-append}
 use Rattle.std.proofs.lemmas.List.Folds.{list_any-append}
 use Rattle.std.proofs.lemmas.Option.{none-some, same_Some}
@@ -145,3 +146,19 @@ line_read separator heading text a b count lines has end =
     ∙ number_mapped (is_data heading) (map trimmed) has.rows (row_lines cfg text (length lines) text)
     ∙ sym (ap (λ (n : ℕ). number_of passes has.rows (row_lines cfg text n text)) many)
     ∙ sym (ap (λ (rows : List (List (List ℕ))). number_of passes rows (row_lines cfg text (length rows) text)) same)
+
+-- ---- a text without a row
+
+no_records : (cfg : Config) → records cfg (strip_bom []) ≡ []
+unfolding records_from next_record strip_bom
+no_records cfg = refl
+
+pub no_data : (cfg : Config) (heading : List (List ℕ)) (text : List ℕ) → (length text == 0) ≡ true → false ≡ has_data cfg heading text
+no_data cfg heading [] none = sym (ap (list_any (λ (row : List (List ℕ)). is_data heading (map trimmed row))) (no_records cfg))
+no_data cfg heading (b ∷ text) none = absurd (omega (arith, eqb-true (length (b ∷ text)) 0 none))
+
+pub no_data_line : (cfg : Config) (heading : List (List ℕ)) (text : List ℕ) → (length text == 0) ≡ true → None ≡ data_line cfg heading text
+unfolding number_of
+no_data_line cfg heading [] none =
+    sym (ap (λ (rows : List (List (List ℕ))). number_of (λ row. is_data heading (map trimmed row)) rows (row_lines cfg [] (length rows) [])) (no_records cfg))
+no_data_line cfg heading (b ∷ text) none = absurd (omega (arith, eqb-true (length (b ∷ text)) 0 none))

@@ -26,6 +26,7 @@ pub mod ImportAbove
 pub mod HeadingFirst
 pub mod WrittenQuotes
 mod ImportMaps
+mod Headings
 pub mod Trimmed
 pub mod SameLetters
 pub mod KeyedLines

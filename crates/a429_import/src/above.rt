@@ -52,7 +52,7 @@ fn heading_of(alloc: Global, maps: &[&str], form: Form<'_>) -> Result<Heading, A
     let first = first_line(alloc, form, &mut rows);
     // One call, instead of a drop of each of its parts.
     std::mem::drop(rows);
-    let named = named_by(alloc, maps, &first?)?;
+    let named = named_by(alloc, maps, first?)?;
     Ok(Heading::of(named))
 }
 
@@ -100,6 +100,27 @@ fn data_line(
     Ok(found)
 }
 
+/// The line on which the first row of data of a text above the heading begins. Error: an allocation failed.
+fn line_in(
+    alloc: Global,
+    maps: &[&str],
+    above: Form<'_>,
+    form: Form<'_>,
+) -> Result<Option<u64>, AllocError>
+    ensures line { IfOk result (λ line. line ≡ data_line (separated above.entry.separator)
+        (names_by (given_texts maps.now) (first_row (separated form.entry.separator) form.entry.text.now)) above.entry.text.now) }
+    ensures data { IfOk result (λ line. is_some line ≡ has_data (separated above.entry.separator)
+        (names_by (given_texts maps.now) (first_row (separated form.entry.separator) form.entry.text.now)) above.entry.text.now) }
+{
+    let heading = heading_of(alloc, maps, form)?;
+    let mut rows = rows_of(alloc, above);
+    let line = data_line(alloc, &heading, above, &mut rows);
+    // One call each, instead of a drop of each of its parts.
+    std::mem::drop(rows);
+    std::mem::drop(heading);
+    line
+}
+
 /// The line on which the first row of data above the heading begins, counted from 1. `None` if no row of data is above
 /// it. The form is that of the text. Error: an allocation failed.
 pub fn line_above(
@@ -113,15 +134,13 @@ pub fn line_above(
     ensures data { IfOk result (λ line. is_some line
         ≡ has_data_above (separated form.entry.separator) (given_texts maps.now) form.entry.text.now text.now) }
 {
-    let heading = heading_of(alloc, maps, form)?;
-    let above = Form {
+    let above = text_before(form.text, text);
+    if above.is_empty() {
+        return Ok(None);
+    }
+    let lines = Form {
         separator: form.separator,
-        text: text_before(form.text, text),
+        text: above,
     };
-    let mut rows = rows_of(alloc, above);
-    let line = data_line(alloc, &heading, above, &mut rows);
-    // One call each, instead of a drop of each of its parts.
-    std::mem::drop(rows);
-    std::mem::drop(heading);
-    line
+    line_in(alloc, maps, lines, form)
 }

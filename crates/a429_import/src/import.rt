@@ -31,6 +31,7 @@ use crate::renamed::{all_names, all_renamed};
 use crate::rows::ImportRow;
 use crate::tables::table_text;
 use crate::text_reading::read_lines;
+use crate::watch::Watch;
 use a429_equipment::Equipment;
 use a429_table::read_equipment;
 use std::alloc::{AllocError, Global};
@@ -165,12 +166,13 @@ fn table_of_lines(
 }
 
 /// The table that a text of this form describes, by what is known before its first line. Error: an allocation failed.
-fn read_table(
+fn read_table<W: Watch>(
     alloc: Global,
     maps: &[&str],
     options: ImportOptions,
     text: &[u8],
     form: Form<'_>,
+    watch: &W,
     read: &mut SheetRead,
 ) -> Result<Imported, ImportFault>
     requires separator { form.separator ≡ separator_in (given_texts maps.now) text.now }
@@ -178,7 +180,8 @@ fn read_table(
     requires read { IsReadFilled options read.old [] }
     ensures { IsTextFault (given_texts maps.now) text.now None → IsImport (given_texts maps.now) options text.now result }
 {
-    read_lines(alloc, maps, options, text, form, read)?;
+    read_lines(alloc, maps, options, text, form, watch, read)?;
+    watch.show_done(text.len(), text.len());
     table_of_lines(alloc, options.makes_names, &mut read.lines)
 }
 
@@ -195,12 +198,13 @@ fn keep_refused(refused: &mut Option<RefusedRows>, read: SheetRead) {
 
 /// The table that a text of this form describes, if no fault comes before those of its rows. If the rows are refused,
 /// `refused` gets them.
-fn table_of_text(
+fn table_of_text<W: Watch>(
     alloc: Global,
     maps: &[&str],
     options: ImportOptions,
     text: &[u8],
     form: Form<'_>,
+    watch: &W,
     refused: &mut Option<RefusedRows>,
 ) -> Result<Imported, ImportFault>
     requires separator { form.separator ≡ separator_in (given_texts maps.now) text.now }
@@ -209,7 +213,7 @@ fn table_of_text(
 {
     // A row with a new name has 11 bytes. So a chain has 12 names on average at most.
     let mut read = SheetRead::new(alloc, text.len() / 128)?;
-    let table = read_table(alloc, maps, options, text, form, &mut read);
+    let table = read_table(alloc, maps, options, text, form, watch, &mut read);
     keep_refused(refused, read);
     table
 }
@@ -291,32 +295,22 @@ fn text_fault(
 /// it. Otherwise the name of a source has its receiver, its label and its SDI, and that of another text has what is left of
 /// its beginning and its end. A number follows if another text has that name. The answer has a comment above each group, source
 /// and receiver whose text differs from its name. Without a heading no names are made.
-pub fn import_table(
+///
+/// `watch` shows how many bytes are read. If the rows are refused, `refused` gets those that a hint needs.
+pub fn import_table<W: Watch>(
     alloc: Global,
     maps: &[&str],
     options: ImportOptions,
     bytes: &[u8],
-) -> Result<Imported, ImportFault>
-    ensures { IsImport (given_texts maps.now) options bytes.now result }
-{
-    let mut unused = None;
-    import_or_keep(alloc, maps, options, bytes, &mut unused)
-}
-
-/// The table of `import_table`. If the rows are refused, `refused` gets those that a hint needs. Error: that of
-/// `import_table`.
-pub fn import_or_keep(
-    alloc: Global,
-    maps: &[&str],
-    options: ImportOptions,
-    bytes: &[u8],
+    watch: &W,
     refused: &mut Option<RefusedRows>,
 ) -> Result<Imported, ImportFault>
     ensures { IsImport (given_texts maps.now) options bytes.now result }
 {
     let form = form_of(maps, bytes);
+    watch.show_done(0, bytes.len());
     match text_fault(alloc, maps, bytes, form, refused)? {
         Some(fault) => Err(fault),
-        None => table_of_text(alloc, maps, options, bytes, form, refused),
+        None => table_of_text(alloc, maps, options, bytes, form, watch, refused),
     }
 }

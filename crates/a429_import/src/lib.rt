@@ -1,15 +1,15 @@
 //! An equipment table from rows of comma-separated values, as a spreadsheet writes them.
 //!
 //! `import_table` takes a heading with the names of columns, and below it a row for each output, or for a source that no
-//! group sends. It gives an equipment table as TOML, and the equipment. `import_or_keep` also keeps the rows that a hint is
-//! about. `IMPORT_COLUMNS` has the columns that are read. `made_name` makes a name of a text: `import_table` does so if it
-//! is asked to.
+//! group sends. It gives an equipment table as TOML, and the equipment, or keeps the rows that a hint is about. A `Watch`
+//! shows how much is read. `IMPORT_COLUMNS` has the columns that are read. `made_name` makes a name of a text:
+//! `import_table` does so if it is asked to.
 //!
 //! Errors: an allocation failed, or the rows or their table have a fault. `ImportFault` has the first fault of the rows,
 //! with its line and its column; otherwise the first fault of the table.
 //!
 //! ```text
-//! match import_or_keep(alloc, maps, options, &bytes, &mut refused) {
+//! match import_table(alloc, maps, options, &bytes, &watch, &mut refused) {
 //!     Ok(imported) => {
 //!         ..
 //!         Ok(Reply::done(imported.text))
@@ -61,12 +61,13 @@ mod steps;
 mod tables;
 mod text_reading;
 mod texts;
+mod watch;
 mod words;
 
 pub use columns::{COLUMNS as IMPORT_COLUMNS, Heading, is_column, is_named as is_column_named};
 pub use fault::{CsvFaultKind, ImportColumn, ImportFault};
 pub use fields::{may_be_thousands, millis_in};
-pub use import::{ImportOptions, Imported, import_or_keep, import_table};
+pub use import::{ImportOptions, Imported, import_table};
 pub use intervals::{IntervalForm, IntervalUnit};
 pub use lines::CsvLine;
 pub use made_names::made_name;
@@ -74,3 +75,4 @@ pub use map_texts::{heading_texts, keep_texts};
 pub use maps::{column_in, is_about, is_met};
 pub use refused::RefusedRows;
 pub use rows::{RowNumbers, form_fault, row_numbers};
+pub use watch::Watch;

@@ -187,6 +187,11 @@ impl LineCount {
         line
     }
 
+    /// How many bytes are counted.
+    pub fn bytes(&self) -> usize {
+        self.at
+    }
+
     /// Counts bytes up to a place.
     fn pass_to(&mut self, text: &[u8], place: usize)
         requires counted { HasCounted text.now self.old }

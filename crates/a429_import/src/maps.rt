@@ -217,20 +217,24 @@ fn push_names(
 fn names_of(alloc: Global, maps: &[&str], heading: &CsvLine) -> Result<ByteRecord, AllocError>
     ensures { IfOk result (λ names. fields_of names ≡ names_by (given_texts maps.now) (fields_of heading.now.fields)) }
 {
-    let mut names = ByteRecord::new(alloc);
+    let bytes = heading.fields.as_slice().len();
+    let mut names = ByteRecord::with_capacity(alloc, bytes, heading.len())?;
     push_names(alloc, &mut names, maps, heading)?;
     Ok(names)
 }
 
 /// A heading with its names by texts HEADING=COLUMN. It has no name if one of the texts is not met. Error: an allocation
 /// failed.
-pub fn named_by(alloc: Global, maps: &[&str], heading: &CsvLine) -> Result<CsvLine, AllocError>
-    ensures { IfOk result (λ named. IsNamedBy (given_texts maps.now) heading.now named) }
+pub fn named_by(alloc: Global, maps: &[&str], heading: CsvLine) -> Result<CsvLine, AllocError>
+    ensures { IfOk result (λ named. IsNamedBy (given_texts maps.now) heading named) }
 {
+    if maps.is_empty() {
+        return Ok(heading);
+    }
     Ok(CsvLine {
         number: heading.number,
         separator: heading.separator,
-        fields: names_of(alloc, maps, heading)?,
+        fields: names_of(alloc, maps, &heading)?,
     })
 }
 
@@ -247,6 +251,6 @@ pub fn named_line(
     if is_below {
         Ok(line)
     } else {
-        named_by(alloc, maps, &line)
+        named_by(alloc, maps, line)
     }
 }

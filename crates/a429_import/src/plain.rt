@@ -48,6 +48,7 @@ pub fn without_extra(text: &[u8]) -> &[u8]
 }
 
 /// Whether two texts begin with the same byte of headings.
+#[inline(always)]
 fn begin_alike(a: &[u8], b: &[u8]) -> bool
     ensures { result ≡ begin_alike a.now b.now }
 {
@@ -58,7 +59,20 @@ fn begin_alike(a: &[u8], b: &[u8]) -> bool
 }
 
 /// Whether two headings are the same: in any case, with one blank for several blanks, underlines and line breaks.
+#[inline(always)]
 pub fn same_heading(a: &[u8], b: &[u8]) -> bool
+    ensures { result ≡ same_heading a.now b.now }
+{
+    // most headings differ in their first byte
+    if a.is_empty() || begin_alike(a, b) {
+        have_same_words(a, b)
+    } else {
+        false
+    }
+}
+
+/// The same, byte by byte.
+fn have_same_words(a: &[u8], b: &[u8]) -> bool
     ensures { result ≡ same_heading a.now b.now }
 {
     let mut left = without_extra(a);

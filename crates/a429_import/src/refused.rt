@@ -20,8 +20,8 @@ const ROWS_BELOW: usize = 2000;
 /// Rows that are refused.
 #[derive(Drop)]
 pub struct RefusedRows {
-    /// The heading as it is written. `None` if there is none.
-    pub titles: Option<CsvLine>,
+    /// The heading as it is written. `None` if there is none, or if `heading` is as it is written.
+    titles: Option<CsvLine>,
     /// The heading by the names of its columns. `None` if no row was looked at.
     pub heading: Option<CsvLine>,
     /// The rows above the first fault that say something new, in order. Below a heading with a fault, its first rows.
@@ -94,9 +94,17 @@ impl RefusedRows {
         }
     }
 
-    /// Notes a heading as it is written. Error: an allocation failed.
-    pub fn note_titles(&mut self, is_below: bool, line: &CsvLine) -> Result<(), AllocError> {
-        if !is_below {
+    /// The heading as it is written. `None` if there is none. Error: an allocation failed.
+    pub fn take_titles(&mut self) -> Result<Option<CsvLine>, AllocError> {
+        match (self.titles.take(), &self.heading) {
+            (None, Some(heading)) => Ok(Some(copy_of_line(heading)?)),
+            (titles, _) => Ok(titles),
+        }
+    }
+
+    /// Notes a heading as it is written, unless it is known. Error: an allocation failed.
+    pub fn note_titles(&mut self, is_known: bool, line: &CsvLine) -> Result<(), AllocError> {
+        if !is_known {
             let titles = copy_of_line(line)?;
             self.titles = Some(titles);
         }

@@ -14,6 +14,7 @@ use crate::forms::Form;
 use crate::import::ImportOptions;
 use crate::lines::{CsvLine, count_before, line_of, rows_of};
 use crate::maps::named_line;
+use crate::watch::{Watch, show_count};
 use csv::ByteRecordsIntoIter;
 use std::alloc::{AllocError, Global};
 
@@ -31,7 +32,9 @@ fn take_named(
     ensures { IfOk result (λ below. (lines : List CsvLine) → IsOfNamed (given_texts maps.now) is_below (IsReadFilled options read.old) lines
         → IsOfNamed (given_texts maps.now) below (IsReadFilled options read.new) (lines ++ line ∷ [])) }
 {
-    read.refused.note_titles(is_below, &line)?;
+    // without such texts the heading is as it is written
+    read.refused
+        .note_titles(is_below || maps.is_empty(), &line)?;
     match named_line(alloc, maps, is_below, line) {
         Ok(named) => {
             take_filled_by(alloc, options, read, named)?;
@@ -63,12 +66,13 @@ fn take_filled(
 }
 
 /// Takes the lines of all rows of a text of this form. Error: an allocation failed.
-fn read_rows(
+fn read_rows<W: Watch>(
     alloc: Global,
     maps: &[&str],
     options: ImportOptions,
     text: &[u8],
     form: Form<'_>,
+    watch: &W,
     rows: &mut ByteRecordsIntoIter<&[u8]>,
     read: &mut SheetRead,
 ) -> Result<(), AllocError>
@@ -81,20 +85,23 @@ fn read_rows(
 {
     let mut count = count_before(text, form.text);
     let mut is_below = false;
+    let mut shown = 0;
     for row in rows {
         let line = line_of(alloc, text, form, &mut count, row)?;
         is_below = take_filled(alloc, maps, options, is_below, read, line)?;
+        shown = show_count(watch, &count, text, shown);
     }
     Ok(())
 }
 
 /// Takes all lines of a text of this form from its heading on. Error: an allocation failed.
-pub fn read_lines(
+pub fn read_lines<W: Watch>(
     alloc: Global,
     maps: &[&str],
     options: ImportOptions,
     text: &[u8],
     form: Form<'_>,
+    watch: &W,
     read: &mut SheetRead,
 ) -> Result<(), AllocError>
     requires separator { form.separator ≡ separator_in (given_texts maps.now) text.now }
@@ -103,7 +110,7 @@ pub fn read_lines(
     ensures { OnOk result ((all : List CsvLine) × AreNamedLines (given_texts maps.now) text.now all × IsReadFilled options read.new all) }
 {
     let mut rows = rows_of(alloc, form);
-    let done = read_rows(alloc, maps, options, text, form, &mut rows, read);
+    let done = read_rows(alloc, maps, options, text, form, watch, &mut rows, read);
     // One call, instead of a drop of each of its parts.
     std::mem::drop(rows);
     done

@@ -14,21 +14,21 @@ use Rattle.a429_import.proofs.ImportReading.{row_is}
 use Rattle.a429_import.proofs.text_reading.read_rows.Goals as goal
 
 pub count_before-count-requires : goal.count_before-count-requires
-count_before-count-requires c = subst (λ (xs : List ℕ). IsEnd c.args.text.now xs) (sym c.requires.text) (from_heading_end (given_texts c.args.maps.now) c.args.text.now)
+count_before-count-requires g c = subst (λ (xs : List ℕ). IsEnd c.args.text.now xs) (sym c.requires.text) (from_heading_end (given_texts c.args.maps.now) c.args.text.now)
 
 pub line_of-requires-clause-between : goal.line_of-requires-clause-between
-line_of-requires-clause-between c = let read = c.loop-row.invariant.read in ap is_between read.state ∙ read.between
+line_of-requires-clause-between g c = let read = c.loop-row.invariant.read in ap is_between read.state ∙ read.between
 
 pub line_of-requires-clause-counted : goal.line_of-requires-clause-counted
-line_of-requires-clause-counted c = c.loop-row.invariant.read.counted
+line_of-requires-clause-counted g c = c.loop-row.invariant.read.counted
 
 pub loop-row-init : goal.loop-row-init
-loop-row-init c =
+loop-row-init g c =
     let start = c.into_iter-row-iterator.ensures.into_iter_gives ∙ refl in
     rw start (record { turns = c.requires.left; all = []; read = c.requires.before c.args.text.now c.count_before-count.result c.count_before-count.ensures; known = ([], (refl, refl), c.requires.read) })
 
 pub loop-row-preserved : goal.loop-row-preserved
-loop-row-preserved c =
+loop-row-preserved g c =
     let inv = c.loop-row.invariant in
     let line : CsvLine = c.in_ok-line.line in
     let is = row_is (λ fields. fields_of line.fields ≡ map trimmed (fields_of fields)) c.in-Some.row c.in_ok-line.ensures.fields in
@@ -42,7 +42,7 @@ loop-row-preserved c =
     }
 
 pub returns : goal.returns
-returns c =
+returns g c =
     let inv = c.loop-row.invariant in
     let end = rw c.in-None.is at ((c.next.ensures.steps inv.turns inv.read.plain).0 inv.read.ready) in
     let lines : List CsvLine = filter (λ (l : CsvLine). has_text (fields_of l.fields)) inv.all in

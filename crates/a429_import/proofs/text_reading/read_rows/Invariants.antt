@@ -8,7 +8,7 @@ use Rattle.a429_import.specs.Imports.{has_text}
 use Rattle.a429_import.proofs.text_reading.read_rows.Given as goal
 
 abbrev pub invariant-loop-row : goal.invariant-loop-row
-invariant-loop-row l = record {
+invariant-loop-row g l = record {
   turns : 0 < l.row-iterator.left;
   all : List CsvLine;
   read : HasRead l.form.separator l.text l.form.text.now l.row-iterator.rdr l.count all;

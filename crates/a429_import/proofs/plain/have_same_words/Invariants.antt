@@ -1,6 +1,6 @@
 use Rattle.std.proofs.Common.{◌≡◌, false, length}
 use Rattle.a429_import.specs.ImportWords.{are_same, is_extra, same_heading, words_of}
-use Rattle.a429_import.proofs.plain.same_heading.Given as goal
+use Rattle.a429_import.proofs.plain.have_same_words.Given as goal
 
 abbrev pub invariant-loop-left : goal.invariant-loop-left
 invariant-loop-left l = record {
