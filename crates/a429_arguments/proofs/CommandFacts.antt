@@ -1,6 +1,6 @@
 -- Of each command: what the rules of the command line have for its row. All of it is computed.
-use Rattle.std.proofs.Common.{◌≡◌, ◌∙◌, ap, refl, sym, true, false, ℕ, List, [], ◌∷◌, ◌++◌, ◌+◌, map}
-use Rattle.std.specs.Prelude.{Option, Some, None, Bool, ◌&&◌, ◌||◌, min, not, ⊤}
+use Rattle.std.proofs.Common.{◌≡◌, ◌∙◌, ap, refl, sym, true, false, ℕ, List, [], ◌∷◌, ◌++◌, ◌+◌, drop, map}
+use Rattle.std.specs.Prelude.{Option, Some, None, Bool, ◌&&◌, ◌||◌, min, not, option_map, slice_get, ⊤}
 use Rattle.std.specs.List.{AllByRecursion, list_all}
 use Rattle.std.proofs.lemmas.Bool.{and_parts}
 use Rattle.std.proofs.lemmas.Option.{same_Some}
@@ -154,13 +154,40 @@ module _ {v : Verb} {us : List (Rule × Text)} (f : Facts v us) where
   pub plain_leaf : IsPlainLeaf (shape v)
   plain_leaf = plain_parts (shape v) (and_parts (required_are_there v us) (is_plain_leaf (shape v)) after_others).1
 
+-- the arguments at these places
+abbrev at_places : List Rule → ℕ → List (Rule × Text) → List (Option Rule)
+at_places c i [] = []
+at_places c i (u ∷ us) = arg_by_index c i ∷ at_places c (min (i + 1) usize_max) us
+
+are_at : (c : List Rule) (i : ℕ) (us : List (Rule × Text)) → at_places c i us ≡ map (λ (u : Rule × Text). Some u.0) us
+    → map (λ (u : Rule × Text). arg_by_id c u.0.id) us ≡ map (λ (u : Rule × Text). Some u.0) us → AreAt c i us
+are_at c i [] at by = tt
+are_at c i (u ∷ us) at by =
+    let first = λ (xs : List (Option Rule)). slice_get xs 0 in
+    let rest = λ (xs : List (Option Rule)). drop 1 xs in
+    (same_Some _ _ (ap first at), same_Some _ _ (ap first by), are_at c (min (i + 1) usize_max) us (ap rest at) (ap rest by))
+
+is_at_if : (c : List Rule) (i : ℕ) (given : Option Text) → option_map {U = Option Rule × Option Rule} (λ (id : Text). (arg_by_index c i, arg_by_id c id)) given ≡ option_map {U = Option Rule × Option Rule} (λ (id : Text). (Some (many_at i id), Some (many_at i id))) given
+    → IsAtIf c i given
+is_at_if c i None is = tt
+is_at_if c i (Some id) is = let both = same_Some _ _ is in (ap (λ p. p.0) both, ap (λ p. p.1) both)
+
 -- the facts, by what computes
-known : {v : Verb} {us : List (Rule × Text)} → IsNamed (row_of v).name (shape v) → AreAt (shape v).rules 1 us → IsAtIf (shape v).rules (position_after 1 us) (row_of v).more
+known : {v : Verb} {us : List (Rule × Text)} → IsNamed (row_of v).name (shape v) → at_places (shape v).rules 1 us ≡ map (λ (u : Rule × Text). Some u.0) us
+    → map (λ (u : Rule × Text). arg_by_id (shape v).rules u.0.id) us ≡ map (λ (u : Rule × Text). Some u.0) us
+    → option_map {U = Option Rule × Option Rule} (λ (id : Text). (arg_by_index (shape v).rules (position_after 1 us), arg_by_id (shape v).rules id)) (row_of v).more
+    ≡ option_map {U = Option Rule × Option Rule} (λ (id : Text). (Some (many_at (position_after 1 us) id), Some (many_at (position_after 1 us) id))) (row_of v).more
     → map (λ (name : OptionName). arg_by_long (shape v).rules (id_of name)) (options_of v) ≡ map (λ (name : OptionName). Some (built_option name)) (options_of v)
     → map (λ (name : OptionName). arg_by_id (shape v).rules (id_of name)) (options_of v) ≡ map (λ (name : OptionName). Some (built_option name)) (options_of v)
     → list_all has_plain_default (shape v).rules ≡ true → is_checked v us ≡ true → Facts v us
-known {v} named at more long by plain checked =
-    record { named = named; at = at; more = more; options = are_found (shape v).rules (options_of v) long by; plain = plain_defaults (shape v).rules plain; checked = checked }
+known {v} {us} named at by more long option plain checked = record {
+  named = named;
+  at = are_at (shape v).rules 1 us at by;
+  more = is_at_if (shape v).rules (position_after 1 us) (row_of v).more more;
+  options = are_found (shape v).rules (options_of v) long option;
+  plain = plain_defaults (shape v).rules plain;
+  checked = checked;
+}
 
 -- ---- the commands, one by one
 
@@ -176,22 +203,5 @@ module _ (first second number : Text) where
   -- of each: its arguments with one word each, the repeated names, its options, and the default value of each of its rules
   pub facts : (v : Verb) → Facts v (uses v first second number)
   unfolding command_line clap_on_literals
-  facts verb.Word = known (record { met = refl; leads = refl; label = refl; no_help = refl }) (refl, refl, tt) tt refl refl refl refl
-  facts verb.Encode = known (record { met = refl; leads = refl; label = refl; no_help = refl }) (refl, refl, tt) tt refl refl refl refl
-  facts verb.Lines = known (record { met = refl; leads = refl; label = refl; no_help = refl }) (refl, refl, tt) (refl, refl) refl refl refl refl
-  facts verb.Import = known (record { met = refl; leads = refl; label = refl; no_help = refl }) (refl, refl, tt) tt refl refl refl refl
-  facts verb.Plan = known (record { met = refl; leads = refl; label = refl; no_help = refl }) (refl, refl, tt) tt refl refl refl refl
-  facts verb.Check = known (record { met = refl; leads = refl; label = refl; no_help = refl }) (refl, refl, (refl, refl, tt)) tt refl refl refl refl
-  facts verb.Icd = known (record { met = refl; leads = refl; label = refl; no_help = refl }) (refl, refl, tt) tt refl refl refl refl
-  facts verb.Margin = known (record { met = refl; leads = refl; label = refl; no_help = refl }) (refl, refl, tt) tt refl refl refl refl
-  facts verb.Load = known (record { met = refl; leads = refl; label = refl; no_help = refl }) (refl, refl, tt) tt refl refl refl refl
-  facts verb.Slots = known (record { met = refl; leads = refl; label = refl; no_help = refl }) (refl, refl, tt) tt refl refl refl refl
-  facts verb.Buses = known (record { met = refl; leads = refl; label = refl; no_help = refl }) (refl, refl, tt) tt refl refl refl refl
-  facts verb.Lint = known (record { met = refl; leads = refl; label = refl; no_help = refl }) (refl, refl, tt) tt refl refl refl refl
-  facts verb.Diff = known (record { met = refl; leads = refl; label = refl; no_help = refl }) (refl, refl, (refl, refl, tt)) tt refl refl refl refl
-  facts verb.Draw = known (record { met = refl; leads = refl; label = refl; no_help = refl }) (refl, refl, tt) tt refl refl refl refl
-  facts verb.Replay = known (record { met = refl; leads = refl; label = refl; no_help = refl }) (refl, refl, (refl, refl, tt)) (refl, refl) refl refl refl refl
-  facts verb.Simulate = known (record { met = refl; leads = refl; label = refl; no_help = refl }) (refl, refl, (refl, refl, tt)) (refl, refl) refl refl refl refl
-  facts verb.Survey = known (record { met = refl; leads = refl; label = refl; no_help = refl }) (refl, refl, tt) (refl, refl) refl refl refl refl
-  facts verb.Judge = known (record { met = refl; leads = refl; label = refl; no_help = refl }) (refl, refl, (refl, refl, tt)) (refl, refl) refl refl refl refl
-  facts verb.Live = known (record { met = refl; leads = refl; label = refl; no_help = refl }) (refl, refl, (refl, refl, (refl, refl, tt))) (refl, refl) refl refl refl refl
+  facts verb.Word = known (record { met = refl; leads = refl; label = refl; no_help = refl }) refl refl refl refl refl refl refl
+  facts _ = known (record { met = refl; leads = refl; label = refl; no_help = refl }) refl refl refl refl refl refl refl

@@ -49,7 +49,7 @@ kind_of_rule id (given.Number least most) (text ∷ []) word has can = record { 
 kind_of_rule id kind (text ∷ more ∷ texts) word has can = absurd can
 
 abbrev pub all_options : List OptionName
-all_options = map (λ row. row.0) OPTIONS
+all_options = map (λ row. row.0) OPTIONS.now
 
 abbrev option_named : Text → List OptionName → Option OptionName
 option_named id [] = None

@@ -8,7 +8,7 @@ use Rattle.a429_arguments.proofs.requests.names_in.Goals as goal
 pub returns-in-Some : goal.returns-in-Some
 returns-in-Some c =
     IfOk-weaker c.texts_in.result _ _ (λ names are texts is.
-    let at : values_of c.in-Some.form.id.now (rows_of (found_of c.args.found.now)) ≡ texts = rw c.in-Some.is at is in
+    let at : values_of c.in-Some.id.now (rows_of (found_of c.args.found.now)) ≡ texts = rw c.in-Some.is at is in
     are ∙ at) c.texts_in.ensures
 
 pub returns-in-None : goal.returns-in-None
