@@ -260,23 +260,13 @@ fn name_in<'a>(found: &ArgMatches<'a>, id: Option<&str>) -> &'a str
     }
 }
 
-/// The number that is given, if the command is given one.
+/// The number that is given, if the command is given one: that of its text, which the rules of the command line let through.
 fn frames_in(found: &ArgMatches<'_>, number: Option<(&str, u32)>) -> u32
     ensures { (n : ℕ) → IsGivenNumber (rows_of (found_of found.now)) (number_id number.entry) n → result ≡ n }
 {
     match number {
-        Some((id, _)) => asked_number(found, id).unwrap_or(0),
+        Some((id, _)) => found.get_one(id).unwrap_or(0),
         None => 0,
-    }
-}
-
-/// The texts of an argument that is given as often as one likes, in their order.
-fn texts_in<'a>(alloc: Global, found: &ArgMatches<'a>, id: &str) -> Result<Vec<&'a str>, AllocError>
-    ensures { IfOk result (λ texts. texts_of texts.items ≡ values_of id.now (rows_of (found_of found.now))) }
-{
-    match found.get_strs(id) {
-        Some(texts) => Vec::from_slice(alloc, texts),
-        None => Ok(Vec::new(alloc)),
     }
 }
 
@@ -290,15 +280,7 @@ fn names_in<'a>(
         → AreGivenTexts (rows_of (found_of found.now)) (name_id id.entry) texts → texts_of names.items ≡ texts) }
 {
     match id {
-        Some(id) => texts_in(alloc, found, id),
+        Some(id) => Vec::from_slice(alloc, found.get_strs(id).unwrap_or(&[])),
         None => Ok(Vec::new(alloc)),
     }
-}
-
-/// The number of an argument, if one is given: that of its text, which the rules of the command line let through.
-fn asked_number(found: &ArgMatches<'_>, id: &str) -> Option<u32>
-    ensures { (least most : ℕ) (number : Option ℕ) → most < 2 ^ 32
-        → number_of least most (one_of id.now (rows_of (found_of found.now))) ≡ Some number → result ≡ number }
-{
-    found.get_one(id)
 }

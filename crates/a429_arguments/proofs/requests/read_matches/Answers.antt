@@ -7,7 +7,7 @@ use Rattle.a429_arguments.specs.Given.{given_in}
 use Rattle.a429_arguments.specs.RequestRows.{IsFound}
 use Rattle.a429_arguments.specs.Rules.{are_refused}
 use Rattle.a429_arguments.proofs.CommandFacts.{same_verb}
-use Rattle.a429_arguments.proofs.MetCommands.{met_parts}
+use Rattle.a429_arguments.proofs.Found.{met_parts}
 use Rattle.a429_arguments.proofs.requests.read_matches.Goals as goal
 
 pub returns-in-None-clause-asked : goal.returns-in-None-clause-asked
