@@ -14,12 +14,11 @@ use Rattle.a429_arguments.specs.RequestRows.{AsksFor, IsAskedBy}
 use Rattle.a429_arguments.specs.Numbers.{number_of}
 use Rattle.a429_arguments.specs.declared.forms.Verb.{Verb}
 use Rattle.a429_arguments.specs.declared.forms.Verb.TheVariants as verb
-use Rattle.a429_arguments.proofs.CommandFacts.{Facts, new, plain_leaf, required, facts, ids_after, ids_if, name_at, name_is_single, number_at, number_is_single, number_place, position_after, shape, use_if, uses}
+use Rattle.a429_arguments.proofs.CommandFacts.{Facts, facts, ids_after, ids_if, name_at, name_is_single, number_at, number_is_single, number_place, position_after, shape, use_if, uses}
 use Rattle.a429_arguments.proofs.CommandWords.{asks_for, ends_well}
 use Rattle.a429_arguments.proofs.Decimals.{decimal_is_name, number_of_decimal}
 use Rattle.a429_arguments.proofs.FoundRows.{required_given, use_row, with_defaults}
-use Rattle.a429_arguments.proofs.OptionWords.{rows_of_options}
-use Rattle.a429_arguments.proofs.PassingOptions.{words_pass}
+use Rattle.a429_arguments.proofs.OptionWords.{rows_of_options, words_pass}
 use Rattle.a429_arguments.proofs.PlainWords.{name_is_plain}
 use Rattle.a429_arguments.proofs.SettledWords.{Reads, all_settles}
 use Rattle.a429_arguments.proofs.UsedRows.{row_at}
@@ -82,10 +81,10 @@ module _ (r : AskedBytes) (text : Text) (has : HasWords r) (number_is : NumberTe
       subst (λ (named : List Row). Reads (shape r.verb) (walk_from nothing_held) (map word_of us ++ (r.more ++ words_of_options r.given (options_of r.verb)))
       ((named ++ rows_if row_here.more r.more) ++ rows_of_options r.given (options_of r.verb))) (rows_are us [])
       (uses_read (shape r.verb) us 1 [] (ids_if row_here.more ++ map id_of (options_of r.verb)) nothing_held []
-      ((rows_after [] us ++ rows_if row_here.more r.more) ++ rows_of_options r.given (options_of r.verb)) (r.more ++ words_of_options r.given (options_of r.verb)) f.at plain (new f)
+      ((rows_after [] us ++ rows_if row_here.more r.more) ++ rows_of_options r.given (options_of r.verb)) (r.more ++ words_of_options r.given (options_of r.verb)) f.at plain f.new
       (λ id none. refl) (all_settles (shape r.verb) [])
       (λ g settled. more_read (shape r.verb) r.given (options_of r.verb) row_here.more r.more (position_after 1 us) (ids_after [] us) g (rows_after [] us) has.options (words_pass r.given has.options) f.options f.more
-      has.more (new_after us [] (ids_if row_here.more ++ map id_of (options_of r.verb)) (new f)) (within_uses us [] [] (λ id none. refl)) settled))
+      has.more (new_after us [] (ids_if row_here.more ++ map id_of (options_of r.verb)) f.new) (within_uses us [] [] (λ id none. refl)) settled))
 
   comes : finished (shape r.verb).rules all_read.to.held ≡ found_rows
   comes = ap (λ (h : Held). with_defaults h.rows (shape r.verb).rules) all_read.settles.comes
@@ -93,8 +92,8 @@ module _ (r : AskedBytes) (text : Text) (has : HasWords r) (number_is : NumberTe
   well : ends_well (shape r.verb) all_read.to ≡ true
   unfolding ends_well
   well =
-      let leaf = plain_leaf f in
-      let must = required_given us found_rows (shape r.verb).rules (uses_read_again r us f has) (required f) in
+      let leaf = f.leaf in
+      let must = required_given us found_rows (shape r.verb).rules (uses_read_again r us f has) f.required in
       rw (all_read.settles.passes, leaf.defaults, comes, leaf.help, leaf.subcommand, leaf.free, leaf.negates, must) refl
 
   -- ---- and this is found in them

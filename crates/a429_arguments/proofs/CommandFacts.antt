@@ -1,25 +1,23 @@
 -- Of each command: what the rules of the command line have for its row. All of it is computed.
-use Rattle.std.proofs.Common.{◌≡◌, ◌∙◌, ap, refl, sym, true, false, ℕ, List, [], ◌∷◌, ◌++◌, ◌+◌, map}
-use Rattle.std.specs.Prelude.{Option, Some, None, Bool, ◌&&◌, ◌||◌, min, not, ⊤}
+use Rattle.std.proofs.Common.{◌≡◌, ◌∙◌, ap, refl, sym, true, false, ℕ, List, [], ◌∷◌, ◌++◌, ◌+◌, drop, map}
+use Rattle.std.specs.Prelude.{Option, Some, None, ◌||◌, min, not, option_map, slice_get, ⊤}
 use Rattle.std.specs.List.{AllByRecursion, list_all}
-use Rattle.std.proofs.lemmas.Bool.{and_parts}
 use Rattle.std.proofs.lemmas.Option.{same_Some}
 use Rattle.clap.specs.Lexer.{usize_max}
 use Rattle.clap.specs.Words.{Rule, Shape, Text}
 use Rattle.clap.specs.Simple.{filled, with_index}
 use Rattle.clap.specs.Takes.{default_passes}
-use Rattle.clap.specs.Walk.{arg_by_id, arg_by_index, arg_by_long}
+use Rattle.clap.specs.Walk.{arg_by_id, arg_by_index}
 use Rattle.clap.proofs.OnLiterals.{clap_on_literals}
 use Rattle.a429_arguments.specs.CommandLine.{command_line, id_of, many_rule, number_rule, options_of, required_rule, row_app, row_of}
 use Rattle.a429_arguments.specs.Usage.{verb_named}
-use Rattle.a429_arguments.specs.declared.options.OptionName.{OptionName}
 use Rattle.a429_arguments.specs.declared.forms.Verb.{Verb}
 use Rattle.a429_arguments.specs.declared.forms.Verb.TheVariants as verb
 use Rattle.a429_arguments.proofs.CommandWords.{IsNamed, leaf}
-use Rattle.a429_arguments.proofs.FoundRows.{HasPlainDefault, has_plain_default, plain_defaults, use_id}
-use Rattle.a429_arguments.proofs.OptionWords.{AreFound, all_options, are_found, built_option}
+use Rattle.a429_arguments.proofs.FoundRows.{HasPlainDefault, plain_defaults, use_id}
+use Rattle.a429_arguments.proofs.OptionWords.{AreFound, all_options, are_found}
 use Rattle.a429_arguments.proofs.SettledWords.{IsMany, IsSingle}
-use Rattle.a429_arguments.proofs.UsedRows.{all_new, has_id, not_so}
+use Rattle.a429_arguments.proofs.UsedRows.{all_new, has_id}
 
 -- the command, as it is built
 abbrev pub shape : Verb → Shape
@@ -94,73 +92,37 @@ pub record IsPlainLeaf (s : Shape) : Type 0 where
   pub free : list_all (λ a. a.is_free) s.rules ≡ true
   pub defaults : list_all default_passes s.rules ≡ true
 
-abbrev is_plain_leaf : Shape → Bool
-is_plain_leaf s =
-    not s.arg_required_else_help && (not s.subcommand_required && (not s.subcommand_negates_reqs && (list_all (λ a. a.is_free) s.rules && list_all default_passes s.rules)))
-
-plain_parts : (s : Shape) → is_plain_leaf s ≡ true → IsPlainLeaf s
-plain_parts s all =
-    let first = and_parts (not s.arg_required_else_help) (not s.subcommand_required && (not s.subcommand_negates_reqs && (list_all (λ a. a.is_free) s.rules && list_all default_passes s.rules))) all in
-    let second = and_parts (not s.subcommand_required) (not s.subcommand_negates_reqs && (list_all (λ a. a.is_free) s.rules && list_all default_passes s.rules)) first.1 in
-    let third = and_parts (not s.subcommand_negates_reqs) (list_all (λ a. a.is_free) s.rules && list_all default_passes s.rules) second.1 in
-    let fourth = and_parts (list_all (λ a. a.is_free) s.rules) (list_all default_passes s.rules) third.1 in
-    record {
-      help = not_so s.arg_required_else_help first.0;
-      subcommand = not_so s.subcommand_required second.0;
-      negates = not_so s.subcommand_negates_reqs third.0;
-      free = fourth.0;
-      defaults = fourth.1;
-    }
-
--- no two arguments have one id
-abbrev pub ids_are_new : Verb → List (Rule × Text) → Bool
-ids_are_new v us = all_new [] (map use_id us ++ (ids_if (row_of v).more ++ map id_of (options_of v)))
-
--- no option of any command has the id of another argument
-abbrev pub options_are_apart : Verb → List (Rule × Text) → Bool
-options_are_apart v us = list_all (λ name. not (has_id (ids_if (row_of v).more ++ ids_after [] us) (id_of name))) all_options
-
--- what must be given is among the arguments with one word each
-abbrev pub required_are_there : Verb → List (Rule × Text) → Bool
-required_are_there v us = list_all (λ a. not a.required || has_id (map use_id us) a.id) (shape v).rules
-
-abbrev is_checked : Verb → List (Rule × Text) → Bool
-is_checked v us = ids_are_new v us && (options_are_apart v us && (required_are_there v us && is_plain_leaf (shape v)))
-
 pub record Facts (v : Verb) (us : List (Rule × Text)) : Type 0 where
   pub named : IsNamed (row_of v).name (shape v)
   pub at : AreAt (shape v).rules 1 us
   pub more : IsAtIf (shape v).rules (position_after 1 us) (row_of v).more
   pub options : AreFound (shape v).rules (options_of v)
   pub plain : AllByRecursion HasPlainDefault (shape v).rules
-  pub checked : is_checked v us ≡ true
+  -- no two arguments have one id
+  pub new : all_new [] (map use_id us ++ (ids_if (row_of v).more ++ map id_of (options_of v))) ≡ true
+  -- no option of any command has the id of another argument
+  pub others : list_all (λ name. not (has_id (ids_if (row_of v).more ++ ids_after [] us) (id_of name))) all_options ≡ true
+  -- what must be given is among the arguments with one word each
+  pub required : list_all (λ a. not a.required || has_id (map use_id us) a.id) (shape v).rules ≡ true
+  pub leaf : IsPlainLeaf (shape v)
 
-module _ {v : Verb} {us : List (Rule × Text)} (f : Facts v us) where
-  pub new : ids_are_new v us ≡ true
-  new = (and_parts (ids_are_new v us) (options_are_apart v us && (required_are_there v us && is_plain_leaf (shape v))) f.checked).0
+-- the arguments at these places
+abbrev at_places : List Rule → ℕ → List (Rule × Text) → List (Option Rule)
+at_places c i [] = []
+at_places c i (u ∷ us) = arg_by_index c i ∷ at_places c (min (i + 1) usize_max) us
 
-  after_new : (options_are_apart v us && (required_are_there v us && is_plain_leaf (shape v))) ≡ true
-  after_new = (and_parts (ids_are_new v us) (options_are_apart v us && (required_are_there v us && is_plain_leaf (shape v))) f.checked).1
+are_at : (c : List Rule) (i : ℕ) (us : List (Rule × Text)) → at_places c i us ≡ map (λ (u : Rule × Text). Some u.0) us
+    → map (λ (u : Rule × Text). arg_by_id c u.0.id) us ≡ map (λ (u : Rule × Text). Some u.0) us → AreAt c i us
+are_at c i [] at by = tt
+are_at c i (u ∷ us) at by =
+    let first = λ (xs : List (Option Rule)). slice_get xs 0 in
+    let rest = λ (xs : List (Option Rule)). drop 1 xs in
+    (same_Some _ _ (ap first at), same_Some _ _ (ap first by), are_at c (min (i + 1) usize_max) us (ap rest at) (ap rest by))
 
-  pub others : options_are_apart v us ≡ true
-  others = (and_parts (options_are_apart v us) (required_are_there v us && is_plain_leaf (shape v)) after_new).0
-
-  after_others : (required_are_there v us && is_plain_leaf (shape v)) ≡ true
-  after_others = (and_parts (options_are_apart v us) (required_are_there v us && is_plain_leaf (shape v)) after_new).1
-
-  pub required : required_are_there v us ≡ true
-  required = (and_parts (required_are_there v us) (is_plain_leaf (shape v)) after_others).0
-
-  pub plain_leaf : IsPlainLeaf (shape v)
-  plain_leaf = plain_parts (shape v) (and_parts (required_are_there v us) (is_plain_leaf (shape v)) after_others).1
-
--- the facts, by what computes
-known : {v : Verb} {us : List (Rule × Text)} → IsNamed (row_of v).name (shape v) → AreAt (shape v).rules 1 us → IsAtIf (shape v).rules (position_after 1 us) (row_of v).more
-    → map (λ (name : OptionName). arg_by_long (shape v).rules (id_of name)) (options_of v) ≡ map (λ (name : OptionName). Some (built_option name)) (options_of v)
-    → map (λ (name : OptionName). arg_by_id (shape v).rules (id_of name)) (options_of v) ≡ map (λ (name : OptionName). Some (built_option name)) (options_of v)
-    → list_all has_plain_default (shape v).rules ≡ true → is_checked v us ≡ true → Facts v us
-known {v} named at more long by plain checked =
-    record { named = named; at = at; more = more; options = are_found (shape v).rules (options_of v) long by; plain = plain_defaults (shape v).rules plain; checked = checked }
+is_at_if : (c : List Rule) (i : ℕ) (given : Option Text) → option_map {U = Option Rule × Option Rule} (λ (id : Text). (arg_by_index c i, arg_by_id c id)) given ≡ option_map {U = Option Rule × Option Rule} (λ (id : Text). (Some (many_at i id), Some (many_at i id))) given
+    → IsAtIf c i given
+is_at_if c i None is = tt
+is_at_if c i (Some id) is = let both = same_Some _ _ is in (ap (λ p. p.0) both, ap (λ p. p.1) both)
 
 -- ---- the commands, one by one
 
@@ -176,22 +138,25 @@ module _ (first second number : Text) where
   -- of each: its arguments with one word each, the repeated names, its options, and the default value of each of its rules
   pub facts : (v : Verb) → Facts v (uses v first second number)
   unfolding command_line clap_on_literals
-  facts verb.Word = known (record { met = refl; leads = refl; label = refl; no_help = refl }) (refl, refl, tt) tt refl refl refl refl
-  facts verb.Encode = known (record { met = refl; leads = refl; label = refl; no_help = refl }) (refl, refl, tt) tt refl refl refl refl
-  facts verb.Lines = known (record { met = refl; leads = refl; label = refl; no_help = refl }) (refl, refl, tt) (refl, refl) refl refl refl refl
-  facts verb.Import = known (record { met = refl; leads = refl; label = refl; no_help = refl }) (refl, refl, tt) tt refl refl refl refl
-  facts verb.Plan = known (record { met = refl; leads = refl; label = refl; no_help = refl }) (refl, refl, tt) tt refl refl refl refl
-  facts verb.Check = known (record { met = refl; leads = refl; label = refl; no_help = refl }) (refl, refl, (refl, refl, tt)) tt refl refl refl refl
-  facts verb.Icd = known (record { met = refl; leads = refl; label = refl; no_help = refl }) (refl, refl, tt) tt refl refl refl refl
-  facts verb.Margin = known (record { met = refl; leads = refl; label = refl; no_help = refl }) (refl, refl, tt) tt refl refl refl refl
-  facts verb.Load = known (record { met = refl; leads = refl; label = refl; no_help = refl }) (refl, refl, tt) tt refl refl refl refl
-  facts verb.Slots = known (record { met = refl; leads = refl; label = refl; no_help = refl }) (refl, refl, tt) tt refl refl refl refl
-  facts verb.Buses = known (record { met = refl; leads = refl; label = refl; no_help = refl }) (refl, refl, tt) tt refl refl refl refl
-  facts verb.Lint = known (record { met = refl; leads = refl; label = refl; no_help = refl }) (refl, refl, tt) tt refl refl refl refl
-  facts verb.Diff = known (record { met = refl; leads = refl; label = refl; no_help = refl }) (refl, refl, (refl, refl, tt)) tt refl refl refl refl
-  facts verb.Draw = known (record { met = refl; leads = refl; label = refl; no_help = refl }) (refl, refl, tt) tt refl refl refl refl
-  facts verb.Replay = known (record { met = refl; leads = refl; label = refl; no_help = refl }) (refl, refl, (refl, refl, tt)) (refl, refl) refl refl refl refl
-  facts verb.Simulate = known (record { met = refl; leads = refl; label = refl; no_help = refl }) (refl, refl, (refl, refl, tt)) (refl, refl) refl refl refl refl
-  facts verb.Survey = known (record { met = refl; leads = refl; label = refl; no_help = refl }) (refl, refl, tt) (refl, refl) refl refl refl refl
-  facts verb.Judge = known (record { met = refl; leads = refl; label = refl; no_help = refl }) (refl, refl, (refl, refl, tt)) (refl, refl) refl refl refl refl
-  facts verb.Live = known (record { met = refl; leads = refl; label = refl; no_help = refl }) (refl, refl, (refl, refl, (refl, refl, tt))) (refl, refl) refl refl refl refl
+  facts verb.Word = record {
+    named = record { met = refl; leads = refl; label = refl; no_help = refl };
+    at = are_at (shape verb.Word).rules 1 (uses verb.Word first second number) refl refl;
+    more = is_at_if (shape verb.Word).rules (position_after 1 (uses verb.Word first second number)) (row_of verb.Word).more refl;
+    options = are_found (shape verb.Word).rules (options_of verb.Word) refl refl;
+    plain = plain_defaults (shape verb.Word).rules refl;
+    new = refl;
+    others = refl;
+    required = refl;
+    leaf = record { help = refl; subcommand = refl; negates = refl; free = refl; defaults = refl };
+  }
+  facts v = record {
+    named = record { met = refl; leads = refl; label = refl; no_help = refl };
+    at = are_at (shape v).rules 1 (uses v first second number) refl refl;
+    more = is_at_if (shape v).rules (position_after 1 (uses v first second number)) (row_of v).more refl;
+    options = are_found (shape v).rules (options_of v) refl refl;
+    plain = plain_defaults (shape v).rules refl;
+    new = refl;
+    others = refl;
+    required = refl;
+    leaf = record { help = refl; subcommand = refl; negates = refl; free = refl; defaults = refl };
+  }

@@ -1,11 +1,11 @@
 -- The outcome of words that name a command, by that of the words after the name.
-use Rattle.std.proofs.Common.{◌≡◌, ◌∙◌, ap, ap₂, refl, codes, subst, sym, true, false, List, [], ◌∷◌, fold}
+use Rattle.std.proofs.Common.{◌≡◌, ◌∙◌, ap, ap₂, refl, codes, subst, sym, true, false, List, [], ◌∷◌, ◌++◌, append_assoc, append-nil, fold}
 use Rattle.std.specs.Prelude.{Option, Some, None, Bool, ◌&&◌, ◌||◌, find, is_some, not, option_map}
 use Rattle.std.specs.List.{list_all}
 use Rattle.std.specs.Option.{option_map_or}
 use Rattle.std.specs.Str.{bytes_eq}
-use Rattle.clap.specs.Words.{App, Row, Shape, Text, is_simple, is_simple_and_free, subcommand_of, takes}
-use Rattle.clap.specs.Walk.{Held, Names, Walk, after_step, answers_to, finished, idle, nothing_held, stop_after, subcommand_met, subcommand_or_other, walk, walk_from, walked}
+use Rattle.clap.specs.Words.{App, Row, Rule, Shape, Text, is_simple, is_simple_and_free, subcommand_of, takes}
+use Rattle.clap.specs.Walk.{Held, Names, Walk, after_step, answers_to, finished, idle, nothing_held, stop_after, subcommand_met, subcommand_or_other, walk, walk_from, walked, walked_from}
 use Rattle.clap.specs.Simple.{argument_words, built, built_leaf, entered, inherited, label_of, names_of, rows_at}
 use Rattle.clap.specs.Takes.{built_takes, default_passes, entered_passes, is_valid, level_passes, other_passes, settle_passes, step_passes, turn_passes, walk_passes}
 use Rattle.clap.specs.declared.builder.value_parser.Reading.TheVariants.{AsWritten}
@@ -14,7 +14,22 @@ use Rattle.clap.proofs.OnLiterals.{clap_on_literals}
 use Rattle.a429_arguments.specs.CommandLine.{command_line, row_of, top_shape}
 use Rattle.a429_arguments.specs.Requests.{AskedBytes}
 use Rattle.a429_arguments.specs.RequestRows.{AsksFor, IsAskedBy, IsFound}
-use Rattle.a429_arguments.proofs.StoppedWords.{stopped_more, stopped_passes}
+
+-- each is kept for the command
+stopped_more : (c : List Rule) (names : Names) (w : Walk) (name : Text) (before words : List Text) → w.stopped ≡ Some (name, before)
+    → fold (walked c names) w words ≡ record w { stopped = Some (name, before ++ words) }
+unfolding walked
+stopped_more c names w name before [] at = ap (λ s. record w { stopped = s }) (at ∙ ap (λ (ws : List Text). Some (name, ws)) (sym (append-nil before)))
+stopped_more c names w name before (word ∷ words) at =
+    ap (λ (v : Walk). fold (walked c names) v words) (ap (λ s. walked_from c names s w word) at)
+    ∙ (stopped_more c names (record w { stopped = Some (name, before ++ word ∷ []) }) name (before ++ word ∷ []) words refl
+    ∙ ap (λ (ws : List Text). record w { stopped = Some (name, ws) }) (append_assoc before (word ∷ []) words))
+
+stopped_passes : (s : Shape) (names : Names) (w : Walk) (name : Text) (before words : List Text) → w.stopped ≡ Some (name, before) → walk_passes s names w words ≡ true
+unfolding walk_passes walked
+stopped_passes s names w name before [] at = refl
+stopped_passes s names w name before (word ∷ words) at =
+    rw (at) (stopped_passes s names (record w { stopped = Some (name, before ++ word ∷ []) }) name (before ++ word ∷ []) words refl)
 
 pub is_simple_here : is_simple command_line ≡ true
 unfolding command_line clap_on_literals

@@ -1,12 +1,10 @@
 -- A number in decimal digits, as an argument.
-use Rattle.std.proofs.Common.{◌≡◌, ◌∙◌, ◌≤◌, ◌<◌, ◌^◌, ℕ, List, [], ◌∷◌, Bool, true, false, codes, ap, refl, sym, subst, arith}
+use Rattle.std.proofs.Common.{◌≡◌, ◌∙◌, ◌≤◌, ◌<◌, ◌^◌, ℕ, List, [], ◌∷◌, Bool, true, false, ap, refl, sym, subst, arith}
 use Rattle.std.specs.Prelude.{Option, Some, None, IfSome, if◌then◌else◌, option_map}
 use Rattle.std.specs.Char.{digit_value}
 use Rattle.std.specs.Fmt.{decimal}
-use Rattle.std.specs.Str.{bytes_eq}
 use Rattle.std.specs.Str.Parse.{AllDigits, IsNumeral, digits_value, without_leading_plus}
 use Rattle.std.proofs.lemmas.Fmt.{decimal_is_IsNumeral}
-use Rattle.std.proofs.lemmas.Slice.Eq.{bytes_eq-Decides}
 use Rattle.std.proofs.lemmas.Str.Parse.{without_leading_plus_none}
 use Rattle.clap.specs.ValueTests.{is_unsigned_in}
 use Rattle.clap.specs.Words.{Text}
@@ -48,20 +46,6 @@ number_of_decimal least most None few plain = refl
 number_of_decimal least most (Some n) few plain =
     let small : n < 2 ^ 64 = omega (arith, plain.1, few) in
     rw (decimal_passes least most n plain.0 plain.1 small) (ap (λ (m : ℕ). Some (Some m)) (decimal_value n small))
-
-pub number_up_to_decimal : (most n : ℕ) → n ≤ most → n < 2 ^ 64 → number_up_to most (decimal n) ≡ Some n
-unfolding number_up_to
-number_up_to_decimal most n few small = rw (decimal_passes 0 most n (omega arith) few small) (ap Some (decimal_value n small))
-
--- it is no word of letters
-pub decimal_is_not_first : (n : ℕ) → n < 2 ^ 64 → bytes_eq (decimal n) (codes "first") ≡ false
-decimal_is_not_first n small = go (bytes_eq (decimal n) (codes "first")) refl
-  where
-    go : (b : Bool) → bytes_eq (decimal n) (codes "first") ≡ b → b ≡ false
-    go true same =
-        let all : AllDigits 10 (codes "first") = subst (AllDigits 10) ((bytes_eq-Decides (decimal n) (codes "first")).0 same) (decimal_is_IsNumeral n small).0.1 in
-        absurd (omega (arith, all.0))
-    go false same = refl
 
 -- ---- the number of any text
 

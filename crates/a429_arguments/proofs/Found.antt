@@ -1,31 +1,32 @@
 -- What was found of the words that name a command.
-use Rattle.std.proofs.Common.{◌≡◌, ◌∙◌, ◌∷◌, ◌<◌, ◌^◌, [], ap, fold, refl, true, false, codes, ℕ, Bool, List, arith}
-use Rattle.std.specs.Prelude.{Option, Some, None, Result, not, if◌then◌else◌, option_map, unwrap_or}
+use Rattle.std.proofs.Common.{inl, inr, ◌≡◌, ◌∙◌, ◌∷◌, ◌<◌, ◌^◌, [], ap, fold, refl, true, false, codes, ℕ, Bool, List, arith}
+use Rattle.std.specs.Prelude.{Option, Some, None, Result, if◌then◌else◌, option_map, unwrap_or}
 use Rattle.std.proofs.lemmas.Bool.{and_parts}
 use Rattle.std.proofs.lemmas.Option.{same_Some}
 use Rattle.std.proofs.lemmas.Slice.Eq.{bytes_eq-Decides}
 use Rattle.std.specs.Str.{bytes_eq}
 use Rattle.std.specs.Str.Parse.{ParsesBool, ParsesUnsigned, digits_value, without_leading_plus}
 use Rattle.clap.specs.ValueTests.{is_unsigned_in}
-use Rattle.clap.specs.Words.{App, ReadsOne, Rule, Text, app_of, new_app, with_rule}
+use Rattle.clap.specs.Kinds.{or_else}
+use Rattle.clap.specs.Words.{App, HasKind, Kinds, ReadsOne, Row, Rule, Text, app_of, new_app, with_rule}
 use Rattle.clap.specs.declared.builder.value_parser.ValueParser.TheVariants as reads
 use Rattle.clap.specs.declared.builder.command.Command.{Command}
 use Rattle.clap.specs.declared.builder.command.Command.TheViews.{out-Command}
+use Rattle.clap.specs.declared.error.Error.{Error}
 use Rattle.clap.proofs.ValueTestLemmas.{accepts-Accepts}
 use Rattle.a429_arguments.specs.CommandLine.{CommandRow, many_rule, number_rule, required_rule, row_app, with_any}
 use Rattle.a429_arguments.specs.Given.{Given, is_set}
 use Rattle.a429_arguments.specs.Numbers.{number_of}
 use Rattle.a429_arguments.specs.Requests.{AskedBytes}
+use Rattle.a429_arguments.specs.Usage.{ComesTo}
 use Rattle.a429_arguments.specs.declared.forms.Verb.{Verb}
+use Rattle.a429_arguments.specs.declared.requests.Asked.{Asked}
+use Rattle.a429_arguments.proofs.UsedRows.{not_so}
 use Rattle.std.specs.Borrow.{Bor}
-
-was_not : (b : Bool) → not b ≡ true → b ≡ false
-was_not true e = cc
-was_not false e = refl
 
 -- a plain command has no global argument
 pub plain_is_local : (c : Command) → (app_of c).top.is_plain ≡ true → (out-Command c).has_globals ≡ false
-plain_is_local c plain = was_not _ (and_parts _ _ (and_parts _ _ (and_parts _ _ plain).1).1).0
+plain_is_local c plain = not_so _ (and_parts _ _ (and_parts _ _ (and_parts _ _ plain).1).1).0
 
 rules_keep_plain : (rules : List Rule) (a : App) → (fold with_rule a rules).top.is_plain ≡ a.top.is_plain
 rules_keep_plain [] a = refl
@@ -86,3 +87,20 @@ name_is (Some t) default text is = same_Some t.now text is
 pub asked_is : (r : AskedBytes) (v : Verb) (first second : Text) (number : ℕ) (more : List Text) (given : Given) → v ≡ r.verb → first ≡ r.first → second ≡ r.second → number ≡ r.number
     → more ≡ r.more → given ≡ r.given → record { verb = v; first = first; second = second; number = number; more = more; given = given } ≡ r
 asked_is r v first second number more given a b c d e f = rw (a, b, c, d, e, f) refl
+
+-- what was met, by its two parts
+pub met_parts : {S : Type 0} (sub : Option S) (name_of : S → Text) (rows_of : S → List Row) (name : Text) (rows : List Row) → Some name ≡ option_map name_of sub
+    → Some rows ≡ option_map (λ (p : Text × List Row). p.1) (option_map {U = Text × List Row} (λ b. (name_of b, rows_of b)) sub) → option_map {U = Text × List Row} (λ b. (name_of b, rows_of b)) sub ≡ Some (name, rows)
+met_parts None name_of rows_of name rows named found = absurd (cc named)
+met_parts (Some b) name_of rows_of name rows named found = rw (same_Some name (name_of b) named, same_Some rows (rows_of b) found) refl
+
+-- a kind of the first list is one of both
+pub kind_in_first : (ks more : Kinds) (e : Error) → HasKind ks e → HasKind (or_else ks more) e
+kind_in_first [] more e (inl memory) = inl memory
+kind_in_first [] more e (inr among) = absurd among
+kind_in_first (k ∷ ks) more e has = has
+
+-- and of words without a fault
+pub comes_to_after : (faults kinds : Kinds) (is_another : Verb → Bool) (result : Result Asked Error) → faults ≡ [] → ComesTo kinds is_another result
+    → ComesTo (or_else faults kinds) is_another result
+comes_to_after faults kinds is_another result none is = rw none is

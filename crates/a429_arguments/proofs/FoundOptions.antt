@@ -15,7 +15,7 @@ use Rattle.a429_arguments.specs.declared.options.OptionKind.TheVariants as given
 use Rattle.a429_arguments.specs.declared.options.OptionName.{OptionName}
 use Rattle.a429_arguments.specs.declared.options.OptionName.TheVariants as option
 use Rattle.a429_arguments.specs.declared.forms.Verb.{Verb}
-use Rattle.a429_arguments.proofs.CommandFacts.{Facts, new, others, ids_after, ids_if, shape}
+use Rattle.a429_arguments.proofs.CommandFacts.{Facts, ids_after, ids_if, shape}
 use Rattle.a429_arguments.proofs.CommandWords.{row, row_of_words}
 use Rattle.a429_arguments.proofs.FoundRows.{flag_unset, option_found, option_missing, still_found, still_missing, use_row, uses_found, uses_still_found, with_defaults}
 use Rattle.a429_arguments.proofs.OptionWords.{all_options, rows_of_options, rows_of_word, same_option}
@@ -25,24 +25,19 @@ use Rattle.a429_arguments.proofs.WordRows.{AreNamesIf, new_after, rows_are, rows
 -- ---- what is found at the end
 
 -- what is true of several options is true of each of them
-at_one_of : (Q : OptionName → Type 0) (names : List OptionName) (name : OptionName) → AllByRecursion Q names → has_option names name ≡ true → Q name
-at_one_of Q [] name all has = absurd (cc has)
-at_one_of Q (x ∷ names) name (here, all) has = go (bytes_eq (id_of x) (id_of name)) refl (at_one_of Q names name all)
+at_each : (P : OptionName → Bool) (names : List OptionName) (name : OptionName) → list_all P names ≡ true → has_option names name ≡ true → P name ≡ true
+at_each P [] name all has = absurd (cc has)
+at_each P (x ∷ names) name all has =
+    let parts = and_parts (P x) (list_all P names) all in
+    go (bytes_eq (id_of x) (id_of name)) refl parts.0 (at_each P names name parts.1)
   where
-    go : (b : Bool) → bytes_eq (id_of x) (id_of name) ≡ b → (has_option names name ≡ true → Q name) → Q name
-    go true same rest = subst Q (same_option x name same) here
-    go false other rest = rest (rw other at has)
+    go : (b : Bool) → bytes_eq (id_of x) (id_of name) ≡ b → P x ≡ true → (has_option names name ≡ true → P name ≡ true) → P name ≡ true
+    go true same here rest = subst (λ (n : OptionName). P n ≡ true) (same_option x name same) here
+    go false other here rest = rest (rw other at has)
 
 is_of_all : (name : OptionName) → has_option all_options name ≡ true
 is_of_all option.Csv = refl
 is_of_all _ = refl
-
-at_option : (Q : OptionName → Type 0) → AllByRecursion Q all_options → (name : OptionName) → Q name
-at_option Q all name = at_one_of Q all_options name all (is_of_all name)
-
-each_of : (P : OptionName → Bool) (names : List OptionName) → list_all P names ≡ true → AllByRecursion (λ (name : OptionName). P name ≡ true) names
-each_of P [] all = tt
-each_of P (name ∷ names) all = let parts = and_parts (P name) (list_all P names) all in (parts.0, each_of P names parts.1)
 
 -- an id that no option has
 options_apart : (o : Given) (id : Text) → ((name : OptionName) → bytes_eq (id_of name) id ≡ false) → (names : List OptionName) → has_row id (rows_of_options o names) ≡ false
@@ -81,8 +76,7 @@ module _ (r : AskedBytes) (us : List (Rule × Text)) (f : Facts r.verb us) (has 
   apart : (name : OptionName) → has_id (ids_if (row_of v).more ++ ids_after [] us) (id_of name) ≡ false
   apart name =
       not_so (has_id (ids_if (row_of v).more ++ ids_after [] us) (id_of name))
-      (at_option (λ x. not (has_id (ids_if (row_of v).more ++ ids_after [] us) (id_of x)) ≡ true)
-      (each_of (λ x. not (has_id (ids_if (row_of v).more ++ ids_after [] us) (id_of x))) all_options (others f)) name)
+      (at_each (λ x. not (has_id (ids_if (row_of v).more ++ ids_after [] us) (id_of x))) all_options name f.others (is_of_all name))
 
   not_before : (name : OptionName) → has_row (id_of name) before ≡ false
   not_before name = before_within (id_of name) (apart name)
@@ -144,7 +138,7 @@ module _ (r : AskedBytes) (us : List (Rule × Text)) (f : Facts r.verb us) (has 
   uses_read_again =
       uses_still_found us all_rows (shape v).rules
       (subst (λ (rows : List Row). AllByRecursion (λ (u : Rule × Text). row_at u.0.id rows ≡ Some (use_row u)) us) (sym (append_assoc (map use_row us) (rows_if (row_of v).more r.more) (rows_of_options r.given names)))
-      (uses_found us [] (ids_if (row_of v).more ++ map id_of names) [] (rows_if (row_of v).more r.more ++ rows_of_options r.given names) (new f) (λ id none. refl)))
+      (uses_found us [] (ids_if (row_of v).more ++ map id_of names) [] (rows_if (row_of v).more r.more ++ rows_of_options r.given names) f.new (λ id none. refl)))
 
   -- the id of the repeated names is no flag's
   many_apart : (id : Text) (name : OptionName) → (row_of v).more ≡ Some id → bytes_eq (id_of name) id ≡ false
@@ -160,12 +154,12 @@ module _ (r : AskedBytes) (us : List (Rule × Text)) (f : Facts r.verb us) (has 
   -- what is found of the repeated names
   found_many : (id : Text) (more : List Text) → (row_of v).more ≡ Some id → r.more ≡ more → values_of id end_rows ≡ more
   found_many id [] is none =
-      let uses_none : has_row id (map use_row us) ≡ false = uses_within id (is_new (ids_after [] us) id (map id_of names) (rw is at (new_after us [] (ids_if (row_of v).more ++ map id_of names) (new f)))) in
+      let uses_none : has_row id (map use_row us) ≡ false = uses_within id (is_new (ids_after [] us) id (map id_of names) (rw is at (new_after us [] (ids_if (row_of v).more ++ map id_of names) f.new))) in
       let before_none : has_row id before ≡ false = rw (is, none) (missing_in_both id (map use_row us) [] uses_none refl) in
       let all_none = missing_in_both id before (rows_of_options r.given names) before_none (options_apart r.given id (λ name. many_apart id name is) names) in
       rw (none_found id end_rows (still_missing id (shape v).rules all_rows (λ name flag. many_apart id name is) f.plain all_none)) refl
   found_many id (word ∷ more) is some =
-      let uses_none : has_row id (map use_row us) ≡ false = uses_within id (is_new (ids_after [] us) id (map id_of names) (rw is at (new_after us [] (ids_if (row_of v).more ++ map id_of names) (new f)))) in
+      let uses_none : has_row id (map use_row us) ≡ false = uses_within id (is_new (ids_after [] us) id (map id_of names) (rw is at (new_after us [] (ids_if (row_of v).more ++ map id_of names) f.new))) in
       let last = row_of_words id (word ∷ more) in
       let before_found : row_at id before ≡ Some last = rw (is, some) (found_behind id (map use_row us) (last ∷ []) uses_none ∙ rw (same_text id) refl) in
       rw (still_found id last (shape v).rules all_rows (found_before id before (rows_of_options r.given names) last before_found)) refl

@@ -1,5 +1,5 @@
 -- The texts of an option that is no flag are those that were found of it.
-use Rattle.std.proofs.Common.{◌≡◌, [], List, ap, false, refl, sym}
+use Rattle.std.proofs.Common.{◌≡◌, ◌∙◌, [], Bool, List, ap, ap₂, false, refl, sym}
 use Rattle.std.specs.Prelude.{◌&&◌, not, Option, Some, None, find, option_and_then, option_map, slice_get, unwrap_or}
 use Rattle.std.specs.Borrow.{Bor}
 use Rattle.std.specs.Str.{bytes_eq}
@@ -13,43 +13,30 @@ use Rattle.a429_arguments.specs.declared.options.OptionKind.TheVariants as given
 use Rattle.a429_arguments.specs.declared.options.OptionName.{OptionName}
 use Rattle.a429_arguments.specs.declared.rules.Rule.{Rule}
 
-by_kind : (kind : OptionKind) (id : Text) (rows : List Row) → is_switch kind ≡ false → given_by kind id rows ≡ values_of id rows
-by_kind given.Flag id rows no_flag = absurd (cc no_flag)
-by_kind (given.Text form) id rows no_flag = refl
-by_kind (given.Texts form) id rows no_flag = refl
-by_kind (given.Number least most) id rows no_flag = refl
+by_kind : (kind : OptionKind) (id : Text) (rows : List Row) → (kind ≡ given.Flag → ⊥) → (given_by kind id rows ≡ values_of id rows) × (is_switch kind ≡ false)
+by_kind given.Flag id rows no_flag = absurd (no_flag refl)
+by_kind (given.Text form) id rows no_flag = (refl, refl)
+by_kind (given.Texts form) id rows no_flag = (refl, refl)
+by_kind (given.Number least most) id rows no_flag = (refl, refl)
 
 pub texts_are_given : (name : OptionName) (rows : List Row) → is_flag name ≡ false → given_in rows name ≡ values_of (id_of name) rows
-texts_are_given name rows no_flag = by_kind (kind_of name) (id_of name) rows no_flag
+texts_are_given name rows no_flag = (by_kind (kind_of name) (id_of name) rows (λ flag. absurd (cc (sym no_flag ∙ ap is_switch flag)))).0
 
 -- its first text is the first value
 first_of_row : (found : Option Row) → slice_get (unwrap_or (option_map (λ (r : Row). r.values) found) []) 0 ≡ option_and_then (λ (r : Row). slice_get r.values 0) found
 first_of_row None = refl
 first_of_row (Some r) = refl
 
-first_of_values : (id : Text) (rows : List Row) → slice_get (values_of id rows) 0 ≡ first_of id rows
-first_of_values id rows = first_of_row (find (λ (r : Row). bytes_eq r.id id) rows)
-
-first_by_kind : (kind : OptionKind) (id : Text) (rows : List Row) → (kind ≡ given.Flag → ⊥) → slice_get (given_by kind id rows) 0 ≡ first_of id rows
-first_by_kind given.Flag id rows no_flag = absurd (no_flag refl)
-first_by_kind (given.Text form) id rows no_flag = first_of_values id rows
-first_by_kind (given.Texts form) id rows no_flag = first_of_values id rows
-first_by_kind (given.Number least most) id rows no_flag = first_of_values id rows
-
 pub first_is_given : (name : OptionName) (rows : List Row) → (kind_of name ≡ given.Flag → ⊥) → text_given (given_in rows) name ≡ first_of (id_of name) rows
-first_is_given name rows no_flag = first_by_kind (kind_of name) (id_of name) rows no_flag
+first_is_given name rows no_flag =
+    ap (λ (texts : List Text). slice_get texts 0) (by_kind (kind_of name) (id_of name) rows no_flag).0 ∙ first_of_row (find (λ (r : Row). bytes_eq r.id (id_of name)) rows)
 
 -- a rule on texts is broken by them
-breaks_by_kind : (rule : Rule) (kind : OptionKind) (id : Text) (rows : List Row) (texts : List Text) → (kind ≡ given.Flag → ⊥) → values_of id rows ≡ texts
-    → texts_break rule texts ≡ (not (is_switch kind) && texts_break rule (given_by kind id rows))
-breaks_by_kind rule given.Flag id rows texts no_flag is = absurd (no_flag refl)
-breaks_by_kind rule (given.Text form) id rows texts no_flag is = ap (texts_break rule) (sym is)
-breaks_by_kind rule (given.Texts form) id rows texts no_flag is = ap (texts_break rule) (sym is)
-breaks_by_kind rule (given.Number least most) id rows texts no_flag is = ap (texts_break rule) (sym is)
-
 pub breaks_found : (rule : Rule) (name : OptionName) (rows : List Row) (texts : List Text) → (kind_of name ≡ given.Flag → ⊥) → values_of (id_of name) rows ≡ texts
     → texts_break rule texts ≡ breaks_by rule name (given_in rows)
-breaks_found rule name rows texts no_flag is = breaks_by_kind rule (kind_of name) (id_of name) rows texts no_flag is
+breaks_found rule name rows texts no_flag is =
+    let given = by_kind (kind_of name) (id_of name) rows no_flag in
+    sym (ap₂ (λ (flag : Bool) (ts : List Text). not flag && texts_break rule ts) given.1 (given.0 ∙ is))
 
 -- the texts of those that are there, or none
 pub texts_or_none : (found : Option (Bor (List (Bor Text)))) (none : Bor (List (Bor Text))) (values : Option (List Text)) → option_map (λ (s : Bor (List (Bor Text))). texts_of s.now) found ≡ values → none.now ≡ []

@@ -18,7 +18,7 @@ use Rattle.a429_arguments.specs.declared.options.OptionName.{OptionName}
 use Rattle.a429_arguments.specs.declared.options.OptionName.TheVariants as option
 use Rattle.a429_arguments.specs.declared.options.TheConstants.{OPTIONS}
 use Rattle.a429_arguments.proofs.CommandWords.{row}
-use Rattle.a429_arguments.proofs.PlainWords.{IsPlainWord, TakesValues, at_word, for_none}
+use Rattle.a429_arguments.proofs.PlainWords.{IsPlainWord, TakesValues, at_word, for_none, name_is_plain}
 use Rattle.a429_arguments.proofs.SettledWords.{IsOption, IsSingle, IsSwitch, Reads, Settles, all_settles, held_all, held_with, option_read, reads_none, switch_read, value_settles}
 use Rattle.a429_arguments.proofs.UsedRows.{Within, all_new, is_new, rest_is_new, within_more, within_passed}
 
@@ -49,7 +49,7 @@ kind_of_rule id (given.Number least most) (text ∷ []) word has can = record { 
 kind_of_rule id kind (text ∷ more ∷ texts) word has can = absurd can
 
 abbrev pub all_options : List OptionName
-all_options = map (λ row. row.0) OPTIONS
+all_options = map (λ row. row.0) OPTIONS.now
 
 abbrev option_named : Text → List OptionName → Option OptionName
 option_named id [] = None
@@ -93,6 +93,18 @@ are_found c (first_name ∷ names) long by =
 -- the word of an option is a value, and passes its rule
 abbrev pub WordPasses : OptionName → Option Text → Type 0
 WordPasses name word = IfSome word (λ w. IsPlainWord w × (value_passes (built_option name) w ≡ true))
+
+-- what is given of options passes the rules of the command line
+passes_by : (id : Text) (kind : OptionKind) (texts : List Text) → CanBeGiven kind texts → IfSome (slice_get texts 0) (λ w. IsPlainWord w × (value_passes (filled (kind_rule id kind)) w ≡ true))
+passes_by id kind [] can = tt
+passes_by id given.Flag (text ∷ []) can = rw can (record { no_end = refl; no_long = refl; no_short = refl }, refl)
+passes_by id (given.Text form) (text ∷ []) can = (name_is_plain text can, refl)
+passes_by id (given.Texts form) (text ∷ []) can = absurd can
+passes_by id (given.Number least most) (text ∷ []) can = (name_is_plain text can.0, can.1)
+passes_by id kind (text ∷ more ∷ texts) can = absurd can
+
+pub words_pass : (o : Given) → ((name : OptionName) → CanBeGiven (kind_of name) (o name)) → (name : OptionName) → WordPasses name (text_given o name)
+words_pass o can name = passes_by (id_of name) (kind_of name) (o name) (can name)
 
 -- the rows of options
 abbrev pub rows_of_word : OptionName → Option Text → List Row

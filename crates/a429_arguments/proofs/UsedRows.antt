@@ -40,12 +40,6 @@ at_last id change missing (x ∷ rows) r none is =
     let parts = or_parts (bytes_eq x.id id) (has_row id rows) none in
     rw parts.0 (ap (λ (rs : List Row). x ∷ rs) (at_last id change missing rows r parts.1 is))
 
-pub found_behind : (id : Text) (rows more : List Row) → has_row id rows ≡ false → row_at id (rows ++ more) ≡ row_at id more
-found_behind id [] more none = refl
-found_behind id (r ∷ rows) more none =
-    let parts = or_parts (bytes_eq r.id id) (has_row id rows) none in
-    rw parts.0 (found_behind id rows more parts.1)
-
 pub found_before : (id : Text) (rows more : List Row) (r : Row) → row_at id rows ≡ Some r → row_at id (rows ++ more) ≡ Some r
 found_before id [] more r is = absurd (cc is)
 found_before id (x ∷ rows) more r is = go (bytes_eq x.id id) refl (found_before id rows more r)
@@ -73,6 +67,9 @@ none_found id [] none = refl
 none_found id (r ∷ rows) none =
     let parts = or_parts (bytes_eq r.id id) (has_row id rows) none in
     rw parts.0 (none_found id rows parts.1)
+
+pub found_behind : (id : Text) (rows more : List Row) → has_row id rows ≡ false → row_at id (rows ++ more) ≡ row_at id more
+found_behind id rows more none = found_behind_none id rows more (none_found id rows none)
 
 -- ---- ids one after another
 

@@ -1,22 +1,24 @@
 -- The command line of the program: a row for each command, and what the rules of the command line make of the rows
 -- (the clap library; profile: docs/FORMATS.md, Usage errors).
 use denote.Enum.Declared.{tag_of}
-use Rattle.std.specs.Prelude.{◌≡◌, ◌∷◌, [], ℕ, Bool, List, Option, true, false, Some, None, codes, fold, get_or, map, option_map}
+use Rattle.std.specs.Borrow.{Bor}
+use Rattle.std.specs.Prelude.{◌≡◌, [], ℕ, Bool, List, Option, true, false, Some, None, codes, fold, get_or, map, option_map}
 use Rattle.clap.specs.Words.{App, Rule, Shape, Text, new_app, new_rule, rule_of, with_rule, with_subcommand}
 use Rattle.clap.specs.declared.builder.arg.Arg.{Arg}
 use Rattle.clap.specs.declared.builder.action.ArgAction.TheVariants.{Append, SetTrue}
 use Rattle.clap.specs.declared.builder.value_parser.ValueParser.TheVariants as reads
-use Rattle.a429_arguments.specs.contracts.options.OptionName.{the_type}
+use Rattle.a429_arguments.specs.contracts.forms.Verb.{the_type as verb_type}
+use Rattle.a429_arguments.specs.contracts.options.OptionName.{the_type as option_type}
 use Rattle.a429_arguments.specs.declared.command_line.Given.{Given}
 use Rattle.a429_arguments.specs.declared.command_line.Given.TheVariants as thing
+use Rattle.a429_arguments.specs.declared.forms.Answers.{Answers}
 use Rattle.a429_arguments.specs.declared.forms.CommandForm.{CommandForm}
-use Rattle.a429_arguments.specs.declared.forms.NameForm.{NameForm}
-use Rattle.a429_arguments.specs.declared.forms.NumberForm.{NumberForm}
 use Rattle.a429_arguments.specs.declared.options.OptionKind.{OptionKind}
 use Rattle.a429_arguments.specs.declared.options.OptionKind.TheVariants as given
 use Rattle.a429_arguments.specs.declared.options.OptionName.{OptionName}
 use Rattle.a429_arguments.specs.declared.options.OptionName.TheVariants as option
-use Rattle.a429_arguments.specs.declared.options.TheConstants.{DIFF_OPTIONS, DRAW_OPTIONS, ENCODE_OPTIONS, FORMS, ICD_OPTIONS, IMPORT_OPTIONS, JUDGE_OPTIONS, LIVE_OPTIONS, LOAD_OPTIONS, OPTIONS, PLAN_OPTIONS, PLANNED_OPTIONS, REPLAY_OPTIONS, SHEET_OPTIONS, SIMULATE_OPTIONS, SLOTS_OPTIONS, SURVEY_OPTIONS}
+use Rattle.a429_arguments.specs.declared.options.TheConstants.{OPTIONS}
+use Rattle.a429_arguments.specs.declared.forms.TheConstants.{COMMANDS, WHOLE}
 use Rattle.a429_arguments.specs.declared.forms.Verb.{Verb}
 use Rattle.a429_arguments.specs.declared.forms.Verb.TheVariants as verb
 
@@ -50,7 +52,7 @@ abbrev no_row : OptionRow
 no_row = (option.Csv, record { now = [] }, given.Flag)
 
 abbrev pub option_row : OptionName → OptionRow
-option_row name = get_or OPTIONS (tag_of the_type name) no_row
+option_row name = get_or OPTIONS.now (tag_of option_type name) no_row
 
 -- its name without the two hyphens
 abbrev pub id_of : OptionName → Text
@@ -85,29 +87,7 @@ kind_rule id kind = record (unnamed_rule kind) { id = id; long = Some id }
 abbrev pub option_rule : OptionName → Rule
 option_rule name = kind_rule (id_of name) (kind_of name)
 
--- ---- the commands
-
--- the options of a command, in the order in which help lists them
-abbrev pub options_of : Verb → List OptionName
-options_of verb.Encode = ENCODE_OPTIONS.now
-options_of verb.Import = IMPORT_OPTIONS.now
-options_of verb.Plan = PLAN_OPTIONS.now
-options_of verb.Check = FORMS.now
-options_of verb.Replay = REPLAY_OPTIONS.now
-options_of verb.Word = FORMS.now
-options_of verb.Lines = FORMS.now
-options_of verb.Icd = ICD_OPTIONS.now
-options_of verb.Margin = PLANNED_OPTIONS.now
-options_of verb.Load = LOAD_OPTIONS.now
-options_of verb.Slots = SLOTS_OPTIONS.now
-options_of verb.Buses = PLANNED_OPTIONS.now
-options_of verb.Lint = SHEET_OPTIONS.now
-options_of verb.Diff = DIFF_OPTIONS.now
-options_of verb.Draw = DRAW_OPTIONS.now
-options_of verb.Simulate = SIMULATE_OPTIONS.now
-options_of verb.Survey = SURVEY_OPTIONS.now
-options_of verb.Judge = JUDGE_OPTIONS.now
-options_of verb.Live = LIVE_OPTIONS.now
+-- ---- the commands: the rows of the program (`COMMANDS`), each at the place of its command
 
 -- what a command is given: one or two names, perhaps a number up to the most, perhaps as many names as one likes, and options
 pub record CommandRow : Type 0 where
@@ -118,42 +98,36 @@ pub record CommandRow : Type 0 where
   pub more : Option Text
   pub options : List Rule
 
--- a command of this name that is given one name and its options
-abbrev pub with_one : Verb → Text → Text → CommandRow
-with_one v name first = record { name = name; first = first; second = None; number = None; more = None; options = map option_rule (options_of v) }
+abbrev pub Name : Type 0
+Name = record { now : Text }
 
--- a command that is given a table
-abbrev pub with_table : Verb → Text → CommandRow
-with_table v name = with_one v name (codes "TABLE")
+-- a row of the program: the command, its name, what it is given, its options, and how it answers
+abbrev pub TableRow : Type 0
+TableRow = Verb × Name × (Name × Option Name × Option (Name × ℕ) × Option Name) × (record { now : List OptionName }) × Answers
+
+abbrev no_command : TableRow
+no_command = (verb.Import, record { now = [] }, (record { now = [] }, None, None, None), record { now = [] }, WHOLE)
+
+abbrev pub table_row : Verb → TableRow
+table_row v = get_or COMMANDS.now (tag_of verb_type v) no_command
 
 abbrev pub row_of : Verb → CommandRow
-row_of verb.Import = with_one verb.Import (codes "import") (codes "FILE")
-row_of verb.Plan = with_table verb.Plan (codes "plan")
-row_of verb.Check = record (with_table verb.Check (codes "check")) { second = Some (codes "PLAN") }
-row_of verb.Icd = with_table verb.Icd (codes "icd")
-row_of verb.Draw = with_table verb.Draw (codes "draw")
-row_of verb.Slots = with_table verb.Slots (codes "slots")
-row_of verb.Buses = with_table verb.Buses (codes "buses")
-row_of verb.Load = with_table verb.Load (codes "load")
-row_of verb.Margin = with_table verb.Margin (codes "margin")
-row_of verb.Lint = with_table verb.Lint (codes "lint")
-row_of verb.Diff = record (with_table verb.Diff (codes "diff")) { second = Some (codes "OTHER") }
-row_of verb.Replay = record (with_table verb.Replay (codes "replay")) { second = Some (codes "SCRIPT"); more = Some (codes "FURTHER") }
-row_of verb.Simulate = record (with_table verb.Simulate (codes "simulate")) { second = Some (codes "LOG"); more = Some (codes "LOGS") }
-row_of verb.Live =
-    record (with_table verb.Live (codes "live")) { second = Some (codes "WORDS"); number = Some (codes "FRAMES", most_frames); more = Some (codes "FURTHER") }
-row_of verb.Survey = record (with_one verb.Survey (codes "survey") (codes "LOG")) { more = Some (codes "LOGS") }
-row_of verb.Judge =
-    record (with_table verb.Judge (codes "judge")) { second = Some (codes "IN"); more = Some (codes "OUT") }
-row_of verb.Word = with_one verb.Word (codes "word") (codes "HEX")
-row_of verb.Encode = with_one verb.Encode (codes "encode") (codes "LABEL")
-row_of verb.Lines = record (with_one verb.Lines (codes "lines") (codes "FILE")) { more = Some (codes "FILTER") }
+row_of v = record {
+  name = (table_row v).1.now;
+  first = (table_row v).2.0.now;
+  second = option_map (λ n. n.now) (table_row v).2.1;
+  number = option_map (λ n. (n.0.now, n.1)) (table_row v).2.2;
+  more = option_map (λ n. n.now) (table_row v).2.3;
+  options = map option_rule (table_row v).3.now;
+}
+
+-- the options of a command, in the order in which help lists them
+abbrev pub options_of : Verb → List OptionName
+options_of v = (table_row v).3.now
 
 -- all of them, in the order in which help lists them
 abbrev pub verbs : List Verb
-verbs =
-    verb.Import ∷ verb.Plan ∷ verb.Check ∷ verb.Icd ∷ verb.Draw ∷ verb.Slots ∷ verb.Buses ∷ verb.Load ∷ verb.Margin ∷ verb.Lint ∷ verb.Diff ∷ verb.Replay
-    ∷ verb.Simulate ∷ verb.Live ∷ verb.Survey ∷ verb.Judge ∷ verb.Word ∷ verb.Encode ∷ verb.Lines ∷ []
+verbs = map (λ row. row.0) COMMANDS.now
 
 -- ---- the command line
 
@@ -195,21 +169,21 @@ HasRule a rule = (rule_of a ≡ rule) × (a.global ≡ false)
 
 -- what a command is given that is no option
 abbrev pub given_rule : Given → Rule
-given_rule (thing.Name form) = required_rule form.id.now
-given_rule (thing.Number form) = number_rule (form.id.now, form.most)
-given_rule (thing.Names form) = many_rule form.id.now
+given_rule (thing.Name id help) = required_rule id.now
+given_rule (thing.Number id most help) = number_rule (id.now, most)
+given_rule (thing.Names id help) = many_rule id.now
 
 -- the name of an argument, if there is one, and that of a number with the most that it may be
-abbrev pub name_id : Option NameForm → Option Text
-name_id form = option_map (λ n. n.id.now) form
+abbrev pub name_id : Option (Bor Text) → Option Text
+name_id name = option_map (λ n. n.now) name
 
-abbrev pub number_id : Option NumberForm → Option (Text × ℕ)
-number_id form = option_map (λ n. (n.id.now, n.most)) form
+abbrev pub number_id : Option (Bor Text × ℕ) → Option (Text × ℕ)
+number_id number = option_map (λ n. (n.0.now, n.1)) number
 
 abbrev pub form_row : CommandForm → CommandRow
 form_row form = record {
   name = form.name.now;
-  first = form.first.id.now;
+  first = form.first.now;
   second = name_id form.second;
   number = number_id form.number;
   more = name_id form.more;

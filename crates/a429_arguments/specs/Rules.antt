@@ -62,4 +62,4 @@ is_refusing v given row = is_for row.1 v && is_broken given row.0
 
 -- what is given to a command breaks one of the rules
 abbrev pub are_refused : Verb → Given → Bool
-are_refused v given = list_any (is_refusing v given) RULES
+are_refused v given = list_any (is_refusing v given) RULES.now

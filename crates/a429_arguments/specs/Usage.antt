@@ -8,11 +8,12 @@ use Rattle.clap.specs.Words.{HasKind, Kinds, Row, Text, fault_of, subcommand_of}
 use Rattle.clap.specs.declared.error.Error.{Error}
 use Rattle.clap.specs.declared.error.kind.ErrorKind.{ErrorKind}
 use Rattle.clap.specs.declared.error.kind.ErrorKind.TheVariants.{DisplayHelp, DisplayVersion, InvalidSubcommand, InvalidValue}
-use Rattle.a429_arguments.specs.CommandLine.{command_line, row_of, verbs}
+use Rattle.a429_arguments.specs.CommandLine.{command_line, row_of, table_row, verbs}
 use Rattle.a429_arguments.specs.Given.{given_in}
 use Rattle.a429_arguments.specs.Rules.{are_refused}
+use Rattle.a429_arguments.specs.declared.forms.AnswerForm.{AnswerForm}
+use Rattle.a429_arguments.specs.declared.forms.AnswerForm.TheVariants as answer
 use Rattle.a429_arguments.specs.declared.forms.Verb.{Verb}
-use Rattle.a429_arguments.specs.declared.forms.Verb.TheVariants as verb
 use Rattle.a429_arguments.specs.declared.requests.Asked.{Asked}
 
 -- the command that was found is `live`
@@ -49,10 +50,31 @@ abbrev pub live_kinds_of_words : List (List ℕ) → Kinds
 live_kinds_of_words words =
     or_else (fault_of command_line words) (found_kinds (subcommand_of command_line words) (not (is_live (subcommand_of command_line words))))
 
+-- ---- how a command answers, by its row
+
+abbrev is_station : AnswerForm → Bool
+is_station answer.Station = true
+is_station _ = false
+
+abbrev is_one_piece : AnswerForm → Bool
+is_one_piece answer.Whole = true
+is_one_piece _ = false
+
 -- the command is the one of `command_live`
 abbrev pub is_run : Verb → Bool
-is_run verb.Live = true
-is_run _ = false
+is_run v = is_station (table_row v).4.form
+
+-- it prints nothing before it has its whole answer
+abbrev pub is_whole : Verb → Bool
+is_whole v = is_one_piece (table_row v).4.form
+
+-- the status of a refusal: 2, if it keeps 1 for what it finds, such as `lint` (profile: status 0, 1 and 2)
+abbrev pub trouble_of : Verb → ℕ
+trouble_of v = (table_row v).4.trouble
+
+-- it answers by the plan of one table
+abbrev pub is_on_plan : Verb → Bool
+is_on_plan v = (table_row v).4.is_on_plan
 
 -- the kinds that arguments have for a call: an error has one of them, and a request means that there is none, or that another call does it
 abbrev pub ComesTo : Kinds → (Verb → Bool) → Result Asked Error → Type 0
@@ -64,10 +86,6 @@ is_help DisplayHelp = true
 is_help DisplayVersion = true
 is_help _ = false
 
--- the arguments ask for no command
-abbrev pub IsNoRequest : List (List ℕ) → Type 0
-IsNoRequest words = kinds_of_words words ≢ []
-
 -- help or the version is all that may be answered
 abbrev pub AreHelp : Kinds → Type 0
 AreHelp kinds = (kinds ≢ []) × (list_all is_help kinds ≡ true)
@@ -75,23 +93,3 @@ AreHelp kinds = (kinds ≢ []) × (list_all is_help kinds ≡ true)
 -- something is answered, and it is neither help nor the version
 abbrev pub AreMistakes : Kinds → Type 0
 AreMistakes kinds = (kinds ≢ []) × (list_any is_help kinds ≡ false)
-
--- they ask for help or for the version, and for nothing that may be missing: `--help`, `-V`, `plan -h`
-abbrev pub AsksForHelp : List (List ℕ) → Type 0
-AsksForHelp words = AreHelp (kinds_of_words words)
-
--- a usage error: no request, and no call for help
-abbrev pub IsUsageFault : List (List ℕ) → Type 0
-IsUsageFault words = AreMistakes (kinds_of_words words)
-
--- they ask for no run of a station
-abbrev pub IsNoLive : List (List ℕ) → Type 0
-IsNoLive words = live_kinds_of_words words ≢ []
-
--- they ask `command_live` for help or for the version
-abbrev pub AsksForLiveHelp : List (List ℕ) → Type 0
-AsksForLiveHelp words = AreHelp (live_kinds_of_words words)
-
--- a usage error: no run of a station, and no call for help
-abbrev pub IsLiveMistake : List (List ℕ) → Type 0
-IsLiveMistake words = AreMistakes (live_kinds_of_words words)

@@ -1,104 +1,79 @@
 //! The command line: its commands.
 ghost use Rattle.std.specs.Prelude.{◌≡◌, ◌∷◌, [], IfOk, Some, fold, map};
 ghost use Rattle.clap.specs.Words.{App, HasKind, app_of, kind_of, new_app, new_rule, with_subcommand};
-ghost use Rattle.a429_arguments.specs.CommandLine.{HasRule, bare_line, command_line, form_row, given_rule, id_of, option_rule, many_rule, name_id, number_id, number_rule, required_rule, row_app, with_any, with_commands, with_names};
+ghost use Rattle.a429_arguments.specs.CommandLine.{HasRule, bare_line, command_line, form_row, given_rule, id_of, option_rule, many_rule, name_id, number_id, number_rule, required_rule, row_app, row_of, with_any, with_commands, with_names};
 
-use crate::forms::{CommandForm, NameForm, NumberForm, commands};
-use crate::help::{CommandHelp, OptionHelp, VERSION, help_of, option_help};
-use crate::options::{OptionKind, OptionName};
+use crate::forms::{COMMANDS, CommandForm, Row, Verb};
+use crate::help::{CommandHelp, VERSION, help_of, option_help};
+use crate::options::{OptionHelp, OptionKind, OptionName};
 use crate::program_help::PROGRAM;
 use clap::builder::ValueParser;
 use clap::error::ErrorKind;
 use clap::{Arg, ArgAction, Command, Error};
 use std::alloc::{AllocError, Global};
 
-/// The argument of a name, which must be given.
-fn name_argument<'a>(alloc: Global, form: NameForm) -> Arg<'a>
-    ensures { HasRule result (required_rule form.id.now) }
-{
-    Arg::new(alloc, form.id)
-        .help(form.help.text())
-        .required(true)
-}
-
-/// The argument of a number, which must be given.
-fn number_argument<'a>(alloc: Global, form: NumberForm) -> Arg<'a>
-    ensures { HasRule result (number_rule (form.id.now, form.most)) }
-{
-    Arg::new(alloc, form.id)
-        .help(form.help.text())
-        .required(true)
-        .value_parser(ValueParser::unsigned(0, u64::from(form.most)))
-}
-
-/// The argument of names that are given as often as one likes.
-fn names_argument<'a>(alloc: Global, form: NameForm) -> Arg<'a>
-    ensures { HasRule result (many_rule form.id.now) }
-{
-    Arg::new(alloc, form.id)
-        .help(form.help.text())
-        .action(ArgAction::Append)
-}
-
-/// What a command is given that is no option.
+/// What a command is given that is no option, by what help calls it, and its help.
 #[derive(Clone, Copy)]
 pub enum Given {
-    Name(NameForm),
-    Number(NumberForm),
+    Name(&'static str, &'static str),
+    Number(&'static str, u32, &'static str),
     /// As many names as one likes.
-    Names(NameForm),
+    Names(&'static str, &'static str),
 }
 
-/// The argument of what is given.
+/// The argument of what is given. A name and a number must be given.
 fn given_argument<'a>(alloc: Global, given: Given) -> Arg<'a>
     ensures { HasRule result (given_rule given) }
 {
     match given {
-        Given::Name(form) => name_argument(alloc, form),
-        Given::Number(form) => number_argument(alloc, form),
-        Given::Names(form) => names_argument(alloc, form),
+        Given::Name(id, help) => Arg::new(alloc, id).help(help).required(true),
+        Given::Number(id, most, help) => Arg::new(alloc, id)
+            .help(help)
+            .required(true)
+            .value_parser(ValueParser::unsigned(0, u64::from(most))),
+        Given::Names(id, help) => Arg::new(alloc, id).help(help).action(ArgAction::Append),
     }
 }
 
 /// A further name, if there is one.
-fn name_given(form: Option<NameForm>) -> Option<Given>
-    ensures { (app : App) → with_any given_rule app result ≡ with_any required_rule app (name_id form) }
+fn name_given(id: Option<&'static str>, help: &'static str) -> Option<Given>
+    ensures { (app : App) → with_any given_rule app result ≡ with_any required_rule app (name_id id.entry) }
 {
-    match form {
-        Some(form) => Some(Given::Name(form)),
+    match id {
+        Some(id) => Some(Given::Name(id, help)),
         None => None,
     }
 }
 
 /// The number, if there is one.
-fn number_given(form: Option<NumberForm>) -> Option<Given>
-    ensures { (app : App) → with_any given_rule app result ≡ with_any number_rule app (number_id form) }
+fn number_given(number: Option<(&'static str, u32)>, help: &'static str) -> Option<Given>
+    ensures { (app : App) → with_any given_rule app result ≡ with_any number_rule app (number_id number.entry) }
 {
-    match form {
-        Some(form) => Some(Given::Number(form)),
+    match number {
+        Some((id, most)) => Some(Given::Number(id, most, help)),
         None => None,
     }
 }
 
 /// The names that are given as often as one likes, if there are any.
-fn names_given(form: Option<NameForm>) -> Option<Given>
-    ensures { (app : App) → with_any given_rule app result ≡ with_any many_rule app (name_id form) }
+fn names_given(id: Option<&'static str>, help: &'static str) -> Option<Given>
+    ensures { (app : App) → with_any given_rule app result ≡ with_any many_rule app (name_id id.entry) }
 {
-    match form {
-        Some(form) => Some(Given::Names(form)),
+    match id {
+        Some(id) => Some(Given::Names(id, help)),
         None => None,
     }
 }
 
-/// All that a command is given that is no option, in order.
-fn all_given(form: &CommandForm) -> [Option<Given>; 4]
+/// All that a command is given that is no option, in order, with its help.
+fn all_given(form: &CommandForm, help: [&'static str; 4]) -> [Option<Given>; 4]
     ensures { (app : App) → fold (with_any given_rule) app result ≡ with_names app (form_row form.now) }
 {
     [
-        Some(Given::Name(form.first)),
-        name_given(form.second),
-        number_given(form.number),
-        names_given(form.more),
+        Some(Given::Name(form.first, help[0])),
+        name_given(form.second, help[1]),
+        number_given(form.number, help[2]),
+        names_given(form.more, help[3]),
     ]
 }
 
@@ -150,10 +125,11 @@ fn with_names<'a>(
     alloc: Global,
     mut command: Command<'a>,
     form: &CommandForm,
+    names: [&'static str; 4],
 ) -> Result<Command<'a>, AllocError>
     ensures { IfOk result (λ c. app_of c ≡ with_names (app_of command.entry) (form_row form.now)) }
 {
-    let all = all_given(form);
+    let all = all_given(form, names);
     for given in &all {
         command = with_given(alloc, command, *given)?;
     }
@@ -164,9 +140,9 @@ fn with_names<'a>(
 fn command_of<'a>(alloc: Global, form: &CommandForm) -> Result<Command<'a>, AllocError>
     ensures { IfOk result (λ c. app_of c ≡ row_app (form_row form.now)) }
 {
-    let CommandHelp { about, end } = help_of(form.verb);
+    let CommandHelp { about, names, end } = help_of(form.verb);
     let command = named_command(alloc, form.name, about, end);
-    let mut command = with_names(alloc, command, form)?;
+    let mut command = with_names(alloc, command, form, names)?;
     for option in form.options {
         let help = option_help(form.verb, *option);
         command = command.arg(option_argument(alloc, *option, help))?;
@@ -184,15 +160,11 @@ fn top_command<'a>(alloc: Global) -> Result<Command<'a>, AllocError>
     asked.subcommand_required(true).bin_name("a429")
 }
 
-/// A command line with one more command, of this form.
-fn with_command<'a>(
-    alloc: Global,
-    line: Command<'a>,
-    form: &CommandForm,
-) -> Result<Command<'a>, AllocError>
-    ensures { IfOk result (λ r. app_of r ≡ with_subcommand (app_of line.entry) (row_app (form_row form.now)).top) }
+/// A command line with one more command.
+fn with_command<'a>(alloc: Global, line: Command<'a>, verb: Verb) -> Result<Command<'a>, AllocError>
+    ensures { IfOk result (λ r. app_of r ≡ with_subcommand (app_of line.entry) (row_app (row_of verb)).top) }
 {
-    match command_of(alloc, form) {
+    match command_of(alloc, &verb.form()) {
         Ok(command) => line.subcommand(command),
         Err(error) => {
             // one call, instead of the drop of each part
@@ -202,16 +174,16 @@ fn with_command<'a>(
     }
 }
 
-/// A command line with more commands, one of each form.
+/// A command line with more commands, one of each row.
 fn with_commands<'a>(
     alloc: Global,
     mut line: Command<'a>,
-    forms: &[CommandForm],
+    rows: &[Row],
 ) -> Result<Command<'a>, AllocError>
-    ensures { IfOk result (λ r. app_of r ≡ with_commands (app_of line.entry) (map form_row forms.now)) }
+    ensures { IfOk result (λ r. app_of r ≡ with_commands (app_of line.entry) (map (λ row. row_of row.0) rows.now)) }
 {
-    for form in forms {
-        line = with_command(alloc, line, form)?;
+    for row in rows {
+        line = with_command(alloc, line, row.0)?;
     }
     Ok(line)
 }
@@ -221,7 +193,7 @@ pub fn build_command<'a>(alloc: Global) -> Result<Command<'a>, AllocError>
     ensures { IfOk result (λ c. app_of c ≡ command_line) }
 {
     let line = top_command(alloc)?;
-    with_commands(alloc, line, commands())
+    with_commands(alloc, line, COMMANDS)
 }
 
 /// The command of this form, as its usage names it: with the name of the program. Error: an allocation failed.

@@ -1,15 +1,10 @@
-//! The commands: what each is given. All else that depends on the commands of the program comes from these rows. `help` has
-//! their help.
-ghost use Rattle.std.specs.Prelude.{◌≡◌, IfSome, map};
-ghost use Rattle.std.specs.List.{AllByRecursion};
-ghost use Rattle.a429_arguments.specs.CommandLine.{IsRow, form_row, row_of, verbs};
+//! The commands: what each is given, and how it answers. All else that depends on the commands of the program comes from
+//! these rows. `help` has their help.
+ghost use Rattle.std.specs.Prelude.{◌≡◌, ◌≤◌, IfSome};
+ghost use Rattle.a429_arguments.specs.CommandLine.{IsRow};
+ghost use Rattle.a429_arguments.specs.Usage.{is_run, is_whole, trouble_of};
 
-use crate::argument_help::NameHelp;
-use crate::options::{
-    DIFF_OPTIONS, DRAW_OPTIONS, ENCODE_OPTIONS, FORMS, ICD_OPTIONS, IMPORT_OPTIONS, JUDGE_OPTIONS,
-    LIVE_OPTIONS, LOAD_OPTIONS, OptionName, PLAN_OPTIONS, PLANNED_OPTIONS, REPLAY_OPTIONS,
-    SHEET_OPTIONS, SIMULATE_OPTIONS, SLOTS_OPTIONS, SURVEY_OPTIONS,
-};
+use crate::options::OptionName;
 
 /// A command of the program.
 #[derive(Clone, Copy, PartialEq, Eq)]
@@ -35,220 +30,184 @@ pub enum Verb {
     Lines,
 }
 
-/// A name that a command is given: what help calls it, and its help.
+/// When a command prints.
 #[derive(Clone, Copy)]
-pub struct NameForm {
-    pub id: &'static str,
-    pub help: NameHelp,
+pub enum AnswerForm {
+    /// Nothing before it has its whole answer.
+    Whole,
+    /// Line by line.
+    ByLine,
+    /// It runs a station: `command_live` does it, and `command` all others.
+    Station,
 }
 
-/// A whole number that a command is given, up to a maximum.
+/// How a command answers.
 #[derive(Clone, Copy)]
-pub struct NumberForm {
-    pub id: &'static str,
-    pub most: u32,
-    pub help: NameHelp,
+pub struct Answers {
+    pub form: AnswerForm,
+    /// The status of a refusal: 2, if the status 1 says that the command found something.
+    pub trouble: u8,
+    /// Whether it answers by the plan of one table.
+    pub is_on_plan: bool,
 }
 
-/// A command: its name, and what it is given: one or two names, perhaps a number, perhaps any number of further names,
-/// and options. `help_of` has its help.
-#[derive(Clone, Copy)]
-pub struct CommandForm {
-    pub verb: Verb,
-    pub name: &'static str,
-    pub first: NameForm,
-    pub second: Option<NameForm>,
-    pub number: Option<NumberForm>,
-    pub more: Option<NameForm>,
-    pub options: &'static [OptionName],
-}
+const WHOLE: Answers = Answers {
+    form: AnswerForm::Whole,
+    trouble: 1,
+    is_on_plan: false,
+};
 
-/// The form of a name.
-macro_rules! name {
-    ($id:literal, $help:expr) => {
-        NameForm {
-            id: $id,
-            help: $help,
-        }
-    };
-}
+/// What a command is given that is no option, by what help calls it: a name, perhaps a second one, perhaps a number up to a
+/// maximum, and perhaps any number of further names.
+pub type Names = (
+    &'static str,
+    Option<&'static str>,
+    Option<(&'static str, u32)>,
+    Option<&'static str>,
+);
+
+const TABLE: Names = ("TABLE", None, None, None);
+
+/// A command, its name, what it is given, its options in the order in which help lists them, and how it answers. Definitions can
+/// name no constant that is a struct with texts, so a row is none.
+pub type Row = (Verb, &'static str, Names, &'static [OptionName], Answers);
 
 /// The most frames that a group sends in one run of `live` (profile).
 const MOST_FRAMES: u32 = 1_000_000;
 
-const FRAME_COUNT: NumberForm = NumberForm {
-    id: "FRAMES",
-    most: MOST_FRAMES,
-    help: NameHelp::Frames,
-};
+/// A row of the table of commands.
+macro_rules! command {
+    ($verb:ident, $name:literal, $names:expr, [$($option:ident),*] $(, $field:ident: $value:expr)*) => {
+        (
+            Verb::$verb,
+            $name,
+            $names,
+            &[$(OptionName::$option),*],
+            Answers { $($field: $value,)* ..WHOLE },
+        )
+    };
+}
 
-/// A command that is given the name of a table and nothing else. The rows below say what is different.
-const OF_TABLE: CommandForm = CommandForm {
-    verb: Verb::Plan,
-    name: "plan",
-    first: name!("TABLE", NameHelp::Table),
-    second: None,
-    number: None,
-    more: None,
-    options: &[],
-};
-
-static COMMANDS: [CommandForm; 19] = [
-    CommandForm {
-        verb: Verb::Import,
-        name: "import",
-        first: name!("FILE", NameHelp::Rows),
-        options: IMPORT_OPTIONS,
-        ..OF_TABLE
-    },
-    CommandForm {
-        verb: Verb::Plan,
-        name: "plan",
-        options: PLAN_OPTIONS,
-        ..OF_TABLE
-    },
-    CommandForm {
-        verb: Verb::Check,
-        name: "check",
-        second: Some(name!("PLAN", NameHelp::Text)),
-        options: FORMS,
-        ..OF_TABLE
-    },
-    CommandForm {
-        verb: Verb::Icd,
-        name: "icd",
-        options: ICD_OPTIONS,
-        ..OF_TABLE
-    },
-    CommandForm {
-        verb: Verb::Draw,
-        name: "draw",
-        options: DRAW_OPTIONS,
-        ..OF_TABLE
-    },
-    CommandForm {
-        verb: Verb::Slots,
-        name: "slots",
-        options: SLOTS_OPTIONS,
-        ..OF_TABLE
-    },
-    CommandForm {
-        verb: Verb::Buses,
-        name: "buses",
-        options: PLANNED_OPTIONS,
-        ..OF_TABLE
-    },
-    CommandForm {
-        verb: Verb::Load,
-        name: "load",
-        options: LOAD_OPTIONS,
-        ..OF_TABLE
-    },
-    CommandForm {
-        verb: Verb::Margin,
-        name: "margin",
-        options: PLANNED_OPTIONS,
-        ..OF_TABLE
-    },
-    CommandForm {
-        verb: Verb::Lint,
-        name: "lint",
-        options: SHEET_OPTIONS,
-        ..OF_TABLE
-    },
-    CommandForm {
-        verb: Verb::Diff,
-        name: "diff",
-        second: Some(name!("OTHER", NameHelp::Other)),
-        options: DIFF_OPTIONS,
-        ..OF_TABLE
-    },
-    CommandForm {
-        verb: Verb::Replay,
-        name: "replay",
-        second: Some(name!("SCRIPT", NameHelp::Script)),
-        more: Some(name!("FURTHER", NameHelp::Further)),
-        options: REPLAY_OPTIONS,
-        ..OF_TABLE
-    },
-    CommandForm {
-        verb: Verb::Simulate,
-        name: "simulate",
-        second: Some(name!("LOG", NameHelp::Log)),
-        more: Some(name!("LOGS", NameHelp::Logs)),
-        options: SIMULATE_OPTIONS,
-        ..OF_TABLE
-    },
-    CommandForm {
-        verb: Verb::Live,
-        name: "live",
-        second: Some(name!("WORDS", NameHelp::Words)),
-        number: Some(FRAME_COUNT),
-        more: Some(name!("FURTHER", NameHelp::Resubmitted)),
-        options: LIVE_OPTIONS,
-        ..OF_TABLE
-    },
-    CommandForm {
-        verb: Verb::Survey,
-        name: "survey",
-        first: name!("LOG", NameHelp::Log),
-        more: Some(name!("LOGS", NameHelp::Logs)),
-        options: SURVEY_OPTIONS,
-        ..OF_TABLE
-    },
-    CommandForm {
-        verb: Verb::Judge,
-        name: "judge",
-        second: Some(name!("IN", NameHelp::HeardLog)),
-        more: Some(name!("OUT", NameHelp::SentLogs)),
-        options: JUDGE_OPTIONS,
-        ..OF_TABLE
-    },
-    CommandForm {
-        verb: Verb::Word,
-        name: "word",
-        first: name!("HEX", NameHelp::Hex),
-        options: FORMS,
-        ..OF_TABLE
-    },
-    CommandForm {
-        verb: Verb::Encode,
-        name: "encode",
-        first: name!("LABEL", NameHelp::Label),
-        options: ENCODE_OPTIONS,
-        ..OF_TABLE
-    },
-    CommandForm {
-        verb: Verb::Lines,
-        name: "lines",
-        first: name!("FILE", NameHelp::File),
-        more: Some(name!("FILTER", NameHelp::Filter)),
-        options: FORMS,
-        ..OF_TABLE
-    },
+/// The commands, in the order of `Verb`, in which help lists them.
+pub static COMMANDS: &[Row] = &[
+    command!(
+        Import,
+        "import",
+        ("FILE", None, None, None),
+        [Map, Names, Fill, KeepColumns]
+    ),
+    command!(Plan, "plan", TABLE, [Keep, Csv, Json], is_on_plan: true),
+    command!(
+        Check,
+        "check",
+        ("TABLE", Some("PLAN"), None, None),
+        [Csv, Json]
+    ),
+    command!(Icd, "icd", TABLE, [Plan, Csv, Text, Json, Stamp], is_on_plan: true),
+    command!(Draw, "draw", TABLE, [Plan, Group, Slots, Width, Html], is_on_plan: true),
+    command!(Slots, "slots", TABLE, [Plan, Group, All, Code, Board, Csv, Json, Stamp], is_on_plan: true),
+    command!(Buses, "buses", TABLE, [Plan, Csv, Json, Stamp], is_on_plan: true),
+    command!(Load, "load", TABLE, [Plan, Limit, Csv, Json, Stamp], trouble: 2, is_on_plan: true),
+    command!(Margin, "margin", TABLE, [Plan, Csv, Json, Stamp], is_on_plan: true),
+    command!(Lint, "lint", TABLE, [Csv, Json, Stamp], trouble: 2),
+    command!(Diff, "diff", ("TABLE", Some("OTHER"), None, None),
+        [Plan, OtherPlan, All, Csv, Json, Stamp], trouble: 2),
+    command!(Replay, "replay", ("TABLE", Some("SCRIPT"), None, Some("FURTHER")),
+        [Plan, Quiet, Only, Csv], form: AnswerForm::ByLine),
+    command!(Simulate, "simulate", ("TABLE", Some("LOG"), None, Some("LOGS")),
+        [Plan, Time, Tick, Dates, From, Map, Channel, Ignore, Reversed, Until, Sent, Summary, Quiet, Csv, Json], form: AnswerForm::ByLine),
+    command!(Live, "live", ("TABLE", Some("WORDS"), Some(("FRAMES", MOST_FRAMES)), Some("FURTHER")),
+        [Plan, Quiet], form: AnswerForm::Station),
+    command!(Survey, "survey", ("LOG", None, None, Some("LOGS")),
+        [Table, Time, Tick, Dates, From, Until, Map, Channel, Ignore, Reversed, Rate, Rows, Slack, Quiet, Csv, Json], trouble: 2),
+    command!(Judge, "judge", ("TABLE", Some("IN"), None, Some("OUT")),
+        [Plan, In, Tolerance, Events, Time, Tick, Dates, From, Until, Align, Shift, Drift, Map, Channel, Ignore, Reversed, Quiet, Csv, Json],
+        trouble: 2),
+    command!(Word, "word", ("HEX", None, None, None), [Csv, Json]),
+    command!(
+        Encode,
+        "encode",
+        ("LABEL", None, None, None),
+        [Sdi, Ssm, Data, Bnr, Bits, Bcd, Csv, Json]
+    ),
+    command!(Lines, "lines", ("FILE", None, None, Some("FILTER")), [Csv, Json], form: AnswerForm::ByLine),
 ];
 
-/// The commands, in the order in which help lists them.
-pub fn commands() -> &'static [CommandForm]
-    ensures rows { map form_row result.now ≡ map row_of verbs }
-    ensures each { AllByRecursion IsRow result.now }
-{
-    &COMMANDS
+/// The row of a command.
+#[derive(Clone, Copy)]
+pub struct CommandForm {
+    pub verb: Verb,
+    pub name: &'static str,
+    pub first: &'static str,
+    pub second: Option<&'static str>,
+    /// What help calls the number, and its maximum.
+    pub number: Option<(&'static str, u32)>,
+    pub more: Option<&'static str>,
+    pub options: &'static [OptionName],
+}
+
+impl Verb {
+    /// The row of the command.
+    pub fn form(self) -> CommandForm
+        ensures row { IsRow result }
+        ensures verb { result.verb ≡ self }
+    {
+        let (_, name, (first, second, number, more), options, _) = COMMANDS[self as usize];
+        CommandForm {
+            verb: self,
+            name,
+            first,
+            second,
+            number,
+            more,
+            options,
+        }
+    }
+
+    /// Whether the command runs a station: `command_live` does it, and `command` all others.
+    pub fn is_run(self) -> bool
+        ensures { result ≡ is_run self }
+    {
+        match COMMANDS[self as usize].4.form {
+            AnswerForm::Station => true,
+            _ => false,
+        }
+    }
+
+    /// Whether the command prints nothing before it has its whole answer.
+    pub fn is_whole(self) -> bool
+        ensures { result ≡ is_whole self }
+    {
+        match COMMANDS[self as usize].4.form {
+            AnswerForm::Whole => true,
+            _ => false,
+        }
+    }
+
+    /// The status of a refusal: 2 of a command whose status 1 says that it found something, and 1 of all others.
+    pub fn trouble(self) -> u8
+        ensures due { result ≡ trouble_of self }
+        ensures least { 1 ≤ result }
+        ensures most { result ≤ 2 }
+    {
+        COMMANDS[self as usize].4.trouble
+    }
+}
+
+/// The rows of all commands, in the order in which help lists them.
+pub fn commands() -> &'static [Row] {
+    COMMANDS
 }
 
 /// The command of this name. `None` if there is none.
-pub fn command_named(name: &str) -> Option<&'static CommandForm>
-    ensures { IfSome result (λ form. IsRow form.now × (form.now.name.now ≡ name.now)) }
+pub fn command_named(name: &str) -> Option<CommandForm>
+    ensures { IfSome result (λ form. IsRow form × (form.name.now ≡ name.now)) }
 {
-    for form in commands() {
+    for row in commands() {
+        let form = row.0.form();
         if form.name == name {
             return Some(form);
         }
     }
     None
-}
-
-/// The row of a command in the table of commands. `None` if the table has no such row.
-pub fn command_of(verb: Verb) -> Option<&'static CommandForm> {
-    commands().iter().find(|form| form.verb == verb)
 }

@@ -11,7 +11,6 @@
 //! ```
 #![tactic(auto)]
 
-mod argument_help;
 pub mod command_line;
 pub mod forms;
 pub mod given;
@@ -19,9 +18,7 @@ mod help;
 pub mod laws;
 pub mod memory;
 pub mod options;
-mod plan_help;
 mod program_help;
-mod recording_help;
 pub mod requests;
 pub mod rules;
 pub mod times;

@@ -10,7 +10,7 @@ ghost use Rattle.a429_arguments.specs.Numbers.{number_of, number_up_to};
 ghost use Rattle.a429_arguments.specs.Usage.{ComesTo, elsewhere, found_kinds, is_live, is_run, kinds_of_words, live_kinds_of_words};
 
 use crate::command_line::{build_command, words_error};
-use crate::forms::{CommandForm, NameForm, NumberForm, Verb, command_named};
+use crate::forms::{CommandForm, Verb, command_named};
 use crate::options::OptionName;
 use crate::rules::fault_of;
 use crate::times::{
@@ -223,8 +223,8 @@ fn read_matches<'a>(alloc: Global, matches: &mut ArgMatches<'a>) -> Result<Asked
         return Err(Error::from(AllocError));
     };
     match fault_of(form.verb, &found) {
-        None => Ok(read_asked(alloc, form, found)?),
-        Some(fault) => Err(words_error(alloc, Some(form), ErrorKind::InvalidValue, fault)),
+        None => Ok(read_asked(alloc, &form, found)?),
+        Some(fault) => Err(words_error(alloc, Some(&form), ErrorKind::InvalidValue, fault)),
     }
 }
 
@@ -251,32 +251,22 @@ fn read_asked<'a>(
 }
 
 /// The name that is given, if the command takes it. By the rules of the command line it is there then.
-fn name_in<'a>(found: &ArgMatches<'a>, form: Option<NameForm>) -> &'a str
-    ensures { (text : Text) → IsGivenText (rows_of (found_of found.now)) (name_id form) text → result.now ≡ text }
+fn name_in<'a>(found: &ArgMatches<'a>, id: Option<&str>) -> &'a str
+    ensures { (text : Text) → IsGivenText (rows_of (found_of found.now)) (name_id id.entry) text → result.now ≡ text }
 {
-    match form {
-        Some(form) => found.get_str(form.id).unwrap_or(""),
+    match id {
+        Some(id) => found.get_str(id).unwrap_or(""),
         None => "",
     }
 }
 
-/// The number that is given, if the command is given one.
-fn frames_in(found: &ArgMatches<'_>, form: Option<NumberForm>) -> u32
-    ensures { (n : ℕ) → IsGivenNumber (rows_of (found_of found.now)) (number_id form) n → result ≡ n }
+/// The number that is given, if the command is given one: that of its text, which the rules of the command line let through.
+fn frames_in(found: &ArgMatches<'_>, number: Option<(&str, u32)>) -> u32
+    ensures { (n : ℕ) → IsGivenNumber (rows_of (found_of found.now)) (number_id number.entry) n → result ≡ n }
 {
-    match form {
-        Some(form) => asked_number(found, form.id).unwrap_or(0),
+    match number {
+        Some((id, _)) => found.get_one(id).unwrap_or(0),
         None => 0,
-    }
-}
-
-/// The texts of an argument that is given as often as one likes, in their order.
-fn texts_in<'a>(alloc: Global, found: &ArgMatches<'a>, id: &str) -> Result<Vec<&'a str>, AllocError>
-    ensures { IfOk result (λ texts. texts_of texts.items ≡ values_of id.now (rows_of (found_of found.now))) }
-{
-    match found.get_strs(id) {
-        Some(texts) => Vec::from_slice(alloc, texts),
-        None => Ok(Vec::new(alloc)),
     }
 }
 
@@ -284,21 +274,13 @@ fn texts_in<'a>(alloc: Global, found: &ArgMatches<'a>, id: &str) -> Result<Vec<&
 fn names_in<'a>(
     alloc: Global,
     found: &ArgMatches<'a>,
-    form: Option<NameForm>,
+    id: Option<&str>,
 ) -> Result<Vec<&'a str>, AllocError>
     ensures { IfOk result (λ names. (texts : List Text)
-        → AreGivenTexts (rows_of (found_of found.now)) (name_id form) texts → texts_of names.items ≡ texts) }
+        → AreGivenTexts (rows_of (found_of found.now)) (name_id id.entry) texts → texts_of names.items ≡ texts) }
 {
-    match form {
-        Some(form) => texts_in(alloc, found, form.id),
+    match id {
+        Some(id) => Vec::from_slice(alloc, found.get_strs(id).unwrap_or(&[])),
         None => Ok(Vec::new(alloc)),
     }
-}
-
-/// The number of an argument, if one is given: that of its text, which the rules of the command line let through.
-fn asked_number(found: &ArgMatches<'_>, id: &str) -> Option<u32>
-    ensures { (least most : ℕ) (number : Option ℕ) → most < 2 ^ 32
-        → number_of least most (one_of id.now (rows_of (found_of found.now))) ≡ Some number → result ≡ number }
-{
-    found.get_one(id)
 }

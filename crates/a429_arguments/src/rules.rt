@@ -32,7 +32,7 @@ pub enum Rule {
 }
 
 /// The rules, in the order in which they are checked. With a command: the rule is for that command alone.
-pub static RULES: [(Rule, Option<Verb>); 35] = [
+pub static RULES: &[(Rule, Option<Verb>)] = &[
     (
         Rule::OneOf(OptionName::Data, OptionName::Bnr, OptionName::Bcd),
         Some(Verb::Encode),
@@ -260,5 +260,5 @@ fn fault_by(
 pub fn fault_of(verb: Verb, found: &ArgMatches<'_>) -> Option<&'static str>
     ensures { is_some result ≡ are_refused verb (given_in (rows_of (found_of found.now))) }
 {
-    fault_by(&RULES, verb, found)
+    fault_by(RULES, verb, found)
 }

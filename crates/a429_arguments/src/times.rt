@@ -2,7 +2,7 @@
 //! moved, and the order of bits.
 ghost use Rattle.std.specs.Prelude.{◌≡◌, option_map};
 ghost use Rattle.clap.specs.Lexer.{strip_byte};
-ghost use Rattle.a429_arguments.specs.Given.{dates_in, drift_in, last_drift, last_origin, last_shift, order_in, origin_in, shift_in, unit_in};
+ghost use Rattle.a429_arguments.specs.Given.{dates_in, drift_in, order_in, origin_in, shift_in, unit_in};
 ghost use Rattle.a429_arguments.specs.Numbers.{number_up_to};
 
 use a429_logs::{BitOrder, DateOrder, TimeUnit};
@@ -112,54 +112,20 @@ fn after_minus(text: &str) -> Option<&str>
     text.strip_prefix('-')
 }
 
-/// How times are moved to earlier ones, by the text of the microseconds.
-fn earlier_in(text: &str) -> Option<Shift>
-    ensures { result ≡ option_map Shift.Earlier (number_up_to last_shift text.now) }
-{
-    match time_in(text, LAST_SHIFT) {
-        Some(time) => Some(Shift::Earlier(time)),
-        None => None,
-    }
-}
-
-/// How times are moved to later ones, by the text of the microseconds.
-fn later_in(text: &str) -> Option<Shift>
-    ensures { result ≡ option_map Shift.Later (number_up_to last_shift text.now) }
-{
-    match time_in(text, LAST_SHIFT) {
-        Some(time) => Some(Shift::Later(time)),
-        None => None,
-    }
-}
-
 /// By how much times are moved, by the text of that. `None` if it is no number of at most 14 digits, which may follow a
 /// minus.
 pub fn shift_in(text: &str) -> Option<Shift>
     ensures { result ≡ shift_in text.now }
 {
     match after_minus(text) {
-        Some(digits) => earlier_in(digits),
-        None => later_in(text),
-    }
-}
-
-/// How fast a clock is, by the text of that. `None` if the text is no number of at most six digits.
-fn fast_in(text: &str) -> Option<Drift>
-    ensures { result ≡ option_map Drift.Fast (number_up_to last_drift text.now) }
-{
-    match time_in(text, LAST_DRIFT) {
-        Some(parts) => Some(Drift::Fast(parts)),
-        None => None,
-    }
-}
-
-/// How slow it is.
-fn slow_in(text: &str) -> Option<Drift>
-    ensures { result ≡ option_map Drift.Slow (number_up_to last_drift text.now) }
-{
-    match time_in(text, LAST_DRIFT) {
-        Some(parts) => Some(Drift::Slow(parts)),
-        None => None,
+        Some(digits) => match time_in(digits, LAST_SHIFT) {
+            Some(time) => Some(Shift::Earlier(time)),
+            None => None,
+        },
+        None => match time_in(text, LAST_SHIFT) {
+            Some(time) => Some(Shift::Later(time)),
+            None => None,
+        },
     }
 }
 
@@ -169,7 +135,13 @@ pub fn drift_in(text: &str) -> Option<Drift>
     ensures { result ≡ drift_in text.now }
 {
     match after_minus(text) {
-        Some(digits) => slow_in(digits),
-        None => fast_in(text),
+        Some(digits) => match time_in(digits, LAST_DRIFT) {
+            Some(parts) => Some(Drift::Slow(parts)),
+            None => None,
+        },
+        None => match time_in(text, LAST_DRIFT) {
+            Some(parts) => Some(Drift::Fast(parts)),
+            None => None,
+        },
     }
 }

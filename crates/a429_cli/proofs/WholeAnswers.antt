@@ -5,12 +5,13 @@ use Rattle.std.specs.Io.KnownBytes.{Appends}
 use Rattle.a429_console.specs.Outputs.{IsPut}
 use Rattle.a429_console.specs.Readings.{HasRead}
 use Rattle.a429_arguments.specs.Requests.{AskedBytes}
+use Rattle.a429_arguments.specs.Usage.{is_whole, trouble_of}
 use Rattle.a429_console.specs.declared.files.FileFault.{FileFault}
 use Rattle.a429_arguments.specs.declared.forms.Verb.{Verb}
 use Rattle.a429_arguments.specs.declared.forms.Verb.TheVariants as verb
 use Rattle.a429_console.specs.declared.refusals.CommandRefusal.{CommandRefusal}
 use Rattle.a429_console.proofs.Refused.{told_or_memory}
-use Rattle.a429_cli.specs.Replies.{IsAnswerOf, IsNoAnswer, IsReplyOf, is_whole, trouble_of}
+use Rattle.a429_cli.specs.Replies.{IsAnswerOf, IsNoAnswer, IsReplyOf}
 use Rattle.a429_cli.specs.WholeReplies.{IsReplyBy, IsReplyPut, Replies}
 use Rattle.a429_cli.specs.declared.replies.reply.Reply.{Reply}
 

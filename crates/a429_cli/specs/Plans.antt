@@ -24,17 +24,6 @@ use Rattle.a429_cli.specs.SlotReplies.{HasSlots, slots_form}
 use Rattle.a429_cli.specs.Stamping.{IsStamped, stamp_line}
 use Rattle.a429_cli.specs.declared.replies.reply.Reply.{Reply}
 
--- the command writes something about the plan of one table
-abbrev pub is_on_plan : Verb → Bool
-is_on_plan verb.Plan = true
-is_on_plan verb.Icd = true
-is_on_plan verb.Margin = true
-is_on_plan verb.Load = true
-is_on_plan verb.Slots = true
-is_on_plan verb.Buses = true
-is_on_plan verb.Draw = true
-is_on_plan _ = false
-
 -- its status, and the bytes about a proposal of a table
 abbrev pub IsReplyOnPlan : Verb → Given → List ℕ → Proposed → ℕ → List ℕ → Type 0
 IsReplyOnPlan verb.Plan given table q status text = (text ≡ told_plan (form_of given) q.station q.plan) × (status ≡ 0)

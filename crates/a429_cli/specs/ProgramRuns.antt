@@ -5,9 +5,9 @@ use Rattle.a429_console.specs.Ends.{EndsBy, IsLeft, IsMemoryRefused, IsMistakeTo
 use Rattle.a429_arguments.specs.GivenWords.{AreAllWords, HasNoText}
 use Rattle.a429_arguments.specs.RequestRows.{AsksFor}
 use Rattle.a429_arguments.specs.Requests.{AskedBytes}
-use Rattle.a429_arguments.specs.Usage.{is_run}
+use Rattle.a429_arguments.specs.Usage.{is_run, trouble_of}
 use Rattle.a429_cli.specs.Calls.{kinds_here}
-use Rattle.a429_cli.specs.Replies.{IsReplyOrMemory, IsSilent, trouble_of}
+use Rattle.a429_cli.specs.Replies.{IsReplyOrMemory, IsSilent}
 
 -- what files a reader has, and whether they are known
 pub record Reader : Type 0 where

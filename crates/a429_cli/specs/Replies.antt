@@ -1,9 +1,10 @@
 -- What is answered to what is asked for (vocabulary of contracts).
-use Rattle.std.specs.Prelude.{◌≡◌, ◌∷◌, ⊤, ℕ, List, Bool, true, false, Option, Result}
+use Rattle.std.specs.Prelude.{◌≡◌, ◌∷◌, ⊤, ℕ, List, Bool, false, true, Option, Result}
 use Rattle.a429_console.specs.Outputs.{FailedCalls, OrNoMemory}
 use Rattle.a429_console.specs.Replying.{RepliesByReader, RepliesToWords}
 use Rattle.a429_arguments.specs.Given.{Given, form_of, has_given}
 use Rattle.a429_arguments.specs.Requests.{AskedBytes}
+use Rattle.a429_arguments.specs.Usage.{trouble_of}
 use Rattle.a429_arguments.specs.declared.options.OptionName.TheVariants as option
 use Rattle.a429_arguments.specs.declared.forms.Verb.{Verb}
 use Rattle.a429_arguments.specs.declared.forms.Verb.TheVariants as verb
@@ -29,23 +30,6 @@ use Rattle.a429_recordings.specs.declared.simulate.SimulationForm.{SimulationFor
 use Rattle.a429_cli.specs.JudgeAnswers.{IsJudgement, IsUnjudged, PassesNoAskedBoxLine}
 use Rattle.a429_cli.specs.SurveyReplies.{IsSurveyed, IsUnsurveyed, PassesNoAskedLine}
 use Rattle.a429_cli.specs.WholeReplies.{IsReplyBy}
-
--- the command prints nothing before it has its whole answer
-abbrev pub is_whole : Verb → Bool
-is_whole verb.Lines = false
-is_whole verb.Replay = false
-is_whole verb.Simulate = false
-is_whole verb.Live = false
-is_whole _ = true
-
--- the status of a refusal: `load`, `lint`, `diff`, `survey` and `judge` keep 1 for what they find (profile: status 0, 1 and 2)
-abbrev pub trouble_of : Verb → ℕ
-trouble_of verb.Load = 2
-trouble_of verb.Lint = 2
-trouble_of verb.Diff = 2
-trouble_of verb.Judge = 2
-trouble_of verb.Survey = 2
-trouble_of _ = 1
 
 -- how the rows of `import` are read
 abbrev pub import_options : Given → ImportOptions

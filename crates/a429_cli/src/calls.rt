@@ -9,7 +9,6 @@ ghost use Rattle.a429_console.specs.Outputs.{NoneFailed, failed_line, is_closing
 ghost use Rattle.a429_arguments.specs.Usage.{elsewhere};
 ghost use Rattle.a429_cli.specs.Calls.{IsAskedHere, IsExplained, IsSpent};
 
-use crate::runs::is_run;
 use a429_arguments::requests::{Asked, other_call_error, parse};
 use a429_console::answered::Answered;
 use a429_console::hints::warnings::Warning;
@@ -38,7 +37,7 @@ pub fn asked_here<'a, H: Hints, O: Output, V: Output>(
 {
     match parse(alloc, words) {
         Ok(asked) => {
-            if is_run(asked.verb) == live {
+            if asked.verb.is_run() == live {
                 Ok(asked)
             } else {
                 Err(refuse_elsewhere(alloc, live, hints, out, err))

@@ -9,10 +9,10 @@ ghost use Rattle.a429_arguments.specs.RequestRows.{AsksFor};
 ghost use Rattle.a429_arguments.specs.Requests.{AskedBytes, asked_of};
 ghost use Rattle.a429_recordings.specs.LogItems.{logs_named, view_named};
 ghost use Rattle.a429_recordings.specs.LogViews.{whole_view};
-ghost use Rattle.a429_cli.specs.Replies.{IsAnswerOf, IsNoAnswer, IsReplyOrMemory, RepliesToCommand, RepliesToCommandByReader, IsSilent, import_options, is_whole, trouble_of};
+ghost use Rattle.a429_cli.specs.Replies.{IsAnswerOf, IsNoAnswer, IsReplyOrMemory, RepliesToCommand, RepliesToCommandByReader, IsSilent, import_options};
 ghost use Rattle.a429_cli.specs.Keeping.{IsPlanned, IsUnplanned};
 ghost use Rattle.a429_cli.specs.WholeReplies.{Replies};
-ghost use Rattle.a429_arguments.specs.Usage.{is_run, kinds_of_words};
+ghost use Rattle.a429_arguments.specs.Usage.{is_run, is_whole, kinds_of_words, trouble_of};
 
 use crate::calls::{asked_here, ended};
 use crate::checks::check_reply;
@@ -25,7 +25,6 @@ use crate::lines::tell_lines;
 use crate::plans::plan_reply;
 use crate::replies::put_reply;
 use crate::replies::reply::Reply;
-use crate::runs::{is_whole, trouble_of};
 use crate::surveys::survey_reply;
 use crate::word::word_reply;
 use a429_arguments::forms::Verb;
@@ -165,7 +164,7 @@ fn answer_whole<F: FileReader, O: Output>(
     ensures faults { CountsFault result (O.failures out.old) (O.failures out.new) }
 {
     let reply = reply_to(alloc, asked, files, warnings);
-    put_reply(alloc, reply, trouble_of(asked.verb), out)
+    put_reply(alloc, reply, asked.verb.trouble(), out)
 }
 
 /// The names of the logs that a request has after its table, and which of their words it asks for.
@@ -255,7 +254,7 @@ fn answer<F: FileReader, O: Output>(
     ensures flushed { OnOk result (IsTrue (O.is_flushed out.new)) }
     ensures faults { CountsFault result (O.failures out.old) (O.failures out.new) }
 {
-    if is_whole(asked.verb) {
+    if asked.verb.is_whole() {
         answer_whole(alloc, asked, files, warnings, out)
     } else {
         answer_by_lines(alloc, asked, files, warnings, out)

@@ -35,7 +35,6 @@ mod plan_rows;
 mod plans;
 mod program;
 mod replies;
-mod runs;
 mod slots;
 mod stamping;
 mod surveys;

@@ -2,6 +2,7 @@
 ghost use Rattle.std.specs.Prelude.{◌≡◌, List, true, IfOk};
 ghost use Rattle.a429_console.specs.Readings.{HasRead};
 ghost use Rattle.a429_arguments.specs.Requests.{asked_of};
+ghost use Rattle.a429_arguments.specs.Usage.{is_on_plan};
 ghost use Rattle.a429_documents.specs.Buses.{buses_columns, buses_rows};
 ghost use Rattle.a429_documents.specs.Document.{icd_columns, icd_rows};
 ghost use Rattle.a429_documents.specs.KeptColumns.{kept_sheet, kept_texts};
@@ -9,7 +10,7 @@ ghost use Rattle.a429_documents.specs.Margins.{IsMargin, margin_columns};
 ghost use Rattle.a429_text.specs.Fields.{Field};
 ghost use Rattle.a429_text.specs.Sheets.{sheet_text};
 ghost use Rattle.a429_given.specs.GivenTables.{table_texts};
-ghost use Rattle.a429_cli.specs.Plans.{IsNoPlanReply, IsNoReplyOnPlan, IsNoReplyToTable, IsPlanReply, IsReplyOnPlan, IsReplyToTable, is_on_plan, or_no_memory};
+ghost use Rattle.a429_cli.specs.Plans.{IsNoPlanReply, IsNoReplyOnPlan, IsNoReplyToTable, IsPlanReply, IsReplyOnPlan, IsReplyToTable, or_no_memory};
 ghost use Rattle.a429_cli.specs.Stamping.{IsStamped, stamp_line};
 ghost use Rattle.a429_cli.specs.WholeReplies.{Replies};
 

@@ -3,7 +3,7 @@
 use crate::hint::HintText;
 use crate::nearest::Nearest;
 use crate::rows::short_text;
-use a429_arguments::forms::{CommandForm, commands};
+use a429_arguments::forms::{CommandForm, command_named, commands};
 use a429_arguments::options::{OPTIONS, OptionKind, OptionName};
 use std::alloc::Global;
 
@@ -11,7 +11,7 @@ use std::alloc::Global;
 pub fn tell_nearest_word(words: &[&str], hint: &HintText) {
     let named = command_word(words);
     tell_command(named, hint);
-    let form = commands().iter().find(|form| form.name == named);
+    let form = command_named(named);
     for word in words {
         if *word == "--" {
             return;
@@ -46,8 +46,8 @@ fn tell_nearest_command(word: &str, hint: &HintText) {
         return;
     };
     let mut nearest = Nearest::to(small.as_str());
-    for form in commands() {
-        nearest = nearest.or(hint.alloc, form.name);
+    for row in commands() {
+        nearest = nearest.or(hint.alloc, row.1);
     }
     match nearest.or(hint.alloc, "help").name() {
         Some(name) if name == word => {}
@@ -58,42 +58,42 @@ fn tell_nearest_command(word: &str, hint: &HintText) {
 }
 
 /// Says what is wrong with an argument that is an option, if the command of this form does not have it.
-fn tell_if_option(form: Option<&CommandForm>, word: &str, hint: &HintText) {
+fn tell_if_option(form: Option<CommandForm>, word: &str, hint: &HintText) {
     if let Some(name) = word.strip_prefix("--") {
         let (name, _) = name.split_once('=').unwrap_or((name, ""));
         let shown = short_text(name);
         tell_option(form, shown.as_str(), hint);
     } else if let Some(name) = word.strip_prefix('-') {
-        if commands().iter().any(|form| has_option(form, name)) && name.len() > 1 {
+        if commands().iter().any(|row| has_option(row.3, name)) && name.len() > 1 {
             hint.line_one("write --{..}", name);
         }
     }
 }
 
-/// Whether a command has the option of this name.
-fn has_option(form: &CommandForm, name: &str) -> bool {
-    form.options.iter().any(|option| option.id() == name)
+/// Whether the option of this name is one of these.
+fn has_option(options: &[OptionName], name: &str) -> bool {
+    options.iter().any(|option| option.id() == name)
 }
 
 /// Says which commands have an option that the command of this form lacks, or which option is nearest to one that no command
 /// has.
-fn tell_option(form: Option<&CommandForm>, name: &str, hint: &HintText) {
-    if !commands().iter().any(|form| has_option(form, name)) {
+fn tell_option(form: Option<CommandForm>, name: &str, hint: &HintText) {
+    if !commands().iter().any(|row| has_option(row.3, name)) {
         return tell_nearest_option(name, hint);
     }
     match form {
-        Some(form) if !has_option(form, name) => tell_owners(form, name, hint),
+        Some(form) if !has_option(form.options, name) => tell_owners(form.name, name, hint),
         _ => {}
     }
 }
 
 /// Says which commands have an option that this command lacks.
-fn tell_owners(form: &CommandForm, name: &str, hint: &HintText) {
+fn tell_owners(command: &str, name: &str, hint: &HintText) {
     hint.begin(": ");
-    hint.say_two("{} has no --{}; it is an option of", form.name, name);
+    hint.say_two("{} has no --{}; it is an option of", command, name);
     for owner in commands() {
-        if has_option(owner, name) {
-            hint.say_one(" {}", owner.name);
+        if has_option(owner.3, name) {
+            hint.say_one(" {}", owner.1);
         }
     }
     hint.end("");
@@ -101,7 +101,7 @@ fn tell_owners(form: &CommandForm, name: &str, hint: &HintText) {
 
 /// Says which option is nearest to one that is none. Its two hyphens are left out of the comparison.
 fn tell_nearest_option(name: &str, hint: &HintText) {
-    let nearest = or_options(hint.alloc, Nearest::after(2, name), &OPTIONS);
+    let nearest = or_options(hint.alloc, Nearest::after(2, name), OPTIONS);
     let nearest = nearest.or(hint.alloc, "help").or(hint.alloc, "version");
     if let Some(other) = nearest.other_name() {
         hint.line_two(

@@ -18,7 +18,7 @@ use crate::whole_logs::{tell_close_words, tell_passed, tell_too_long};
 use crate::words::{
     tell_data_text, tell_even_word, tell_filter, tell_label_text, tell_line_byte, tell_word_text,
 };
-use a429_arguments::forms::{CommandForm, Verb, command_of};
+use a429_arguments::forms::{CommandForm, Verb};
 use a429_arguments::options::OptionName;
 use a429_arguments::requests::Asked;
 use a429_console::answered::{Answered, Found};
@@ -332,32 +332,27 @@ fn tell_order(asked: &Asked, looks: TableLook, hint: &HintText) {
     };
     hint.begin(": ");
     hint.say_one("this looks like {}; write a429 ", looks);
-    if let Some(form) = command_of(asked.verb) {
-        say_names(form, hint);
-    }
+    say_names(&asked.verb.form(), hint);
     hint.end("");
 }
 
 /// Says the name of a command, and its arguments without options.
 fn say_names(form: &CommandForm, hint: &HintText) {
-    hint.say_two("{} {}", form.name, form.first.id);
+    hint.say_two("{} {}", form.name, form.first);
     if let Some(second) = form.second {
-        hint.say_one(" {}", second.id);
+        hint.say_one(" {}", second);
     }
-    if let Some(number) = form.number {
-        hint.say_one(" {}", number.id);
+    if let Some((number, _)) = form.number {
+        hint.say_one(" {}", number);
     }
     if let Some(more) = form.more {
-        hint.say_one(" [{}..]", more.id);
+        hint.say_one(" [{}..]", more);
     }
 }
 
 /// Whether the first argument of a command is a table.
 fn is_of_table(verb: Verb) -> bool {
-    match command_of(verb) {
-        Some(form) => form.first.id == "TABLE",
-        None => false,
-    }
+    verb.form().first == "TABLE"
 }
 
 /// The name of the table: the first argument, or that of `survey --table`. Empty if there is none.

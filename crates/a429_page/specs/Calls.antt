@@ -4,8 +4,8 @@ use Rattle.a429_console.specs.Outputs.{OrNoMemory}
 use Rattle.a429_console.specs.UsageReplies.{IsHelpReply}
 use Rattle.a429_arguments.specs.RequestRows.{AsksFor}
 use Rattle.a429_arguments.specs.Requests.{AskedBytes}
-use Rattle.a429_arguments.specs.Usage.{AreHelp, AreMistakes, is_run, kinds_of_words}
-use Rattle.a429_cli.specs.Replies.{IsReplyOrMemory, IsSilent, trouble_of}
+use Rattle.a429_arguments.specs.Usage.{AreHelp, AreMistakes, is_run, kinds_of_words, trouble_of}
+use Rattle.a429_cli.specs.Replies.{IsReplyOrMemory, IsSilent}
 use Rattle.a429_page.specs.Parts.{are_texts, file_in, files_in, names_in, parts_of, words_in}
 use Rattle.a429_page.specs.Rooms.{do_fit, room_with}
 use Rattle.a429_page.specs.declared.command.Answer.{Answer}

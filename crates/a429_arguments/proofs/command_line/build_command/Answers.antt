@@ -1,10 +1,9 @@
-use Rattle.std.proofs.Common.{ap₂, ◌∙◌}
+use Rattle.std.proofs.Common.{ap, ◌∙◌, map}
 use Rattle.std.proofs.lemmas.Result.{IfOk-weaker}
-use Rattle.a429_arguments.specs.CommandLine.{command_line, with_commands}
+use Rattle.clap.specs.Words.{App}
+use Rattle.a429_arguments.specs.CommandLine.{command_line, row_of, verbs, with_commands}
 use Rattle.a429_arguments.proofs.command_line.build_command.Goals as goal
 
 pub returns : goal.returns
 unfolding command_line
-returns c =
-    let all = ap₂ with_commands c.in_ok-line.ensures c.commands.ensures.rows in
-    IfOk-weaker c.with_commands.result _ _ (λ r is. is ∙ all) c.with_commands.ensures
+returns c = IfOk-weaker c.with_commands.result _ _ (λ r is. is ∙ ap (λ (line : App). with_commands line (map row_of verbs)) c.in_ok-line.ensures) c.with_commands.ensures

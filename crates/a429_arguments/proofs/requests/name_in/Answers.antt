@@ -8,5 +8,5 @@ use Rattle.a429_arguments.proofs.requests.name_in.Goals as goal
 pub returns-in-Some : goal.returns-in-Some
 returns-in-Some c = λ text is.
     let found = found_of c.args.found.now in
-    let at : first_of c.in-Some.form.id.now (rows_of found) ≡ Some text = rw c.in-Some.is at is in
-    ap (λ t. t.now) c.unwrap_or.ensures ∙ name_is c.get_str.result _ text (c.get_str.ensures ∙ (first_value-rows found c.in-Some.form.id.now ∙ at))
+    let at : first_of c.in-Some.id.now (rows_of found) ≡ Some text = rw c.in-Some.is at is in
+    ap (λ t. t.now) c.unwrap_or.ensures ∙ name_is c.get_str.result _ text (c.get_str.ensures ∙ (first_value-rows found c.in-Some.id.now ∙ at))

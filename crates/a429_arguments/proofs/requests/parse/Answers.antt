@@ -6,7 +6,7 @@ use Rattle.clap.specs.declared.error.Error.{Error}
 use Rattle.a429_arguments.specs.CommandLine.{command_line}
 use Rattle.a429_arguments.specs.RequestRows.{AsksFor, IsFound}
 use Rattle.a429_arguments.specs.Usage.{ComesTo, found_kinds, is_live, is_run, kinds_of_words, live_kinds_of_words}
-use Rattle.a429_arguments.proofs.Elsewhere.{comes_to_after, kind_in_first}
+use Rattle.a429_arguments.proofs.Found.{comes_to_after, kind_in_first}
 use Rattle.a429_arguments.proofs.CommandWords.{is_free_here, is_simple_here}
 use Rattle.a429_arguments.proofs.requests.parse.Goals as goal
 

@@ -2,7 +2,8 @@ use Rattle.std.proofs.Common.{ℕ, inl, subst}
 use Rattle.std.proofs.lemmas.Result.{IfOk-weaker}
 use Rattle.a429_console.proofs.ReadingParts.{read_weaker}
 use Rattle.a429_arguments.specs.Requests.{asked_of}
-use Rattle.a429_cli.specs.Replies.{IsAnswerOf, IsNoAnswer, trouble_of}
+use Rattle.a429_arguments.specs.Usage.{trouble_of}
+use Rattle.a429_cli.specs.Replies.{IsAnswerOf, IsNoAnswer}
 use Rattle.a429_cli.specs.WholeReplies.{IsReplyPut}
 use Rattle.a429_cli.proofs.WholeAnswers.{reply_by, whole_reply}
 use Rattle.a429_cli.proofs.commands.answer_whole.Goals as goal
@@ -13,6 +14,6 @@ returns-clause-read g c =
     let r = asked_of c.args.asked.now in
     let reply = c.reply_to-reply.result in
     read_weaker c.reply_to-reply.ensures.replied (λ file replies. IfOk-weaker c.put_reply.result _ _ (λ status put.
-    let answered = subst (λ (trouble : ℕ). IsReplyPut trouble reply status put.0) c.trouble_of.ensures.due put.1 in
+    let answered = subst (λ (trouble : ℕ). IsReplyPut trouble reply status put.0) c.trouble.ensures.due put.1 in
     (put.0, inl (whole_reply v file r status put.0 c.requires (reply_by (trouble_of v) (IsAnswerOf v file r) (IsNoAnswer v file r) reply status put.0 replies answered)), put.2))
     c.put_reply.ensures.put)

@@ -5,9 +5,9 @@ use Rattle.a429_arguments.specs.Texts.{texts_of}
 use Rattle.a429_console.specs.Outputs.{IsPut}
 use Rattle.a429_console.specs.Readings.{HasRead}
 use Rattle.a429_arguments.specs.Requests.{AskedBytes}
-use Rattle.a429_arguments.specs.Usage.{kinds_of_words}
+use Rattle.a429_arguments.specs.Usage.{kinds_of_words, trouble_of}
 use Rattle.a429_console.proofs.ReadingParts.{known_read, read_none, read_weaker}
-use Rattle.a429_cli.specs.Replies.{IsReplyOrMemory, IsSilent, trouble_of}
+use Rattle.a429_cli.specs.Replies.{IsReplyOrMemory, IsSilent}
 use Rattle.a429_cli.proofs.AnsweredCalls.{answer_ends, answer_is_few, answer_put}
 use Rattle.a429_cli.proofs.WholeAnswers.{least_trouble}
 use Rattle.a429_cli.proofs.commands.command.Goals as goal
