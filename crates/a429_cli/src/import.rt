@@ -16,8 +16,8 @@ use a429_console::refusals::kinds::CsvKind;
 use a429_console::refusals::rows::{RowEvidence, RowsEvidence};
 use a429_console::refusals::{CommandRefusal, Refused};
 use a429_import::{
-    CsvFaultKind, CsvLine, ImportFault, ImportOptions, Imported, RefusedRows, Watch,
-    heading_texts, import_table, keep_texts,
+    CsvFaultKind, CsvLine, ImportFault, ImportOptions, Imported, RefusedRows, Watch, heading_texts,
+    import_table, keep_texts,
 };
 use a429_table::TableFault;
 use std::alloc::{AllocError, Global};

@@ -7,7 +7,7 @@ use Rattle.a429_slots.specs.declared.moves.Block.{Block}
 use Rattle.a429_slots.specs.Kept.{begin_of}
 use Rattle.a429_slots.specs.Tables.{SlotTable}
 
--- what stands in places that no output has
+-- the value of a place that no output has
 abbrev pub nothing_laid : LaidOutput
 nothing_laid = record { output = 0; begin = 0 }
 

@@ -38,7 +38,7 @@ pub struct LaidOutput {
     pub begin: u32,
 }
 
-/// What stands in places of the layout that no output has.
+/// The value of a place of the layout that no output has.
 pub const NOTHING_LAID: LaidOutput = LaidOutput {
     output: 0,
     begin: 0,
