@@ -47,7 +47,7 @@ _a429() {
         help) COMPREPLY=($(compgen -W "$commands" -- "$word")); return ;;
         word) COMPREPLY=($(compgen -W "--csv --json $options" -- "$word")); return ;;
         # options
-        import) options="--map --names --fill --keep-columns $options" ;;
+        import) options="--map --names --fill --keep-columns --quiet $options" ;;
         plan) options="--keep --csv --json $options" ;;
         check) options="--csv --json $options" ;;
         icd) options="--plan --csv --text --json --stamp $options" ;;

@@ -94,7 +94,7 @@ pub static COMMANDS: &[Row] = &[
         Import,
         "import",
         ("FILE", None, None, None),
-        [Map, Names, Fill, KeepColumns]
+        [Map, Names, Fill, KeepColumns, Quiet]
     ),
     command!(Plan, "plan", TABLE, [Keep, Csv, Json], is_on_plan: true),
     command!(
