@@ -6,7 +6,7 @@ ghost use Rattle.a429_arguments.specs.Texts.{texts_of};
 ghost use Rattle.a429_arguments.specs.Given.{form_of, has_given, long_number_given, number_given, dates_of, drift_of, named_unit, order_of, origin_of, shift_of, text_given, unit_of, values_of};
 ghost use Rattle.a429_arguments.specs.Requests.{AskedBytes, IsRead, asked_of};
 ghost use Rattle.a429_arguments.specs.RequestRows.{AreGivenTexts, AsksFor, IsAskedBy, IsFound, IsGivenNumber, IsGivenText};
-ghost use Rattle.a429_arguments.specs.Numbers.{number_of, number_up_to};
+ghost use Rattle.a429_arguments.specs.Numbers.{number_of};
 ghost use Rattle.a429_arguments.specs.Usage.{ComesTo, elsewhere, found_kinds, is_live, is_run, kinds_of_words, live_kinds_of_words};
 
 use crate::command_line::{build_command, words_error};
@@ -16,7 +16,7 @@ use crate::rules::fault_of;
 use crate::times::{
     Drift, LogOrigin, Shift, dates_in, drift_in, order_in, origin_in, shift_in, unit_in,
 };
-use crate::values::{has, text_given};
+use crate::values::{has, number_up_to, short_number_up_to, text_given};
 use a429_logs::{BitOrder, DateOrder, TimeUnit};
 use a429_text::SheetForm;
 use clap::error::ErrorKind;
@@ -65,7 +65,7 @@ impl<'a> Asked<'a> {
         ensures { result ≡ number_given (asked_of self.now).given option }
     {
         match self.text(option) {
-            Some(text) => number_in(text),
+            Some(text) => short_number_up_to(text, u32::MAX),
             None => None,
         }
     }
@@ -75,7 +75,7 @@ impl<'a> Asked<'a> {
         ensures { result ≡ long_number_given (asked_of self.now).given option }
     {
         match self.text(option) {
-            Some(text) => long_number_in(text),
+            Some(text) => number_up_to(text, u64::MAX),
             None => None,
         }
     }
@@ -161,26 +161,6 @@ impl<'a> Asked<'a> {
             Some(text) => drift_in(text).unwrap_or(Drift::Fast(0)),
             None => Drift::Fast(0),
         }
-    }
-}
-
-/// The number that a text states. `None` if it states no whole number below 2^32.
-fn number_in(text: &str) -> Option<u32>
-    ensures { result ≡ number_up_to 4294967295 text.now }
-{
-    match text.parse::<u32>() {
-        Ok(number) => Some(number),
-        Err(_) => None,
-    }
-}
-
-/// The number that a text states. `None` if it states no whole number below 2^64.
-fn long_number_in(text: &str) -> Option<u64>
-    ensures { result ≡ number_up_to 18446744073709551615 text.now }
-{
-    match text.parse::<u64>() {
-        Ok(number) => Some(number),
-        Err(_) => None,
     }
 }
 

@@ -3,8 +3,8 @@
 ghost use Rattle.std.specs.Prelude.{◌≡◌, option_map};
 ghost use Rattle.clap.specs.Lexer.{strip_byte};
 ghost use Rattle.a429_arguments.specs.Given.{dates_in, drift_in, order_in, origin_in, shift_in, unit_in};
-ghost use Rattle.a429_arguments.specs.Numbers.{number_up_to};
 
+use crate::values::number_up_to;
 use a429_logs::{BitOrder, DateOrder, TimeUnit};
 
 /// The last microsecond from which times may be counted: eighteen digits (profile).
@@ -82,16 +82,6 @@ pub fn dates_in(text: &str) -> Option<DateOrder>
     }
 }
 
-/// The microseconds that a text states. `None` if it states no whole number up to this one.
-fn time_in(text: &str, last: u64) -> Option<u64>
-    ensures { result ≡ number_up_to last text.now }
-{
-    match text.parse::<u64>() {
-        Ok(time) => { if time <= last { Some(time) } else { None } }
-        Err(_) => None,
-    }
-}
-
 /// From when on times are counted, by the text of that. `None` if it is neither `first` nor such a time.
 pub fn origin_in(text: &str) -> Option<LogOrigin>
     ensures { result ≡ origin_in text.now }
@@ -99,7 +89,7 @@ pub fn origin_in(text: &str) -> Option<LogOrigin>
     if text == "first" {
         return Some(LogOrigin::First);
     }
-    match time_in(text, LAST_ORIGIN) {
+    match number_up_to(text, LAST_ORIGIN) {
         Some(time) => Some(LogOrigin::Time(time)),
         None => None,
     }
@@ -118,11 +108,11 @@ pub fn shift_in(text: &str) -> Option<Shift>
     ensures { result ≡ shift_in text.now }
 {
     match after_minus(text) {
-        Some(digits) => match time_in(digits, LAST_SHIFT) {
+        Some(digits) => match number_up_to(digits, LAST_SHIFT) {
             Some(time) => Some(Shift::Earlier(time)),
             None => None,
         },
-        None => match time_in(text, LAST_SHIFT) {
+        None => match number_up_to(text, LAST_SHIFT) {
             Some(time) => Some(Shift::Later(time)),
             None => None,
         },
@@ -135,11 +125,11 @@ pub fn drift_in(text: &str) -> Option<Drift>
     ensures { result ≡ drift_in text.now }
 {
     match after_minus(text) {
-        Some(digits) => match time_in(digits, LAST_DRIFT) {
+        Some(digits) => match number_up_to(digits, LAST_DRIFT) {
             Some(parts) => Some(Drift::Slow(parts)),
             None => None,
         },
-        None => match time_in(text, LAST_DRIFT) {
+        None => match number_up_to(text, LAST_DRIFT) {
             Some(parts) => Some(Drift::Fast(parts)),
             None => None,
         },

@@ -7,6 +7,7 @@ ghost use Rattle.a429_arguments.specs.Texts.{texts_of};
 ghost use Rattle.a429_arguments.specs.Tolerances.{FitTogether, HasToleranceForm, NamesGroup, TolerancesAreFor, first_general_number, first_own_number, general_number, is_general_again, is_tolerance, microseconds_of, own_number, tolerance_for, tolerance_group};
 ghost use Rattle.a429_text.specs.Renames.{halves};
 
+use crate::values::short_number_up_to;
 use a429_text::renames;
 
 /// The greatest tolerance, in microseconds: that of the longest interval of an output (profile).
@@ -26,16 +27,7 @@ fn halves(text: &str) -> Option<(&str, &str)>
 fn microseconds_in(text: &str) -> Option<u32>
     ensures { result ≡ microseconds_of text.now }
 {
-    match text.parse::<u32>() {
-        Ok(number) => {
-            if number <= MOST_TOLERANCE {
-                Some(number)
-            } else {
-                None
-            }
-        }
-        Err(_) => None,
-    }
+    short_number_up_to(text, MOST_TOLERANCE)
 }
 
 /// GROUP of a text GROUP=US, which is for the group of this name. `None` for a text US, which is for all groups.

@@ -1,7 +1,8 @@
-//! What was found of the options of a command.
-ghost use Rattle.std.specs.Prelude.{◌≡◌, option_map};
+//! What was found of the options of a command, and the numbers that texts state.
+ghost use Rattle.std.specs.Prelude.{◌≡◌, ◌≤◌, IfSome, option_map};
 ghost use Rattle.clap.specs.Words.{found_of, one_of, rows_of};
 ghost use Rattle.a429_arguments.specs.Given.{given_in, has_given, is_set, text_given};
+ghost use Rattle.a429_arguments.specs.Numbers.{number_up_to};
 
 use crate::options::{OptionKind, OptionName};
 use clap::ArgMatches;
@@ -34,4 +35,25 @@ pub fn has(found: &ArgMatches<'_>, option: OptionName) -> bool
     ensures { result ≡ has_given (given_in (rows_of (found_of found.now))) option }
 {
     text_given(found, option).is_some()
+}
+
+/// The number that a text states. `None` if it states no whole number up to this one.
+pub fn number_up_to(text: &str, most: u64) -> Option<u64>
+    ensures number { result ≡ number_up_to most text.now }
+    ensures most { IfSome result (λ number. number ≤ most) }
+{
+    match text.parse::<u64>() {
+        Ok(number) => { if number <= most { Some(number) } else { None } }
+        Err(_) => None,
+    }
+}
+
+/// The same of a number below 2^32.
+pub fn short_number_up_to(text: &str, most: u32) -> Option<u32>
+    ensures { result ≡ number_up_to most text.now }
+{
+    match number_up_to(text, u64::from(most)) {
+        Some(number) => Some(number as u32),
+        None => None,
+    }
 }

@@ -1,5 +1,4 @@
-use Rattle.std.proofs.Common.{◌≡◌, ◌∷◌, ◌∙◌, [], ◌+◌, ap, drop, fold, get_or, map}
-use Rattle.std.proofs.Math.ListN.{drop_of_length-le}
+use Rattle.std.proofs.Common.{◌≡◌, ◌∷◌, ◌∙◌, ◌+◌, ap, drop, fold, get_or, map}
 use Rattle.std.proofs.lemmas.List.{drop_more}
 use Rattle.clap.specs.Words.{App, app_of, with_rule}
 use Rattle.a429_arguments.specs.CommandLine.{form_row, option_rule, with_names}
@@ -21,8 +20,3 @@ loop-option-preserved c =
     let next : app_of c.in_ok-command-2.command ≡ with_rule before (option_rule form) =
     c.in_ok-command-2.ensures.shape c.option_argument.ensures.1 ∙ ap (with_rule before) c.option_argument.ensures.0 in
     rw next (rw more at c.loop-option.invariant)
-
-pub returns : goal.returns
-returns c =
-    let none_left : drop c.loop-option.option-index c.args.form.now.options.now ≡ [] = drop_of_length-le c.args.form.now.options.now c.loop-option-test.false in
-    rw none_left at c.loop-option.invariant

@@ -22,6 +22,3 @@ returns-in-Some c =
     let cut = ap (λ n. take n c.args.text.now) {x = length c.in-Some.group.now - 0} {y = length c.in-Some.group.now} (omega arith) in
     ap (λ first. Some (first, c.range_from.result.now)) (c.range.ensures.value ∙ (cut ∙ parts.before))
     ∙ (ap (λ second. Some (c.in-Some.group.now, second)) (c.range_from.ensures.value ∙ parts.after) ∙ sym whole)
-
-pub returns-in-None : goal.returns-in-None
-returns-in-None c = c.in-None.ensures ∙ ap halves c.as_bytes.ensures.value
