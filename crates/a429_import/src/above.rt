@@ -1,8 +1,7 @@
 //! Rows of data above the heading: a sheet that was sorted with its heading has them. They would be passed over, as titles are.
 ghost use Rattle.std.specs.Prelude.{◌≡◌, ◌||◌, ◌<◌, [], if◌then◌else◌, IfOk, None, Some, is_some};
 ghost use Rattle.std.specs.Option.{option_or};
-ghost use Rattle.std.specs.List.{list_any};
-ghost use Rattle.csv.specs.Reading.{owned_rows_left, owned_rows_reader, strip_bom};
+ghost use Rattle.csv.specs.Reading.{owned_rows_left, owned_rows_reader};
 ghost use Rattle.csv.specs.Records.{fields_of};
 ghost use Rattle.a429_import.specs.FaultLines.{data_line, data_line_above};
 ghost use Rattle.a429_import.specs.ImportAbove.{first_row, has_data, has_data_above, is_data};

@@ -1,7 +1,7 @@
 //! Blanks round fields: spaces, tabs, line breaks and no-break spaces.
-ghost use Rattle.std.specs.Prelude.{◌≡◌, ◌-◌, ◌++◌, [], IfOk, OnOk, drop, length, map, option_map, slice_index_or, take};
+ghost use Rattle.std.specs.Prelude.{◌≡◌, ◌-◌, ◌++◌, [], IfOk, length, map, option_map, slice_index_or, take};
 ghost use Rattle.std.specs.List.{list_all};
-ghost use Rattle.csv.specs.Records.{fields_of, partial_of};
+ghost use Rattle.csv.specs.Records.{fields_of};
 ghost use Rattle.a429_import.specs.ImportWords.{after_blank, back_blank, before_blank, blank_from, blank_to, byte_before_end, front_blank, has_no_blank, is_narrow_blank, is_wide_blank, trimmed, without_back, without_front};
 
 use crate::forms::from_place;
@@ -14,10 +14,7 @@ use std::alloc::{AllocError, Global};
 pub fn byte_at(text: &[u8], place: usize) -> u8
     ensures { result ≡ slice_index_or text.now place 0 }
 {
-    match text.get(place) {
-        Some(byte) => *byte,
-        None => 0,
-    }
+    text.get(place).copied().unwrap_or(0)
 }
 
 /// The byte at a place that is counted from the end; 0 if there is none.

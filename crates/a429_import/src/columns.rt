@@ -1,10 +1,9 @@
 //! The columns of rows, by the names in the heading.
-ghost use Rattle.std.specs.Prelude.{◌≡◌, ◌<◌, IfSome, length, position};
+ghost use Rattle.std.specs.Prelude.{◌≡◌, ◌<◌, position};
 ghost use Rattle.std.specs.List.{find, list_any};
 ghost use Rattle.csv.specs.Records.{fields_of};
 ghost use Rattle.a429_import.specs.declared.fault.ImportColumn.{ImportColumn};
 ghost use Rattle.a429_import.specs.declared.fault.ImportColumn.TheVariants.{MaxUs, MinUs};
-ghost use Rattle.a429_import.specs.ImportFields.{field_in};
 ghost use Rattle.a429_import.specs.ImportColumns.{place_in};
 ghost use Rattle.a429_import.specs.ImportRows.{column_field, column_form, is_column, is_named, is_wrong, times, wrong_column};
 

@@ -124,6 +124,13 @@ pub enum ImportFault {
     Table(TableFault),
 }
 
+/// The fault of a line.
+pub fn csv_fault(line: u64, kind: CsvFaultKind, column: Option<ImportColumn>) -> ImportFault
+    ensures { result ≡ ImportFault.Csv line kind column }
+{
+    ImportFault::Csv { line, kind, column }
+}
+
 impl From<AllocError> for ImportFault {
     ghost from_gives = { λ _ e. e ≡ NoMemory };
 

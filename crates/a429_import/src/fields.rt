@@ -233,10 +233,7 @@ fn hold_in(field: &[u8]) -> Option<Option<u32>>
     if field.is_empty() || field == "none".as_bytes() {
         return Some(None);
     }
-    match number_in(field) {
-        Some(number) => Some(Some(number)),
-        None => None,
-    }
+    number_in(field).map(Some)
 }
 
 /// The text in a field: any UTF-8 text. `None` for any other field.
@@ -266,10 +263,7 @@ pub fn text_in(field: &[u8]) -> Option<&str>
 fn is_filter(text: &str) -> bool
     ensures { result ≡ is_some (filter_read text.now) }
 {
-    match Filter::parse(text) {
-        Ok(_) => true,
-        Err(_) => false,
-    }
+    Filter::parse(text).is_ok()
 }
 
 /// Whether each part between spaces is a filter or empty.

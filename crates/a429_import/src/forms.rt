@@ -1,7 +1,7 @@
 //! The heading of a text: its line, and what separates its fields.
 ghost use Rattle.std.specs.Prelude.{◌≡◌, ◌≤◌, ◌+◌, ◌==◌, ◌&&◌, ◌||◌, IfSome, false, if◌then◌else◌, drop, length, not, option_map, position};
 ghost use Rattle.std.specs.List.{find};
-ghost use Rattle.a429_import.specs.ImportForms.{after_separator, closed_len, count_before, ends_field, ends_line, field_len, from_heading, from_line, heading_among, heading_of, is_heading, later_lines, len_before, names_column, quoted_len, quotes_end, separator_in, separators, without_byte_order_mark};
+ghost use Rattle.a429_import.specs.ImportForms.{after_separator, closed_len, count_before, ends_field, ends_line, field_len, from_heading, from_line, heading_among, is_heading, later_lines, len_before, names_column, quoted_len, quotes_end, separator_in, separators, without_byte_order_mark};
 ghost use Rattle.a429_import.specs.ImportMaps.{given_texts};
 ghost use Rattle.a429_import.specs.ImportQuotes.{text_before};
 
@@ -41,20 +41,14 @@ fn first_byte(text: &[u8]) -> Option<usize>
 fn line_len(text: &[u8]) -> usize
     ensures { result ≡ count_before ends_line text.now }
 {
-    match first_end(text) {
-        Some(place) => place,
-        None => text.len(),
-    }
+    first_end(text).unwrap_or(text.len())
 }
 
 /// The number of line ends at the beginning.
 fn ends_len(text: &[u8]) -> usize
     ensures { result ≡ count_before (λ b. not (ends_line b)) text.now }
 {
-    match first_byte(text) {
-        Some(place) => place,
-        None => text.len(),
-    }
+    first_byte(text).unwrap_or(text.len())
 }
 
 /// The bytes from a place on; none if there are fewer.

@@ -1,5 +1,5 @@
 //! An equipment table from rows of comma-separated values.
-ghost use Rattle.std.specs.Prelude.{◌≡◌, ◌||◌, [], false, IfOk, is_some, List, None, Some, true};
+ghost use Rattle.std.specs.Prelude.{◌≡◌, ◌||◌, [], IfOk, is_some, List, None, Some};
 ghost use Rattle.a429_import.specs.declared.lines.CsvLine.{CsvLine};
 ghost use Rattle.a429_import.specs.declared.rows.ImportRow.{ImportRow};
 ghost use Rattle.a429_import.specs.ImportAbove.{has_data_above};
@@ -19,13 +19,13 @@ ghost use Rattle.a429_import.specs.TableTexts.{AreSound, rows_before};
 
 use crate::above::line_above;
 use crate::comments::{Comments, MadeOf};
-use crate::fault::{CsvFaultKind, ImportColumn, ImportFault};
+use crate::fault::{CsvFaultKind, ImportColumn, ImportFault, csv_fault};
 use crate::filled_reading::SheetRead;
 use crate::forms::{Form, form_of};
 use crate::kept::KeptTexts;
 use crate::known::Known;
 use crate::quotes::misquoted_line_of;
-use crate::reading::{LinesRead, RowsRead, wrong_heading};
+use crate::reading::{LinesRead, RowsRead};
 use crate::refused::{RefusedRows, misquoted_rows, titled_rows};
 use crate::renamed::{all_names, all_renamed};
 use crate::rows::ImportRow;
@@ -138,7 +138,7 @@ fn table_below_heading(
     ensures { (lines : List CsvLine) → HaveRows read.now.heading read.now lines → IsImportFrom makes_names lines result }
 {
     match &read.heading {
-        None => Err(wrong_heading(1, ImportColumn::Group)),
+        None => Err(csv_fault(1, CsvFaultKind::Column, Some(ImportColumn::Group))),
         Some(_heading) => match table_by(alloc, makes_names, &read.kept, &read.rows) {
             Ok(MadeTable { text, equipment }) => Ok(Imported {
                 text,
@@ -218,17 +218,6 @@ fn table_of_text<W: Watch>(
     table
 }
 
-/// The fault of a field that does not end as a field in quotes does, or of a row of data above the heading.
-fn wrong_form(line: u64) -> ImportFault
-    ensures { result ≡ ImportFault.Csv line CsvFaultKind.Form None }
-{
-    ImportFault::Csv {
-        line,
-        kind: CsvFaultKind::Form,
-        column: None,
-    }
-}
-
 /// The line on which the first field begins whose quotes are wrong. If there is none, that of the first row of data above the
 /// heading. Error: an allocation failed.
 fn unfit_line(
@@ -273,7 +262,7 @@ fn text_fault(
     ensures { IfOk result (λ fault. IsTextFault (given_texts maps.now) text.now fault) }
 {
     match unfit_line(alloc, maps, text, form, refused)? {
-        Some(line) => Ok(Some(wrong_form(line))),
+        Some(line) => Ok(Some(csv_fault(line, CsvFaultKind::Form, None))),
         None => Ok(None),
     }
 }

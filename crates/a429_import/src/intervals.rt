@@ -78,10 +78,7 @@ pub fn states_interval(column: ImportColumn, name: &[u8]) -> bool
 fn unit_or_micros(unit: Option<IntervalUnit>) -> IntervalUnit
     ensures { result ≡ unit_or_micros unit }
 {
-    match unit {
-        Some(unit) => unit,
-        None => IntervalUnit::Micros,
-    }
+    unit.unwrap_or(IntervalUnit::Micros)
 }
 
 /// How the column with this name states intervals; in microseconds if the name is that of no interval.
@@ -114,13 +111,9 @@ fn period_up(rate: u32) -> Option<u32>
     ensures { result ≡ period_up rate }
 {
     if rate == 0 {
-        return None;
-    }
-    let whole = 1_000_000_000 / rate;
-    if 1_000_000_000 % rate == 0 {
-        Some(whole)
+        None
     } else {
-        Some(whole + 1)
+        Some(1_000_000_000u32.div_ceil(rate))
     }
 }
 

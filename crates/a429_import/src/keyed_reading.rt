@@ -1,7 +1,6 @@
 //! Lines with keys of sources, one after the other.
 ghost use Rattle.std.specs.Prelude.{◌≡◌, ◌++◌, ◌∷◌, [], List, None, OnOk};
 ghost use Rattle.a429_import.specs.declared.lines.CsvLine.{CsvLine};
-ghost use Rattle.a429_import.specs.ImportReading.{StandsFor};
 ghost use Rattle.a429_import.specs.RenamedReading.{HasKeyed, IsReadBy};
 
 use crate::keyed_lines::{KeyedRoom, write_keyed};

@@ -26,13 +26,6 @@ pub struct CsvLine {
     pub fields: ByteRecord,
 }
 
-/// Whether a field is not empty.
-fn is_filled(field: &[u8]) -> bool
-    ensures { result ≡ is_filled field.now }
-{
-    !field.is_empty()
-}
-
 /// The field of a row in a column, counted from 0; empty if there is no such field.
 pub fn field_at(fields: &ByteRecord, column: usize) -> &[u8]
     ensures { result.now ≡ field_in column (fields_of fields.now) }
@@ -56,7 +49,7 @@ impl CsvLine {
         ensures { result ≡ has_text (fields_of self.now.fields) }
     {
         for place in 0..self.len() {
-            if is_filled(self.field(place)) {
+            if !self.field(place).is_empty() {
                 return true;
             }
         }

@@ -2,8 +2,6 @@
 ghost use Rattle.std.specs.Prelude.{◌≡◌, ℕ, ◌++◌, ◌-◌, ◌∷◌, ◌≤◌, [], drop, false, IfOk, List, OnOk, length, position, take};
 ghost use Rattle.std.specs.Char.{to_ascii_lowercase};
 ghost use Rattle.a429_equipment.specs.NameForm.{is_name, is_name_byte};
-ghost use Rattle.a429_import.specs.ImportForms.{count_before};
-ghost use Rattle.a429_import.specs.ImportTables.{is_word};
 ghost use Rattle.a429_import.specs.MadeNames.{dash_if, dashed, from_kept, in_room, in_room_or, is_from, is_kept, joined_ends, label_end, made_name, number_end, numbered_name, plain_name, shortened, without_last_dash};
 
 use a429_text::Text;

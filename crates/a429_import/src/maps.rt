@@ -194,32 +194,16 @@ fn push_all_titled(
     Ok(())
 }
 
-/// Adds the names of the fields of a heading by texts, if all texts are met; otherwise adds nothing. Error: an allocation
-/// failed.
-fn push_names(
-    alloc: Global,
-    names: &mut ByteRecord,
-    maps: &[&str],
-    heading: &CsvLine,
-) -> Result<(), AllocError>
-    requires none { fields_of names.old ≡ [] }
-    requires partial { partial_of names.old ≡ [] }
-    ensures { OnOk result (fields_of names.new ≡ names_by (given_texts maps.now) (fields_of heading.now.fields)) }
-{
-    if are_met(heading, maps) {
-        push_all_titled(alloc, names, maps, heading)
-    } else {
-        Ok(())
-    }
-}
-
-/// The names of the fields of a heading. Error: an allocation failed.
+/// The names of the fields of a heading; none if one of the texts is not met. Error: an allocation failed.
 fn names_of(alloc: Global, maps: &[&str], heading: &CsvLine) -> Result<ByteRecord, AllocError>
     ensures { IfOk result (λ names. fields_of names ≡ names_by (given_texts maps.now) (fields_of heading.now.fields)) }
 {
     let bytes = heading.fields.as_slice().len();
     let mut names = ByteRecord::with_capacity(alloc, bytes, heading.len())?;
-    push_names(alloc, &mut names, maps, heading)?;
+    if !are_met(heading, maps) {
+        return Ok(names);
+    }
+    push_all_titled(alloc, &mut names, maps, heading)?;
     Ok(names)
 }
 

@@ -71,10 +71,7 @@ impl Names {
     fn last(&self, chain: usize) -> usize
         ensures { result ≡ slice_index_or self.now.lasts.items chain 0 }
     {
-        match self.lasts.get(chain) {
-            Some(last) => *last,
-            None => 0,
-        }
+        self.lasts.get(chain).copied().unwrap_or(0)
     }
 
     /// This number, if it is that of the name, otherwise what was found before.

@@ -5,7 +5,7 @@ ghost use Rattle.a429_import.specs.ImportReading.{HasNoRow, HoldsFault, HoldsFir
 ghost use Rattle.a429_import.specs.ImportRows.{has_label, row_of};
 
 use crate::columns::Heading;
-use crate::fault::{CsvFaultKind, ImportColumn, ImportFault};
+use crate::fault::{CsvFaultKind, ImportColumn, ImportFault, csv_fault};
 use crate::lines::CsvLine;
 use crate::rows::form_fault;
 use std::alloc::{AllocError, Global};
@@ -34,11 +34,7 @@ fn fault_of(heading: &Heading, line: &CsvLine) -> Option<ImportFault>
         → HoldsFault result (row_of (fields_of heading.now.line.fields) line.now) }
 {
     match form_fault(heading, line) {
-        Some(column) => Some(ImportFault::Csv {
-            line: line.number,
-            kind: CsvFaultKind::Form,
-            column,
-        }),
+        Some(column) => Some(csv_fault(line.number, CsvFaultKind::Form, column)),
         None => None,
     }
 }

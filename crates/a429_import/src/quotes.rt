@@ -1,7 +1,6 @@
 //! Fields in quotes that do not end with a quote and a separator or a line end (RFC 4180). The library `csv` reads on, so
 //! rows below such a field would become a part of it.
 ghost use Rattle.std.specs.Prelude.{◌≡◌, if◌then◌else◌, drop, false, is_some, option_map, true};
-ghost use Rattle.csv.specs.Reading.{strip_bom};
 ghost use Rattle.csv.specs.declared.parser.State.TheVariants as st;
 ghost use Rattle.a429_import.specs.ImportQuotes.{breaks_quotes, has_wrong_quotes, is_after_quote, is_in_text, is_inside_quotes, is_misquoted, is_misquoted_from, text_before};
 ghost use Rattle.a429_import.specs.FaultLines.{quotes_line, wrong_in, wrong_line};
@@ -17,30 +16,21 @@ use crate::steps::{Ended, Part, pass};
 fn is_inside_quotes(part: Part) -> bool
     ensures { result ≡ is_inside_quotes (state_of part) }
 {
-    match part {
-        Part::Quoted => true,
-        _ => false,
-    }
+    matches!(part, Part::Quoted)
 }
 
 /// Whether a byte comes after a quote inside quotes.
 fn is_after_quote(part: Part) -> bool
     ensures { result ≡ is_after_quote (state_of part) }
 {
-    match part {
-        Part::Quote => true,
-        _ => false,
-    }
+    matches!(part, Part::Quote)
 }
 
 /// Whether a byte comes after one of a field outside quotes.
 fn is_in_text(part: Part) -> bool
     ensures { result ≡ is_in_text (state_of part) }
 {
-    match part {
-        Part::Text => true,
-        _ => false,
-    }
+    matches!(part, Part::Text)
 }
 
 /// Whether a byte is text after the quote that closes a field, by the part of the row before it and the part after it. The

@@ -13,7 +13,7 @@ ghost use Rattle.a429_import.specs.Known.{Knows};
 
 use crate::clashes::first_clash;
 use crate::columns::{Heading, wrong_column};
-use crate::fault::{CsvFaultKind, ImportColumn, ImportFault};
+use crate::fault::{CsvFaultKind, ImportColumn, ImportFault, csv_fault};
 use crate::kept::KeptTexts;
 use crate::known::Known;
 use crate::lines::CsvLine;
@@ -119,17 +119,6 @@ fn take_row(
     Ok(read.known.too_many(row))
 }
 
-/// The fault of a row, in a column.
-fn row_fault(line: &CsvLine, kind: CsvFaultKind, column: Option<ImportColumn>) -> ImportFault
-    ensures { result ≡ ImportFault.Csv line.now.number kind column }
-{
-    ImportFault::Csv {
-        line: line.number,
-        kind,
-        column,
-    }
-}
-
 /// Takes a row that is no note.
 fn take_below(
     alloc: Global,
@@ -144,9 +133,9 @@ fn take_below(
     match next_row(&read.known, heading, line) {
         Ok(row) => match take_row(alloc, read, &row)? {
             None => Ok(()),
-            Some(column) => Err(row_fault(line, CsvFaultKind::TooMany, Some(column))),
+            Some(column) => Err(csv_fault(line.number, CsvFaultKind::TooMany, Some(column))),
         },
-        Err((kind, column)) => Err(row_fault(line, kind, column)),
+        Err((kind, column)) => Err(csv_fault(line.number, kind, column)),
     }
 }
 
@@ -213,23 +202,12 @@ fn take_kept(
     take_row_or_note(alloc, read, notes, heading, line)
 }
 
-/// The fault of a heading that lacks a column, or has it twice.
-pub fn wrong_heading(line: u64, column: ImportColumn) -> ImportFault
-    ensures { result ≡ ImportFault.Csv line CsvFaultKind.Column (Some column) }
-{
-    ImportFault::Csv {
-        line,
-        kind: CsvFaultKind::Column,
-        column: Some(column),
-    }
-}
-
 /// The fault of a heading, if it lacks a column or has it twice.
 fn heading_fault(line: &CsvLine) -> Option<ImportFault>
     ensures { result ≡ heading_fault line.now }
 {
     match wrong_column(line) {
-        Some(column) => Some(wrong_heading(line.number, column)),
+        Some(column) => Some(csv_fault(line.number, CsvFaultKind::Column, Some(column))),
         None => None,
     }
 }

@@ -99,22 +99,13 @@ fn end_of(alloc: Global, part: Part, row: &ImportRow) -> Result<Vec<u8>, AllocEr
     Ok(end)
 }
 
-/// Whether a name is one of these, or of others.
-fn is_taken(names: &Names, others: &Names, name: &[u8]) -> bool
-    requires names { IsIndexed names.now }
-    requires others { IsIndexed others.now }
-    ensures { result ≡ is_taken (names_of names.now ++ names_of others.now) name.now }
-{
-    0 < names.count(name) || 0 < others.count(name)
-}
-
 /// Whether a name is none of these, and none of others.
 fn is_free(names: &Names, others: &Names, name: &[u8]) -> bool
     requires names { IsIndexed names.now }
     requires others { IsIndexed others.now }
     ensures { result ≡ not (is_taken (names_of names.now ++ names_of others.now) name.now) }
 {
-    !is_taken(names, others, name)
+    !(0 < names.count(name) || 0 < others.count(name))
 }
 
 /// Whether one text alone has this plain name.

@@ -55,8 +55,5 @@ impl ShortNumbers {
 fn other_at(numbers: &[usize], place: usize) -> usize
     ensures { result ≡ slice_index_or numbers.now place 0 }
 {
-    match numbers.get(place) {
-        Some(number) => *number,
-        None => 0,
-    }
+    numbers.get(place).copied().unwrap_or(0)
 }

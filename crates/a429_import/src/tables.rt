@@ -4,7 +4,6 @@ ghost use Rattle.std.specs.Option.{option_copied};
 ghost use Rattle.toml.specs.Data.{string};
 ghost use Rattle.toml.specs.View.{table_view, view};
 ghost use Rattle.a429_word.specs.Texts.{octal};
-ghost use Rattle.a429_word.specs.Written.{Gains};
 ghost use Rattle.a429_import.specs.ImportBuilding.{GainsTables, Puts, PutsFilters, PutsHold};
 ghost use Rattle.a429_import.specs.declared.rows.ImportRow.{ImportRow};
 ghost use Rattle.a429_import.specs.KeptFields.{AreKept, lines_kept};

@@ -1,5 +1,5 @@
 //! The groups of rows, each with its bit rate and the number of its outputs.
-ghost use Rattle.std.specs.Prelude.{◌≡◌, ◌&&◌, ◌++◌, ◌∷◌, [], ◌<◌, if◌then◌else◌, true, IfOk, List, None, OnOk, Option, Some, length, map, min, nat_lt, slice_get, slice_index_or};
+ghost use Rattle.std.specs.Prelude.{◌≡◌, ◌&&◌, ◌++◌, ◌∷◌, [], ◌<◌, if◌then◌else◌, IfOk, List, None, OnOk, Option, Some, length, nat_lt, slice_get, slice_index_or};
 ghost use Rattle.a429_import.specs.declared.firsts.Part.TheVariants as part;
 ghost use Rattle.a429_import.specs.declared.rows.ImportRow.{ImportRow};
 ghost use Rattle.a429_import.specs.ImportClashes.{Agree, first_part_clash};

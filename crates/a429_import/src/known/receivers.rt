@@ -1,6 +1,5 @@
 //! The receivers of rows, each with its filters.
 ghost use Rattle.std.specs.Prelude.{◌≡◌, ◌++◌, ◌∷◌, [], if◌then◌else◌, IfOk, List, None, OnOk, Some, length};
-ghost use Rattle.std.specs.Str.{bytes_eq};
 ghost use Rattle.a429_import.specs.declared.firsts.Part.TheVariants as part;
 ghost use Rattle.a429_import.specs.declared.rows.ImportRow.{ImportRow};
 ghost use Rattle.a429_import.specs.FirstRows.{first_from};
@@ -35,20 +34,12 @@ impl KnownReceivers {
         })
     }
 
-    /// The filters of a receiver, by its place; empty if there is none.
-    pub fn filters(&self, place: usize) -> &[u8]
-        requires { AreTexts self.now.filters }
-        ensures { result.now ≡ field_in place (texts_of self.now.filters) }
-    {
-        self.filters.get(place)
-    }
-
     /// The column in which a row contradicts the first row of its receiver.
     fn column_at(&self, place: usize, row: &RowFields<'_>) -> Option<ImportColumn>
         requires { AreTexts self.now.filters }
         ensures { result ≡ filters_clash (field_in place (texts_of self.now.filters)) row.now.texts.filters.now }
     {
-        if self.filters(place) == row.texts.filters.as_bytes() {
+        if self.filters.get(place) == row.texts.filters.as_bytes() {
             None
         } else {
             Some(ImportColumn::Filters)

@@ -1,5 +1,5 @@
 //! The sources of rows, each with what its first row states.
-ghost use Rattle.std.specs.Prelude.{◌≡◌, ◌++◌, ◌∷◌, [], IfOk, List, None, OnOk, Option, Some, length, map, slice_get};
+ghost use Rattle.std.specs.Prelude.{◌≡◌, ◌++◌, ◌∷◌, [], IfOk, List, None, OnOk, Option, Some, length, slice_get};
 ghost use Rattle.a429_equipment.specs.SameStation.{same_sdi};
 ghost use Rattle.a429_import.specs.declared.firsts.Part.TheVariants as part;
 ghost use Rattle.a429_import.specs.declared.rows.ImportRow.{ImportRow};

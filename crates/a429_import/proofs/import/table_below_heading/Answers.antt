@@ -19,7 +19,7 @@ table_by-requires c =
 pub returns-in-None : goal.returns-in-None
 returns-in-None c = λ lines known.
     let there : HaveRows None c.args.read.now lines = subst (λ o. HaveRows o c.args.read.now lines) c.in-None.is known in
-    subst (λ (f : ImportFault). IsImportFrom c.args.makes_names lines (Err f)) (sym c.wrong_heading.ensures) (no_import c.args.makes_names lines 1 Column (Some Group) (no_lines c.args.read.now lines _ there refl))
+    subst (λ (f : ImportFault). IsImportFrom c.args.makes_names lines (Err f)) (sym c.csv_fault.ensures) (no_import c.args.makes_names lines 1 Column (Some Group) (no_lines c.args.read.now lines _ there refl))
 
 pub returns-in-Ok : goal.returns-in-Ok
 returns-in-Ok c = λ lines known.

@@ -15,7 +15,7 @@ returns-in-Some c =
     let unfit = unfit_by maps text c.args.form.separator c.args.form.text.now c.requires.separator c.requires.text true (sym (ap is_some c.in-Some.is) ∙ c.in_ok-line.ensures.wrong) in
     let at : text_fault_line maps text ≡ Some c.in-Some.line =
     sym (ap₂ (λ (s : ℕ) (xs : List ℕ). fault_line (separated s) maps xs text) c.requires.separator c.requires.text) ∙ sym c.in_ok-line.ensures.line ∙ c.in-Some.is in
-    unfit_fault maps text c.in-Some.line c.wrong_form.result at unfit c.wrong_form.ensures
+    unfit_fault maps text c.in-Some.line c.csv_fault.result at unfit c.csv_fault.ensures
 
 pub unfit_line-requires : goal.unfit_line-requires
 unfit_line-requires c = subst (λ (xs : List ℕ). IsEnd c.args.text.now xs) (sym c.requires.text) (from_heading_end (given_texts c.args.maps.now) c.args.text.now)

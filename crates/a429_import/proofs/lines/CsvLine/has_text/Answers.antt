@@ -1,4 +1,5 @@
 use Rattle.std.proofs.Common.{◌≡◌, ◌<◌, ◌≤◌, ◌∙◌, [], ap, false, true, length, get_or, subst, sym, ℕ, List}
+use Rattle.std.specs.Prelude.{not}
 use Rattle.std.specs.List.{AllByRecursion}
 use Rattle.std.proofs.lemmas.List.{take_all}
 use Rattle.std.proofs.lemmas.Map.Keys.{any_passes_from_place}
@@ -8,12 +9,12 @@ use Rattle.a429_import.specs.Imports.{is_filled}
 use Rattle.a429_import.proofs.FirstPlaces.{none_passes}
 use Rattle.a429_import.proofs.lines.CsvLine.has_text.Goals as goal
 
-pub returns-then-is_filled : goal.returns-then-is_filled
-returns-then-is_filled c =
+pub returns-then-not-is_empty : goal.returns-then-not-is_empty
+returns-then-not-is_empty c =
     let fields : List (List ℕ) = fields_of c.args.self.now.fields in
     let i : ℕ = c.loop-place.place in
     let below : i < length fields = subst (λ (n : ℕ). i < n) c.len-place-end.ensures c.loop-place-test.true in
-    let passes : is_filled (get_or fields i []) ≡ true = ap is_filled (sym c.field.ensures) ∙ sym c.is_filled.ensures ∙ c.if-is_filled.true in
+    let passes : is_filled (get_or fields i []) ≡ true = ap is_filled (sym c.field.ensures) ∙ ap not (sym c.is_empty.ensures ∙ c.if-not-is_empty.true) in
     sym (any_passes_from_place is_filled fields i (get_or fields i []) (slice_get-get_or fields i [] below) passes)
 
 pub returns : goal.returns
