@@ -24,11 +24,11 @@ use Rattle.a429_live.specs.LiveReplies.{IsLiveReply, TakesLive}
 use Rattle.a429_replay.specs.Replaying.{IsReplay, TakesFurther}
 use Rattle.a429_replay.specs.Views.{view_given}
 use Rattle.a429_recordings.specs.LogViews.{whole_view}
-use Rattle.a429_recordings.specs.SimulationReplies.{IsSimulation, IsSimulationForm, SimulatesSpacedWords}
+use Rattle.a429_recordings.specs.SimulationReplies.{IsSimulation, IsSimulationForm, PassesNoAskedLine, SimulatesSpacedWords}
 use Rattle.a429_recordings.specs.declared.simulate.SimulationForm.{SimulationForm}
-use Rattle.a429_cli.specs.JudgeAnswers.{IsJudgement, IsUnjudged, PassesNoAskedBoxLine}
-use Rattle.a429_cli.specs.SurveyReplies.{IsSurveyed, IsUnsurveyed, PassesNoAskedLine}
-use Rattle.a429_cli.specs.WholeReplies.{IsReplyBy}
+use Rattle.a429_recordings.specs.Comparing.{IsSurveyed, IsUnsurveyed}
+use Rattle.a429_recordings.specs.JudgeReplies.{IsJudgement, IsUnjudged, PassesNoAskedBoxLine}
+use Rattle.a429_console.specs.WholeReplies.{IsReplyBy}
 
 -- the command prints nothing before it has its whole answer
 abbrev pub is_whole : Verb → Bool

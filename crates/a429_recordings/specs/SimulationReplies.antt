@@ -21,7 +21,7 @@ use Rattle.a429_given.specs.GivenTables.{IsTableRead, IsTableUnread, TableTexts,
 use Rattle.a429_console.specs.declared.refusals.CommandRefusal.{CommandRefusal}
 use Rattle.a429_console.specs.declared.refusals.CommandRefusal.TheVariants as refused
 use Rattle.a429_recordings.specs.CloseWords.{AreSpaced}
-use Rattle.a429_recordings.specs.LogItems.{logs_named, view_named}
+use Rattle.a429_recordings.specs.LogItems.{PassesNoLine, logs_named, view_named}
 use Rattle.a429_recordings.specs.LogViews.{View, view_of}
 use Rattle.a429_recordings.specs.SimulationLog.{IsLogFault, log_words}
 use Rattle.a429_recordings.specs.Timeline.{TimelineIsBegun, IsTimeline, SendsTooMuch, end_of}
@@ -55,6 +55,10 @@ pub record IsReadingFor (given : Given) (reading : Reading) : Type 0 where
   pub has_rows : reading.has_rows ≡ false
   pub calendar : reading.calendar ≡ Open
   pub clock : reading.clock ≡ clock_from (origin_of given)
+
+-- no line of the logs of these names is passed over as they are read, other than those that every log may have
+abbrev pub PassesNoAskedLine : (List ℕ → Option (List ℕ)) → List (List ℕ) → Given → Type 0
+PassesNoAskedLine file names given = (reading : Reading) → IsReadingFor given reading → PassesNoLine file names reading
 
 -- how lines are written, by whether only the words that are sent have one, and by the form of what is printed
 abbrev pub line_style : Bool → SheetForm → LineStyle

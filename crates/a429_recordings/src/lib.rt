@@ -16,7 +16,7 @@
 //! )
 //! ```
 //!
-//! `survey_logs` needs no table: its answer is the text of a sheet that says what is on the lines of a log.
+//! `survey_reply` says what is on the lines of logs, and `judge_reply` whether what a box sent is right. Each answers a `Reply`.
 #![tactic(auto)]
 
 pub mod judge;

@@ -3,8 +3,9 @@ use Rattle.std.proofs.lemmas.Result.{IfOk-weaker}
 use Rattle.a429_console.proofs.ReadingParts.{read_weaker}
 use Rattle.a429_arguments.specs.Requests.{asked_of}
 use Rattle.a429_cli.specs.Replies.{IsAnswerOf, IsNoAnswer, trouble_of}
-use Rattle.a429_cli.specs.WholeReplies.{IsReplyPut}
-use Rattle.a429_cli.proofs.WholeAnswers.{reply_by, whole_reply}
+use Rattle.a429_console.specs.WholeReplies.{IsReplyPut}
+use Rattle.a429_console.proofs.PutReplies.{reply_by}
+use Rattle.a429_cli.proofs.WholeAnswers.{whole_reply}
 use Rattle.a429_cli.proofs.commands.answer_whole.Goals as goal
 
 pub returns-clause-read : goal.returns-clause-read
