@@ -7,8 +7,6 @@ ghost use Rattle.a429_console.specs.Readings.{HasRead, HasReadFrom};
 ghost use Rattle.a429_arguments.specs.Given.{has_given};
 ghost use Rattle.a429_arguments.specs.RequestRows.{AsksFor};
 ghost use Rattle.a429_arguments.specs.Requests.{AskedBytes, asked_of};
-ghost use Rattle.a429_recordings.specs.LogItems.{logs_named, view_named};
-ghost use Rattle.a429_recordings.specs.LogViews.{whole_view};
 ghost use Rattle.a429_cli.specs.Replies.{IsAnswerOf, IsNoAnswer, IsReplyOrMemory, RepliesToCommand, RepliesToCommandByReader, IsSilent, import_options, is_whole, trouble_of};
 ghost use Rattle.a429_cli.specs.Keeping.{IsPlanned, IsUnplanned};
 ghost use Rattle.a429_console.specs.WholeReplies.{Replies};
@@ -37,7 +35,7 @@ use a429_console::reply::{Reply, put_reply};
 use a429_given::TableNames;
 use a429_import::ImportOptions;
 use a429_recordings::judge::judge_reply;
-use a429_recordings::simulate::{LogNames, LogView, SimulationForm, simulate};
+use a429_recordings::simulate::simulate;
 use a429_recordings::survey::survey_reply;
 use a429_replay::replay::replay;
 use a429_replay::views::ReplayForm;
@@ -167,18 +165,6 @@ fn answer_whole<F: FileReader, O: Output>(
     put_reply(alloc, reply, trouble_of(asked.verb), out)
 }
 
-/// The names of the logs that a request has after its table, and which of their words it asks for.
-fn simulated_logs<'a>(asked: &'a Asked) -> LogNames<'a>
-    ensures logs { logs_named result ≡ (asked_of asked.now).second ∷ (asked_of asked.now).more }
-    ensures view { view_named result ≡ whole_view (asked_of asked.now).given }
-{
-    LogNames {
-        first: asked.second,
-        more: &asked.more,
-        view: LogView::whole(asked),
-    }
-}
-
 /// Answers by a command that prints line by line.
 fn answer_by_lines<F: FileReader, O: Output>(
     alloc: Global,
@@ -210,18 +196,7 @@ fn answer_by_lines<F: FileReader, O: Output>(
             let table = TableNames::of(asked);
             replay(alloc, files, table, second, more, &view, warnings, out)
         }
-        Verb::Simulate => {
-            let form = SimulationForm::of(asked);
-            simulate(
-                alloc,
-                files,
-                TableNames::of(asked),
-                simulated_logs(asked),
-                form,
-                warnings,
-                out,
-            )
-        }
+        Verb::Simulate => simulate(alloc, files, asked, warnings, out),
         _ => unreachable!(),
     }
 }
