@@ -12,7 +12,7 @@ const NO_TEXT: &[u8] = b"\xff";
 const NO_MEMORY: &[u8] = b"\xffno memory";
 
 /// How many lines a piece of a file has.
-const PIECE: usize = 6;
+const PIECE: usize = 3;
 
 /// Files in memory.
 #[derive(Drop)]

@@ -143,28 +143,6 @@ fn reply_to<F: FileReader>(
     }
 }
 
-/// Answers by a command that prints nothing before it has its whole answer.
-fn answer_whole<F: FileReader, O: Output>(
-    alloc: Global,
-    asked: &Asked,
-    files: &mut F,
-    warnings: &mut Vec<Warning>,
-    out: &mut O,
-) -> Result<Answered, OutputFault>
-    requires { is_whole asked.now.verb ≡ true }
-    ensures read { HasRead F.answers (λ file. IfOk result
-        (IsPut (IsReplyOrMemory file (asked_of asked.now)) (O.contents out.old) (O.contents out.new))) files.old files.new }
-    ensures silent { HasRead F.answers (λ file. IsSilent file (asked_of asked.now)
-        → warnings.new.items ≡ warnings.old.items) files.old files.new }
-    ensures status { IfOk result (λ status. status ≤ trouble_of asked.now.verb) }
-    ensures few { IfOk result (λ status. status ≤ 2) }
-    ensures flushed { OnOk result (IsTrue (O.is_flushed out.new)) }
-    ensures faults { CountsFault result (O.failures out.old) (O.failures out.new) }
-{
-    let reply = reply_to(alloc, asked, files, warnings);
-    put_reply(alloc, reply, trouble_of(asked.verb), out)
-}
-
 /// Answers by a command that prints line by line.
 fn answer_by_lines<F: FileReader, O: Output>(
     alloc: Global,
@@ -230,7 +208,8 @@ fn answer<F: FileReader, O: Output>(
     ensures faults { CountsFault result (O.failures out.old) (O.failures out.new) }
 {
     if is_whole(asked.verb) {
-        answer_whole(alloc, asked, files, warnings, out)
+        let reply = reply_to(alloc, asked, files, warnings);
+        put_reply(alloc, reply, trouble_of(asked.verb), out)
     } else {
         answer_by_lines(alloc, asked, files, warnings, out)
     }

@@ -29,9 +29,9 @@ pub record IsIndexed (duties : List Duty) (first next : List ℕ) : Type 0 where
 
 -- ---- the words of a group
 
--- a word, if it is wanted
+-- a word if this is so, otherwise none
 abbrev pub marks_if : Bool → Mark → List Mark
-marks_if wanted mark = if wanted then mark ∷ [] else []
+marks_if keeps mark = if keeps then mark ∷ [] else []
 
 -- no list has a word
 abbrev pub AreEmpty : List (List Mark) → Type 0

@@ -16,9 +16,13 @@ texts_in pieces = map (λ piece. piece.items) pieces
 abbrev pub lines_in : List (List ℕ) → List (List ℕ)
 lines_in texts = flat_map (parts_of LineFeed) texts
 
+-- the lines of a text and of those after it, with their numbers from this one on
+abbrev pub lines_from : ℕ → List ℕ → List (List ℕ) → List (ℕ × List ℕ)
+lines_from n text texts = numbered n (parts_of LineFeed text ++ lines_in texts)
+
 -- the lines of a log with this first text, and then these
 abbrev pub first_lines : List ℕ → List (List ℕ) → List (ℕ × List ℕ)
-first_lines text texts = numbered 1 (parts_of LineFeed (without_byte_order_mark text) ++ lines_in texts)
+first_lines text texts = lines_from 1 (without_byte_order_mark text) texts
 
 -- ---- what is left
 

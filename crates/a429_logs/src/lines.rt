@@ -18,11 +18,10 @@ pub struct Lines<'t> {
 }
 
 impl<'t> Lines<'t> {
-    ghost use Rattle.a429_logs.specs.LogFields.{Takes, parts_of};
-    ghost use Rattle.a429_logs.specs.declared.fields.Mark.TheVariants.{LineFeed};
-    ghost use Rattle.std.specs.Prelude.{◌+◌, ◌++◌, ◌<◌, if◌then◌else◌, IfSome, drop, nat_lt};
+    ghost use Rattle.a429_logs.specs.LogFields.{Takes};
+    ghost use Rattle.std.specs.Prelude.{◌+◌, ◌<◌, if◌then◌else◌, IfSome, drop, nat_lt};
     ghost use Rattle.a429_logs.specs.Logs.{are_no_rows, are_passed, joined, lines_of, numbered, one_more};
-    ghost use Rattle.a429_logs.specs.LogPieces.{IsBetweenIn, TakesHere, first_lines, left_in, lines_in, next_in, pieces_in, taken_in, texts_in, texts_left};
+    ghost use Rattle.a429_logs.specs.LogPieces.{IsBetweenIn, TakesHere, first_lines, left_in, lines_from, lines_in, next_in, pieces_in, taken_in, texts_in, texts_left};
 
     /// The lines of a first text, and then those of the pieces from this number on.
     #[tactic(auto, unfolding(crate::specs::LogPieces::left_in))]
@@ -104,8 +103,7 @@ impl<'t> Lines<'t> {
     #[inline(always)]
     #[tactic(auto, unfolding(crate::specs::LogPieces::left_in))]
     pub fn text(&self) -> Option<&'t [u8]>
-        ensures { IfSome result (λ text. left_in self.now
-            ≡ numbered (one_more (taken_in self.now)) (parts_of LineFeed text.now ++ lines_in (texts_left self.now))) }
+        ensures { IfSome result (λ text. left_in self.now ≡ lines_from (one_more (taken_in self.now)) text.now (texts_left self.now)) }
     {
         self.here
     }
@@ -116,7 +114,7 @@ impl<'t> Lines<'t> {
     pub fn take_line(&mut self, text: &'t [u8], end: usize) -> usize
         requires { end < length text.now }
         ensures number { result ≡ one_more (taken_in self.old) }
-        ensures lines { left_in self.new ≡ numbered (one_more result) (parts_of LineFeed (drop (end + 1) text.now) ++ lines_in (texts_left self.old)) }
+        ensures lines { left_in self.new ≡ lines_from (one_more result) (drop (end + 1) text.now) (texts_left self.old) }
         ensures pieces { pieces_in self.new ≡ pieces_in self.old }
         ensures next { next_in self.new ≡ next_in self.old }
     {

@@ -72,13 +72,6 @@ pub struct LogReader<'r, 't> {
     lines: Lines<'t>,
 }
 
-impl LogPoint<'_> {
-    /// How many lines were taken, for a hint. No contract rests on it.
-    pub fn lines(&self) -> usize {
-        self.taken
-    }
-}
-
 impl<'r, 't> LogReader<'r, 't> {
     ghost use Rattle.a429_logs.specs.LogFields.{Takes};
     ghost use Rattle.std.specs.Prelude.{◌<◌, Err, IfSome, Option, Some, ℕ, option_map};

@@ -14,6 +14,7 @@ use Rattle.a429_pack.proofs.Tables.{kept_read, padded-set}
 use Rattle.a429_slots.specs.declared.group_plan.GroupPlan.TheInside.{Inside}
 use Rattle.a429_slots.specs.Columns.{AreColumns, placed_in, table_in}
 use Rattle.a429_slots.specs.Kept.{stretches_of}
+use Rattle.a429_slots.specs.Laid.{laid_in, nothing_laid}
 use Rattle.a429_slots.specs.Tables.{Placed, SlotTable, placed_at, unplaced}
 
 -- ---- lists of equal length
@@ -107,6 +108,14 @@ part_kept f p t o is below = ap (λ (u : SlotTable). option_map f (slice_get u.o
 -- the running sums are those of the table's stretches
 pub sums_kept : {n : ℕ} (p : Inside n) → AreColumns n p → p.sums ≡ stretches_of (table_in p)
 sums_kept {n} p w = sym (ap (λ (q : Inside n). q.sums) w.kept)
+
+-- the output at a place of the order, and the begin of its block
+pub laid_kept : {n : ℕ} (p : Inside n) → AreColumns n p → (k : ℕ) → k < length (table_in p).order
+    → get_or p.laid k nothing_laid ≡ laid_in (table_in p) (get_or (table_in p).order k 0)
+laid_kept {n} p w k below =
+    ap (λ (q : Inside n). get_or q.laid k nothing_laid) (sym w.kept)
+    ∙ kept_read nothing_laid n (map (laid_in (table_in p)) (table_in p).order) k (omega (arith, below, length-map (table_in p).order (laid_in (table_in p))))
+    ∙ get_or-map (laid_in (table_in p)) (table_in p).order k 0 nothing_laid below
 
 -- the values of a column are the parts of the outputs
 pub column_is : {A : Type 0} (d : A) (n count : ℕ) (f : Placed → A) (at : ℕ → Placed) (xs ys : List A) → ((o : ℕ) → f (at o) ≡ get_or xs o d) → xs ≡ padded d n ys → length ys ≡ count

@@ -19,11 +19,13 @@ use Rattle.a429_pack.specs.Orders.{NamesEachOnce}
 use Rattle.a429_pack.specs.Schedules.{IsExactlyPeriodic}
 use Rattle.a429_pack.proofs.Tables.{kept_read, padded-front}
 use Rattle.a429_slots.specs.declared.group_plan.GroupPlan.TheInside.{Inside}
+use Rattle.a429_slots.specs.declared.group_plan.LaidOutput.{LaidOutput}
 use Rattle.a429_slots.specs.declared.group_plan.SendLimits.{SendLimits}
 use Rattle.a429_slots.specs.declared.group_plan.SlotPlace.{SlotPlace}
 use Rattle.a429_slots.specs.declared.moves.Block.{Block}
 use Rattle.a429_slots.specs.Columns.{AreColumns, placed_in, table_in}
 use Rattle.a429_slots.specs.Kept.{HoldsJustItsCells, IsTable, begin_of, end_of, steps_from}
+use Rattle.a429_slots.specs.Laid.{laid_by, laid_in, nothing_laid}
 use Rattle.a429_slots.specs.Moves.{AreApart, AreInside, HasOverlap, HaveCommonCell, IsInside, IsMoved, block_at, block_of, blocks_of, place_in}
 use Rattle.a429_slots.specs.Tables.{Placed, SlotTable, demands_of, placed_at, share_of, unlimited, unplaced}
 use Rattle.a429_slots.proofs.Columns.{length-table, map_where, mapped_at, placed_kept}
@@ -136,7 +138,7 @@ module _ (frame : ℕ) (places : List SlotPlace) (blocks : List Block) (S : AreS
 abbrev pub moved_in : {n : ℕ} → Inside n → List SlotPlace → List Block → Inside n
 moved_in {n} p places blocks = record p {
   sums = steps_from 0 (ends_of blocks);
-  order = padded 0 n (map (λ (b : Block). b.output) blocks);
+  laid = padded nothing_laid n (map laid_by blocks);
   on_bus = padded 0 n (map (λ (q : SlotPlace). q.bus) places);
   offsets = padded 0 n (map (λ (q : SlotPlace). q.offset) places);
 }
@@ -220,8 +222,9 @@ module _ (n : ℕ) (p : Inside n) (places : List SlotPlace) (blocks : List Block
 
   order : u.order ≡ map (λ (b : Block). b.output) blocks
   order =
-      padded-front 0 n (map (λ (b : Block). b.output) blocks) (length (steps_from 0 (ends_of blocks)))
-      (length-map blocks (λ (b : Block). b.output) ∙ count_blocks ∙ count ∙ sym count_sums)
+      ap (map (λ (x : LaidOutput). x.output))
+      (padded-front nothing_laid n (map laid_by blocks) (length (steps_from 0 (ends_of blocks))) (length-map blocks laid_by ∙ count_blocks ∙ count ∙ sym count_sums))
+      ∙ map-map (λ (x : LaidOutput). x.output) laid_by blocks
 
   order_at : (k : ℕ) → k < length places → get_or u.order k 0 ≡ (block_at blocks k).output
   order_at k below = ap (λ (xs : List ℕ). get_or xs k 0) order ∙ number_at p.frame places blocks M.sorted k below
@@ -236,13 +239,20 @@ module _ (n : ℕ) (p : Inside n) (places : List SlotPlace) (blocks : List Block
       let b = block_is p.frame places blocks M.sorted k below in
       ap (λ (q : SlotPlace). q.bus * 2 ^ p.frame + reversed p.frame q.offset + 2 ^ p.frame / 2 ^ q.period) (place_at (block_at blocks k).output b.known) ∙ ap (λ (z : Block). z.end) (sym b.is)
 
-  ends : map (end_of u) u.order ≡ ends_of blocks
-  ends =
+  -- what is so of the block of each output, in the order of the blocks
+  each_in_order : {A : Type 0} (d : A) (f : ℕ → A) (part : Block → A) → ((k : ℕ) → k < length places → f (block_at blocks k).output ≡ part (block_at blocks k)) → map f u.order ≡ map part blocks
+  each_in_order d f part same =
       let long_order : length u.order ≡ length places = ap length order ∙ length-map blocks (λ (b : Block). b.output) ∙ count_blocks in
-      ext_get_or 0 (map (end_of u) u.order) (ends_of blocks) (length-map u.order (end_of u) ∙ long_order ∙ sym (length-map blocks (λ (b : Block). b.end) ∙ count_blocks)) (λ k below.
-      let inside : k < length places = omega (arith, below, length-map u.order (end_of u), long_order) in
-      get_or-map (end_of u) u.order k 0 0 (omega (arith, inside, long_order)) ∙ ap (end_of u) (order_at k inside) ∙ end_at k inside
-      ∙ sym (get_or-map (λ (b : Block). b.end) blocks k no_block 0 (omega (arith, inside, count_blocks))))
+      ext_get_or d (map f u.order) (map part blocks) (length-map u.order f ∙ long_order ∙ sym (length-map blocks part ∙ count_blocks)) (λ k below.
+      let inside : k < length places = omega (arith, below, length-map u.order f, long_order) in
+      get_or-map f u.order k 0 d (omega (arith, inside, long_order)) ∙ ap f (order_at k inside) ∙ same k inside
+      ∙ sym (get_or-map part blocks k no_block d (omega (arith, inside, count_blocks))))
+
+  laid : map (laid_in u) u.order ≡ map laid_by blocks
+  laid = each_in_order nothing_laid (laid_in u) laid_by (λ k below. ap (λ (x : ℕ). record { output = (block_at blocks k).output; begin = x }) (begin_at k below))
+
+  ends : map (end_of u) u.order ≡ ends_of blocks
+  ends = each_in_order 0 (end_of u) (λ (b : Block). b.end) end_at
 
   -- ---- the table
 
@@ -319,7 +329,7 @@ module _ (n : ℕ) (p : Inside n) (places : List SlotPlace) (blocks : List Block
       buses = p.buses;
       sums = ap (steps_from 0) ends i;
       filled = (filled ∙ ap (λ (q : Inside n). q.filled) M.old.kept) i;
-      order = ap (padded 0 n) order i;
+      laid = ap (padded nothing_laid n) laid i;
       sources = (ap (padded 0 n) sources ∙ ap (λ (q : Inside n). q.sources) M.old.kept) i;
       on_bus = ap (padded 0 n) (column (λ (q : SlotPlace). q.bus)) i;
       offsets = ap (padded 0 n) (column (λ (q : SlotPlace). q.offset)) i;

@@ -1,11 +1,11 @@
 -- The stretches of a table: each is a block with the free places before it.
-use Rattle.std.proofs.Common.{◌≡◌, ℕ, zero, suc, ◌+◌, ◌-◌, ◌*◌, ◌%◌, ◌<◌, ◌≤◌, ◌↔◌, List, [], ◌∷◌, length, take, get_or, map, refl, sym, ap, ◌∙◌, subst, arith}
+use Rattle.std.proofs.Common.{◌≡◌, ℕ, zero, suc, ◌+◌, ◌-◌, ◌*◌, ◌%◌, ◌<◌, ◌≤◌, List, [], ◌∷◌, length, take, get_or, map, refl, sym, ap, ◌∙◌, subst, arith}
 use Rattle.std.proofs.lemmas.List.{length-map, get_or-map}
 use Rattle.std.proofs.lemmas.List.Sums.{sum_by-cons}
 use Rattle.a429_grid.specs.Reversal.{reversed}
 use Rattle.a429_pack.specs.Sums.{start_of, Holds}
 use Rattle.a429_pack.proofs.Tables.{start_more}
-use Rattle.a429_slots.specs.Tables.{SlotTable, frame_of, share_of}
+use Rattle.a429_slots.specs.Tables.{SlotTable, frame_of}
 use Rattle.a429_slots.specs.Kept.{BlocksFollow, HoldsCell, begin_of, end_of, steps_from, stretches_of}
 
 pub length-steps : (s : ℕ) (ends : List ℕ) → length (steps_from s ends) ≡ length ends
@@ -90,10 +90,3 @@ module _ (t : SlotTable) (follow : BlocksFollow t) (long : length t.order ≡ le
       → Holds (stretches_of t) (bus * frame_of t + reversed t.frame (slot % frame_of t)) k
   stretch_holds k bus slot below holds =
       (omega (arith, below, length-stretches t, long), omega (arith, stretch_begin k below, holds.0), omega (arith, stretch_end k below, holds.1))
-
-  -- the block has a place of the stretch if and only if no more of the stretch is left there than the block is long
-  pub left_of_stretch : (k cell : ℕ) → Holds (stretches_of t) cell k
-      → (get_or (stretches_of t) k 0 - (cell - start_of (stretches_of t) k) ≤ share_of t (get_or t.order k 0)) ↔ ((begin_of t (get_or t.order k 0) ≤ cell) × (cell < end_of t (get_or t.order k 0)))
-  left_of_stretch k cell (below, low, high) =
-      let end : start_of (stretches_of t) k + get_or (stretches_of t) k 0 ≡ end_of t (get_or t.order k 0) = stretch_end k (omega (arith, below, length-stretches t, long)) in
-      (λ few. (omega (arith, end, few), omega (arith, end, high)), λ both. omega (arith, end, both.0))

@@ -2,7 +2,9 @@
 use Rattle.std.proofs.Common.{◌≡◌, ℕ, zero, suc, ◌+◌, ◌-◌, ◌*◌, ◌/◌, ◌%◌, ◌^◌, ◌<◌, ◌≤◌, List, length, take, get_or, map, sum, arith, refl, ap, ◌∙◌, sym, subst}
 use Rattle.std.specs.List.{AllByRecursion, range_with_len}
 use Rattle.std.specs.List.Sorted.{IsPermutation}
-use Rattle.std.proofs.lemmas.List.{length-map, get_or-map}
+use Rattle.std.proofs.lemmas.List.{ext_get_or, length-map, get_or-map}
+use Rattle.std.proofs.lemmas.List.FromFn.{fill_by_all, get_or-map-range_with_len, length-map-range_with_len}
+use Rattle.std.proofs.lemmas.Simd.{map-map}
 use Rattle.std.proofs.lemmas.Nat.{pow-add, pow_pos, shl-shr, div_below, mod_below}
 use Rattle.std.proofs.Math.Nat.{one-le-mul}
 use Rattle.a429_grid.specs.Grid.{IsLeastSpacing, least_spacing}
@@ -20,10 +22,12 @@ use Rattle.a429_pack.specs.Sums.{start_of, Holds}
 use Rattle.a429_pack.proofs.Packings.{demand_over}
 use Rattle.a429_pack.proofs.Tables.{padded-front, start_more}
 use Rattle.a429_slots.specs.declared.group_plan.GroupPlan.TheInside.{Inside}
+use Rattle.a429_slots.specs.declared.group_plan.LaidOutput.{LaidOutput}
 use Rattle.a429_slots.specs.declared.group_plan.SendLimits.{SendLimits}
 use Rattle.a429_slots.specs.Tables.{Placed, SlotTable, demands_of, placed_at, share_of, unlimited, unplaced}
 use Rattle.a429_slots.specs.Kept.{BeginsAt, HoldsCell, HoldsJustItsCells, IsTable, begin_of, end_of, steps_from, stretches_of}
 use Rattle.a429_slots.specs.Columns.{AreColumns, placed_in, table_in}
+use Rattle.a429_slots.specs.Laid.{laid_at, laid_in as in_table, nothing_laid}
 use Rattle.a429_slots.specs.Asked.{AreBusesOf, AreOffsetsOf, IsTableOf, limits_at}
 use Rattle.a429_slots.proofs.Stretches.{steps_are}
 use Rattle.a429_slots.proofs.Columns.{column_is, length-table, map_where, mapped_at, placed_kept}
@@ -41,7 +45,7 @@ pub record AreFilled (n : ℕ) (l : Layout) (rows : List OutputRow) (ds : List D
   pub asked_long : length ds ≡ length l.inputs
   pub greatest : l.frame ≡ frame_of ds
   pub shares : l.demands ≡ map (λ i. 2 ^ l.frame / period_of (demand_at ds i)) l.inputs
-  pub order : c.order ≡ padded 0 n l.inputs
+  pub laid_out : c.laid ≡ padded nothing_laid n (map (laid_at l) (range_with_len 0 (length l.inputs)))
   pub sources : c.sources ≡ padded 0 n (map (λ (r : OutputRow). r.source) rows)
   pub periods : c.periods ≡ padded 0 n (map exponent_of ds)
   pub limits : c.limits ≡ padded unlimited n (map (limits_at rate) rows)
@@ -89,7 +93,13 @@ module _ (n : ℕ) (l : Layout) (rows : List OutputRow) (ds : List Demand) (c : 
   -- ---- each column
 
   order : (table l c).order ≡ l.inputs
-  order = ap (take (length l.demands)) p.order ∙ padded-front 0 n l.inputs (length l.demands) p.each.length
+  order =
+      let places : List ℕ = range_with_len 0 (length l.inputs) in
+      let count : length (map (laid_at l) places) ≡ length l.inputs = length-map-range_with_len (laid_at l) 0 (length l.inputs) in
+      ap (λ (xs : List LaidOutput). map (λ (x : LaidOutput). x.output) (take (length l.demands) xs)) p.laid_out
+      ∙ ap (map (λ (x : LaidOutput). x.output)) (padded-front nothing_laid n (map (laid_at l) places) (length l.demands) (count ∙ p.each.length))
+      ∙ map-map (λ (x : LaidOutput). x.output) (laid_at l) places
+      ∙ sym (fill_by_all (λ k. get_or l.inputs k 0) l.inputs (length l.inputs) 0 refl (λ k below. refl))
 
   sources : map (λ x. x.source) (table l c).outputs ≡ map (λ (r : OutputRow). r.source) rows
   sources =
@@ -177,6 +187,19 @@ module _ (n : ℕ) (l : Layout) (rows : List OutputRow) (ds : List Demand) (c : 
       ∙ ap (λ z. s / 2 ^ l.frame * 2 ^ l.frame + z) (reversed_back l.frame (s % 2 ^ l.frame) (mod_below s (2 ^ l.frame) (pow_pos l.frame)))
       ∙ quotient_back s (2 ^ l.frame)
 
+  -- what is kept of an output
+  same_laid : (a b x y : ℕ) → a ≡ b → x ≡ y → ◌≡◌ {A = LaidOutput} (record { output = a; begin = x }) (record { output = b; begin = y })
+  same_laid a b x y outputs begins = λ i. record { output = outputs i; begin = begins i }
+
+  laid : map (in_table (table l c)) (table l c).order ≡ map (laid_at l) (range_with_len 0 (length l.inputs))
+  laid =
+      ap (map (in_table (table l c))) order
+      ∙ ext_get_or nothing_laid (map (in_table (table l c)) l.inputs) (map (laid_at l) (range_with_len 0 (length l.inputs)))
+      (length-map l.inputs (in_table (table l c)) ∙ sym (length-map-range_with_len (laid_at l) 0 (length l.inputs))) (λ k below.
+      let inside : k < length l.inputs = omega (arith, below, length-map l.inputs (in_table (table l c))) in
+      get_or-map (in_table (table l c)) l.inputs k 0 nothing_laid inside ∙ same_laid _ _ _ _ refl (begin_at k inside)
+      ∙ sym (get_or-map-range_with_len (laid_at l) 0 (length l.inputs) k k nothing_laid inside (omega arith)))
+
   end_at : (k : ℕ) → k < length l.inputs → end_of (table l c) (get_or l.inputs k 0) ≡ start_of l.demands k + get_or l.demands k 0
   end_at k below = omega (arith, begin_at k below, share_at k below)
 
@@ -260,7 +283,7 @@ module _ (n : ℕ) (l : Layout) (rows : List OutputRow) (ds : List Demand) (c : 
       buses = l.buses;
       sums = stretches i;
       filled = ap sum demands i;
-      order = (ap (padded 0 n) order ∙ sym p.order) i;
+      laid = (ap (padded nothing_laid n) laid ∙ sym p.laid_out) i;
       sources = (ap (padded 0 n) sources ∙ sym p.sources) i;
       on_bus = (ap (padded 0 n) buses ∙ sym p.bus_rest) i;
       offsets = (ap (padded 0 n) offsets ∙ sym p.offset_rest) i;

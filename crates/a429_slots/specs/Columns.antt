@@ -4,6 +4,7 @@ use Rattle.std.specs.List.{range_with_len}
 use Rattle.a429_pack.specs.Kept.{padded}
 use Rattle.a429_slots.specs.declared.group_plan.GroupPlan.TheInside.{Inside}
 use Rattle.a429_slots.specs.Kept.{IsTable, stretches_of}
+use Rattle.a429_slots.specs.Laid.{laid_in, nothing_laid}
 use Rattle.a429_slots.specs.Tables.{Placed, SlotTable, demands_of, unlimited}
 
 -- an output, as the columns have it
@@ -20,7 +21,7 @@ table_in p = record {
   frame = p.frame;
   buses = p.buses;
   outputs = map (placed_in p) (range_with_len 0 (length p.sums));
-  order = take (length p.sums) p.order;
+  order = map (λ x. x.output) (take (length p.sums) p.laid);
 }
 
 -- the columns of a table, each in an array of n
@@ -30,7 +31,7 @@ columns_of n t = record {
   buses = t.buses;
   sums = stretches_of t;
   filled = sum (demands_of t);
-  order = padded 0 n t.order;
+  laid = padded nothing_laid n (map (laid_in t) t.order);
   sources = padded 0 n (map (λ x. x.source) t.outputs);
   on_bus = padded 0 n (map (λ x. x.place.bus) t.outputs);
   offsets = padded 0 n (map (λ x. x.place.offset) t.outputs);

@@ -1,6 +1,7 @@
 pub mod Tables
 pub mod Times
 pub mod Kept
+pub mod Laid
 pub mod Columns
 pub mod Planned
 pub mod OnePlan

@@ -1,9 +1,9 @@
 //! The slot table of one group of outputs.
 ghost use Rattle.std.specs.Prelude.{◌≡◌, ℕ, ◌+◌, ◌<◌, ◌≤◌, ◌/◌, ◌^◌, ◌↔◌, [], get_or, length, map, option_map, slice_get, sum, true, None, Err, Some, IfOk, IfSome, IsTrue};
 
-use crate::layout::{order_in, periods_in, place_of_cell, places_in, sources_in};
+use crate::layout::{laid_outputs, periods_in, place_of_cell, places_in, sources_in};
 use crate::limits::limits_in;
-use crate::moves::{MoveFault, buses_in, offsets_in, order_of_blocks, sorted_blocks, stretches_of};
+use crate::moves::{MoveFault, buses_in, laid_by_blocks, offsets_in, sorted_blocks, stretches_of};
 use crate::outputs::OutputId;
 use a429_equipment::OutputRow;
 use a429_grid::Period;
@@ -31,6 +31,19 @@ pub struct SendLimits {
     pub spacing: u32,
 }
 
+/// An output of the layout: its number, and the place in a frame at which its block begins.
+#[derive(Clone, Copy)]
+pub struct LaidOutput {
+    pub output: usize,
+    pub begin: u32,
+}
+
+/// What stands in places of the layout that no output has.
+pub const NOTHING_LAID: LaidOutput = LaidOutput {
+    output: 0,
+    begin: 0,
+};
+
 /// The slot table of a group of at most `N` outputs. Each output has cells of its own, once in every period.
 #[derive(Clone, Copy)]
 pub struct GroupPlan<const N: usize> {
@@ -38,7 +51,7 @@ pub struct GroupPlan<const N: usize> {
     buses: u32,
     sums: SumTable<N>,
     filled: u32,
-    order: [usize; N],
+    laid: [LaidOutput; N],
     sources: [usize; N],
     on_bus: [u32; N],
     offsets: [u32; N],
@@ -86,7 +99,7 @@ impl<const N: usize> GroupPlan<N> {
             buses: 0,
             sums: SumTable::new(),
             filled: 0,
-            order: [0; N],
+            laid: [NOTHING_LAID; N],
             sources: [0; N],
             on_bus: [0; N],
             offsets: [0; N],
@@ -122,7 +135,7 @@ impl<const N: usize> GroupPlan<N> {
             buses: packed.buses(),
             sums: *packed.sums(),
             filled: packed.sums().total(),
-            order: order_in(packed),
+            laid: laid_outputs(packed),
             sources: sources_in(outputs),
             on_bus,
             offsets,
@@ -157,7 +170,7 @@ impl<const N: usize> GroupPlan<N> {
             buses: self.buses,
             sums,
             filled: self.filled,
-            order: order_of_blocks(&blocks),
+            laid: laid_by_blocks(&blocks),
             sources: self.sources,
             on_bus: buses_in(places),
             offsets: offsets_in(places),
@@ -211,7 +224,7 @@ impl<const N: usize> GroupPlan<N> {
     {
         orders_name_each_once();
         prove!(k < self.sums.len());
-        OutputId::new(self.order[k])
+        OutputId::new(self.laid[k].output)
     }
 
     /// The output in a cell: on this bus, in this slot counted from the frame's start. Slots past the frame are those
@@ -234,35 +247,24 @@ impl<const N: usize> GroupPlan<N> {
         let (found, probes) = self.sums.find_counted(cell);
         match found {
             Some(place) => {
-                let output = OutputId::new(self.order[place]);
-                let there = self.has_cell(place, output, cell);
+                let output = OutputId::new(self.laid[place].output);
+                let there = self.has_cell(place, cell);
                 (there.then_some(output), probes)
             }
             None => (None, probes),
         }
     }
 
-    /// Whether an output has a cell. `place` is the place of the output in the layout, and `cell` is the place of the cell
-    /// among all. The stretch of the output has the cell.
-    fn has_cell(&self, place: usize, output: OutputId, cell: u32) -> bool
-        requires known { output < length (outputs_of self.now) }
-        requires named { get_or (order_of self.now) place 0 ≡ output }
-        requires held { Holds (stretches_of self.now) cell place }
-        ensures { IsTrue result ↔ (begin_of self.now output ≤ cell) × (cell < end_of self.now output) }
+    /// Whether the output at this place of the layout has a cell. `cell` is the place of the cell among all. The stretch of
+    /// the output has the cell.
+    fn has_cell(&self, place: usize, cell: u32) -> bool
+        requires { Holds (stretches_of self.now) cell place }
+        ensures { IsTrue result ↔ (begin_of self.now (get_or (order_of self.now) place 0) ≤ cell)
+            × (cell < end_of self.now (get_or (order_of self.now) place 0)) }
     {
         let _limits = &self.limits;
-        let left = self.sums.demand(place) - (cell - self.sums.start(place));
-        // a stretch ends with its block, so the output has the last places of its stretch, as many as its share
-        left <= self.share(output)
-    }
-
-    /// How many slots of a frame an output has.
-    fn share(&self, output: OutputId) -> u32
-        requires { output < length (outputs_of self.now) }
-        ensures { result ≡ share_of self.now output }
-    {
-        let number = output.number();
-        self.frame.slots() >> self.periods[number]
+        // a stretch ends with its block
+        self.laid[place].begin <= cell
     }
 
     /// The output in a cell, found in the way of `at_counted`; `None`: an empty cell, or a bus outside the plan.

@@ -1,24 +1,30 @@
 //! The columns of a slot table.
 ghost use Rattle.std.specs.Prelude.{◌≡◌, ◌+◌, ◌<◌, ◌≤◌, ◌*◌, ◌%◌, ◌^◌, length, map, take};
+ghost use Rattle.std.specs.List.{range_with_len};
 ghost use Rattle.a429_grid.specs.Reversal.{reversed};
 ghost use Rattle.a429_pack.specs.Demands.{exponent_of};
 ghost use Rattle.a429_pack.specs.Kept.{padded};
 ghost use Rattle.a429_slots.specs.Asked.{AreBusesOf, AreOffsetsOf};
+ghost use Rattle.a429_slots.specs.Laid.{laid_at, nothing_laid};
 
+use crate::group_plan::{LaidOutput, NOTHING_LAID};
 use a429_equipment::OutputRow;
 use a429_grid::{Period, reverse};
 use a429_pack::laws::orders_name_each_once;
 use a429_pack::{Demand, Packed};
 
-/// The numbers of the outputs in layout order.
-pub fn order_in<const N: usize>(packed: &Packed<N>) -> [usize; N]
-    ensures { result ≡ padded 0 N packed.now.inputs }
+/// The outputs in layout order. The block of each begins with its stretch.
+pub fn laid_outputs<const N: usize>(packed: &Packed<N>) -> [LaidOutput; N]
+    ensures { result ≡ padded nothing_laid N (map (laid_at packed.now) (range_with_len 0 (length packed.now.inputs))) }
 {
-    let mut order = [0; N];
+    let mut laid = [NOTHING_LAID; N];
     for place in 0..packed.len() {
-        order[place] = packed.input(place);
+        laid[place] = LaidOutput {
+            output: packed.input(place),
+            begin: packed.sums().start(place),
+        };
     }
-    order
+    laid
 }
 
 /// The sources of the outputs, by their numbers.

@@ -3,9 +3,10 @@ ghost use Rattle.std.specs.Prelude.{◌≡◌, ◌<◌, ◌≤◌, ◌^◌, None
 ghost use Rattle.std.specs.List.Sorted.{IsNonDecreasingBy, IsPermutation};
 ghost use Rattle.a429_pack.specs.Kept.{padded};
 ghost use Rattle.a429_slots.specs.Kept.{steps_from};
+ghost use Rattle.a429_slots.specs.Laid.{laid_by, nothing_laid};
 ghost use Rattle.a429_slots.specs.Moves.{AreApart, HasOverlap, IsInside, block_of, blocks_of};
 
-use crate::group_plan::SlotPlace;
+use crate::group_plan::{LaidOutput, NOTHING_LAID, SlotPlace};
 use crate::layout::place_of_cell;
 use a429_grid::Period;
 use a429_pack::SumTable;
@@ -88,16 +89,19 @@ pub fn stretches_of<const N: usize>(blocks: &[Block]) -> Option<SumTable<N>>
     Some(sums)
 }
 
-/// The numbers of the outputs, in the order of their blocks.
-pub fn order_of_blocks<const N: usize>(blocks: &[Block]) -> [usize; N]
+/// The outputs in the order of their blocks.
+pub fn laid_by_blocks<const N: usize>(blocks: &[Block]) -> [LaidOutput; N]
     requires { length blocks.now ≤ N }
-    ensures { result ≡ padded 0 N (map (λ b. b.output) blocks.now) }
+    ensures { result ≡ padded nothing_laid N (map laid_by blocks.now) }
 {
-    let mut order = [0; N];
+    let mut laid = [NOTHING_LAID; N];
     for (place, block) in blocks.iter().enumerate() {
-        order[place] = block.output;
+        laid[place] = LaidOutput {
+            output: block.output,
+            begin: block.begin,
+        };
     }
-    order
+    laid
 }
 
 /// The buses of places.

@@ -1,18 +1,18 @@
 use borrow.Author.Rules.{scaled_Fits}
 use Rattle.std.proofs.Common.{◌≡◌, ◌+◌, ◌*◌, ◌%◌, ◌^◌, ◌<◌, ◌≤◌, ◌∙◌, ℕ, List, None, Some, Bool, true, false, ap, arith, get_or, length, sym, subst, zero-le}
 use Rattle.std.specs.Prelude.{Option, IfSome, IsTrue, ◌↔◌}
-use Rattle.std.proofs.lemmas.List.{get_or-take}
 use Rattle.std.proofs.lemmas.Option.{none-some, same_Some}
 use Rattle.a429_grid.specs.Reversal.{reversed}
 use Rattle.a429_pack.specs.Sums.{Holds}
 use Rattle.a429_slots.specs.declared.group_plan.GroupPlan.TheInside.{Inside}
 use Rattle.a429_slots.specs.Columns.{AreColumns, table_in}
-use Rattle.a429_slots.specs.Tables.{SlotTable, cell_at, frame_of, order_of, outputs_of, placed_at, stands_in}
+use Rattle.a429_slots.specs.Tables.{SlotTable, cell_at, frame_of, outputs_of, placed_at, stands_in}
 use Rattle.a429_slots.specs.Kept.{HoldsCell, IsTable, begin_of, end_of, stretches_of}
 use Rattle.std.specs.Bool.{then_some}
 use Rattle.a429_word.proofs.Lists.{clash}
 use Rattle.a429_slots.proofs.Cells.{HasEach, cell_found, cell_empty, cell_outside, held_by, stands_if}
-use Rattle.a429_slots.proofs.Columns.{count_kept, length-table, sums_kept}
+use Rattle.a429_slots.proofs.Columns.{count_kept, laid_kept, length-table, sums_kept}
+use Rattle.a429_slots.specs.declared.group_plan.LaidOutput.{LaidOutput}
 use Rattle.a429_slots.proofs.group_plan.GroupPlan.at_counted.Goals as goal
 use Rattle.a429_slots.proofs.group_plan.GroupPlan.at_counted.Goals.{After-new-output, Start}
 
@@ -31,7 +31,7 @@ bounds-self-inside-place g c =
     omega (arith, held.0, c.self.invariant.table.room, length-table c.self.inside)
 
 -- the array takes less than half of the addresses, as the table that it is a part of
-room : (g : _) → Start g → g.row.N * 8 < 2 ^ 63
+room : (g : _) → Start g → g.row.N * 16 < 2 ^ 63
 room g c = omega arith
 
 pub offset_bounds-self-inside-place : goal.offset_bounds-self-inside-place
@@ -84,7 +84,10 @@ below : (g : _) (c : After-new-output g) → c.in-Some.place < length c.self.ins
 below g c = (held_at c.self.inside.sums c.place_of_cell-cell.result c.in-Some.place c.find_counted-found.result.0 c.in-Some.is c.find_counted-found.ensures.found).0
 
 read : (g : _) (c : After-new-output g) → c.new-output.result ≡ get_or (table_in c.self.inside).order c.in-Some.place 0
-read g c = c.new-output.ensures ∙ sym (get_or-take (length c.self.inside.sums) c.self.inside.order c.in-Some.place 0 (below g c))
+read g c =
+    let t : SlotTable = table_in c.self.inside in
+    let each : HasEach t = c.orders_name_each_once.ensures (length t.outputs) t.order c.self.invariant.table.order in
+    c.new-output.ensures ∙ ap (λ (x : LaidOutput). x.output) (laid_kept c.self.inside c.self.invariant c.in-Some.place (omega (arith, below g c, each.length, length-table c.self.inside)))
 
 known : (g : _) (c : After-new-output g) → c.new-output.result < length (outputs_of (table_in c.self.inside))
 known g c =
@@ -98,16 +101,8 @@ has_cell-there-requires g c =
     let held : Holds c.self.inside.sums c.place_of_cell-cell.result c.in-Some.place =
     held_at c.self.inside.sums c.place_of_cell-cell.result c.in-Some.place c.find_counted-found.result.0 c.in-Some.is c.find_counted-found.ensures.found in
     let at : Holds (stretches_of t) c.place_of_cell-cell.result c.in-Some.place =
-    subst (λ (ds : List ℕ). Holds ds c.place_of_cell-cell.result c.in-Some.place) (sums_kept c.self.inside c.self.invariant) held in (
-      assumption,
-      (
-        subst (λ (u : SlotTable). c.new-output.result < length (outputs_of u)) c.self.view_is (known g c),
-        (
-          subst (λ (u : SlotTable). get_or (order_of u) c.in-Some.place 0 ≡ c.new-output.result) c.self.view_is (sym (read g c)),
-          subst (λ (u : SlotTable). Holds (stretches_of u) c.place_of_cell-cell.result c.in-Some.place) c.self.view_is at,
-        ),
-      ),
-    )
+    subst (λ (ds : List ℕ). Holds ds c.place_of_cell-cell.result c.in-Some.place) (sums_kept c.self.inside c.self.invariant) held in
+    (assumption, subst (λ (u : SlotTable). Holds (stretches_of u) c.place_of_cell-cell.result c.in-Some.place) c.self.view_is at)
 
 -- it is in the cell, or none is
 found_or_none : (t : SlotTable) (bus slot o : ℕ) (there : Bool) → there ≡ stands_in bus slot (placed_at t o) → (stands_in bus slot (placed_at t o) ≡ true → cell_at t bus slot ≡ Some o)
@@ -122,8 +117,9 @@ returns-in-Some-clause-cell g c =
     let each : HasEach t = c.orders_name_each_once.ensures (length t.outputs) t.order w.order in
     let o : ℕ = c.new-output.result in
     let has : IsTrue c.has_cell-there.result ↔ HoldsCell t o c.args.bus c.args.slot =
-    subst (λ (x : ℕ). IsTrue c.has_cell-there.result ↔ ((begin_of t o ≤ x) × (x < end_of t o))) c.place_of_cell-cell.ensures
-    (subst (λ (u : SlotTable). IsTrue c.has_cell-there.result ↔ ((begin_of u o ≤ c.place_of_cell-cell.result) × (c.place_of_cell-cell.result < end_of u o))) (sym c.self.view_is) c.has_cell-there.ensures) in
+    subst (λ (i : ℕ). IsTrue c.has_cell-there.result ↔ HoldsCell t i c.args.bus c.args.slot) (sym (read g c.before.before))
+    (subst (λ (x : ℕ). IsTrue c.has_cell-there.result ↔ ((begin_of t (get_or t.order c.in-Some.place 0) ≤ x) × (x < end_of t (get_or t.order c.in-Some.place 0)))) c.place_of_cell-cell.ensures
+    (subst (λ (u : SlotTable). IsTrue c.has_cell-there.result ↔ ((begin_of u (get_or u.order c.in-Some.place 0) ≤ c.place_of_cell-cell.result) × (c.place_of_cell-cell.result < end_of u (get_or u.order c.in-Some.place 0)))) (sym c.self.view_is) c.has_cell-there.ensures)) in
     let there : c.has_cell-there.result ≡ stands_in c.args.bus c.args.slot (placed_at t o) =
     stands_if t o c.args.bus c.args.slot c.has_cell-there.result (w.periodic o (known g c.before.before)) has in
     subst (λ (u : SlotTable). c.then_some.result ≡ cell_at u c.args.bus c.args.slot) c.self.view_is

@@ -11,6 +11,8 @@ use Rattle.a429_pack.specs.Kept.{padded}
 use Rattle.a429_pack.specs.Orders.{NamesEachOnce}
 use Rattle.a429_slots.specs.Columns.{AreColumns, table_in}
 use Rattle.a429_slots.specs.Kept.{IsTable, steps_from}
+use Rattle.a429_slots.specs.Laid.{laid_by, nothing_laid}
+use Rattle.a429_slots.specs.declared.group_plan.LaidOutput.{LaidOutput}
 use Rattle.a429_slots.specs.Moves.{AreApart, AreInside, HasOverlap, HaveCommonCell, IsInside, IsMoved, blocks_of}
 use Rattle.a429_slots.specs.Tables.{Placed, SlotTable}
 use Rattle.a429_slots.specs.declared.group_plan.GroupPlan.TheInside.{Inside}
@@ -73,8 +75,8 @@ module _ (n : ℕ) (p : Inside n) (t : SlotTable) (places : List SlotPlace) (blo
 sums_fit : (g : _) → Start g → size (layout (the_row (param 0 (number g.row.N)))) < 2 ^ 63
 sums_fit g c = omega arith
 
-eight : (g : _) → Start g → g.row.N * 8 < 2 ^ 63
-eight g c = omega arith
+sixteen : (g : _) → Start g → g.row.N * 16 < 2 ^ 63
+sixteen g c = omega arith
 
 pub stretches_of-requires : goal.stretches_of-requires
 stretches_of-requires g c =
@@ -113,8 +115,8 @@ returns-in_default-stretches_of-clause-shared g c none =
     } in
     shared _ _ _ _ _ given (subst HasOverlap c.deref.ensures.value (c.stretches_of.ensures.overlap c.in_default-stretches_of.is))
 
-pub order_of_blocks-requires : goal.order_of_blocks-requires
-order_of_blocks-requires g c =
+pub laid_by_blocks-requires : goal.laid_by_blocks-requires
+laid_by_blocks-requires g c =
     let given : AreGiven g.row.N c.self.inside c.args.self.now c.args.places.now c.in-Ok.blocks.items = record {
       old = c.self.invariant;
       is = c.self.view_is;
@@ -125,15 +127,15 @@ order_of_blocks-requires g c =
       names = c.orders_name_each_once.ensures;
       periodic = c.blocks_are_periodic.ensures c.self.inside.frame;
     } in (
-      eight g c.before.before.before.before.before.before.before.before.before.before.before.before.before,
+      sixteen g c.before.before.before.before.before.before.before.before.before.before.before.before.before,
       subst (λ (bs : List Block). length bs ≤ g.row.N) (sym c.deref-2.ensures.value) (room _ _ _ _ _ given),
     )
 
 -- the columns are those of the places
-parts : {n : ℕ} (p : Inside n) (places : List SlotPlace) (blocks : List Block) (sums order on_bus offsets : List ℕ) → sums ≡ steps_from 0 (map (λ (b : Block). b.end) blocks)
-    → order ≡ padded 0 n (map (λ (b : Block). b.output) blocks) → on_bus ≡ padded 0 n (map (λ (q : SlotPlace). q.bus) places) → offsets ≡ padded 0 n (map (λ (q : SlotPlace). q.offset) places)
-    → moved_in p places blocks ≡ record p { sums = sums; order = order; on_bus = on_bus; offsets = offsets }
-parts p places blocks sums order on_bus offsets a b c d = λ i. record p { sums = sym a i; order = sym b i; on_bus = sym c i; offsets = sym d i }
+parts : {n : ℕ} (p : Inside n) (places : List SlotPlace) (blocks : List Block) (sums : List ℕ) (laid : List LaidOutput) (on_bus offsets : List ℕ) → sums ≡ steps_from 0 (map (λ (b : Block). b.end) blocks)
+    → laid ≡ padded nothing_laid n (map laid_by blocks) → on_bus ≡ padded 0 n (map (λ (q : SlotPlace). q.bus) places) → offsets ≡ padded 0 n (map (λ (q : SlotPlace). q.offset) places)
+    → moved_in p places blocks ≡ record p { sums = sums; laid = laid; on_bus = on_bus; offsets = offsets }
+parts p places blocks sums laid on_bus offsets a b c d = λ i. record p { sums = sym a i; laid = sym b i; on_bus = sym c i; offsets = sym d i }
 
 pub invariant_of-result : goal.invariant_of-result
 invariant_of-result g c =
@@ -147,9 +149,9 @@ invariant_of-result g c =
       names = c.orders_name_each_once.ensures;
       periodic = c.blocks_are_periodic.ensures c.self.inside.frame;
     } in
-    subst (AreColumns g.row.N) (parts c.self.inside c.args.places.now c.in-Ok.blocks.items c.in-Some.sums c.order_of_blocks.result c.buses_in.result c.offsets_in.result
+    subst (AreColumns g.row.N) (parts c.self.inside c.args.places.now c.in-Ok.blocks.items c.in-Some.sums c.laid_by_blocks.result c.buses_in.result c.offsets_in.result
     (c.in-Some.ensures.stretches ∙ ap (λ (bs : List Block). steps_from 0 (map (λ (b : Block). b.end) bs)) c.deref.ensures.value)
-    (c.order_of_blocks.ensures ∙ ap (λ (bs : List Block). padded 0 g.row.N (map (λ (b : Block). b.output) bs)) c.deref-2.ensures.value) c.buses_in.ensures c.offsets_in.ensures) (are_columns _ _ _ _ (moved _ _ _ _ _ given (subst AreApart c.deref.ensures.value c.in-Some.ensures.apart)))
+    (c.laid_by_blocks.ensures ∙ ap (λ (bs : List Block). padded nothing_laid g.row.N (map laid_by bs)) c.deref-2.ensures.value) c.buses_in.ensures c.offsets_in.ensures) (are_columns _ _ _ _ (moved _ _ _ _ _ given (subst AreApart c.deref.ensures.value c.in-Some.ensures.apart)))
 
 pub returns-clause-moved : goal.returns-clause-moved
 returns-clause-moved g c =
@@ -163,9 +165,9 @@ returns-clause-moved g c =
       names = c.orders_name_each_once.ensures;
       periodic = c.blocks_are_periodic.ensures c.self.inside.frame;
     } in
-    subst (λ (p : Inside g.row.N). IsMoved c.args.self.now (table_in p) c.args.places.now) (parts c.self.inside c.args.places.now c.in-Ok.blocks.items c.in-Some.sums c.order_of_blocks.result c.buses_in.result c.offsets_in.result
+    subst (λ (p : Inside g.row.N). IsMoved c.args.self.now (table_in p) c.args.places.now) (parts c.self.inside c.args.places.now c.in-Ok.blocks.items c.in-Some.sums c.laid_by_blocks.result c.buses_in.result c.offsets_in.result
     (c.in-Some.ensures.stretches ∙ ap (λ (bs : List Block). steps_from 0 (map (λ (b : Block). b.end) bs)) c.deref.ensures.value)
-    (c.order_of_blocks.ensures ∙ ap (λ (bs : List Block). padded 0 g.row.N (map (λ (b : Block). b.output) bs)) c.deref-2.ensures.value) c.buses_in.ensures c.offsets_in.ensures)
+    (c.laid_by_blocks.ensures ∙ ap (λ (bs : List Block). padded nothing_laid g.row.N (map laid_by bs)) c.deref-2.ensures.value) c.buses_in.ensures c.offsets_in.ensures)
     (subst (λ (t : SlotTable). IsMoved t (table_in (moved_in c.self.inside c.args.places.now c.in-Ok.blocks.items)) c.args.places.now) c.self.view_is
     (is_moved _ _ _ _ (moved _ _ _ _ _ given (subst AreApart c.deref.ensures.value c.in-Some.ensures.apart))))
 
@@ -181,7 +183,7 @@ returns-clause-sound g c =
       names = c.orders_name_each_once.ensures;
       periodic = c.blocks_are_periodic.ensures c.self.inside.frame;
     } in
-    subst (λ (p : Inside g.row.N). IsTable g.row.N (table_in p)) (parts c.self.inside c.args.places.now c.in-Ok.blocks.items c.in-Some.sums c.order_of_blocks.result c.buses_in.result c.offsets_in.result
+    subst (λ (p : Inside g.row.N). IsTable g.row.N (table_in p)) (parts c.self.inside c.args.places.now c.in-Ok.blocks.items c.in-Some.sums c.laid_by_blocks.result c.buses_in.result c.offsets_in.result
     (c.in-Some.ensures.stretches ∙ ap (λ (bs : List Block). steps_from 0 (map (λ (b : Block). b.end) bs)) c.deref.ensures.value)
-    (c.order_of_blocks.ensures ∙ ap (λ (bs : List Block). padded 0 g.row.N (map (λ (b : Block). b.output) bs)) c.deref-2.ensures.value) c.buses_in.ensures c.offsets_in.ensures)
+    (c.laid_by_blocks.ensures ∙ ap (λ (bs : List Block). padded nothing_laid g.row.N (map laid_by bs)) c.deref-2.ensures.value) c.buses_in.ensures c.offsets_in.ensures)
     (is_table _ _ _ _ (moved _ _ _ _ _ given (subst AreApart c.deref.ensures.value c.in-Some.ensures.apart)))

@@ -16,7 +16,7 @@ columns g c = record {
   buses = c.buses.result;
   sums = c.sums.result.now;
   filled = c.total.result;
-  order = c.order_in.result;
+  laid = c.laid_outputs.result;
   sources = c.sources_in.result;
   on_bus = c.places_in-on_bus.result.0;
   offsets = c.places_in-on_bus.result.1;
@@ -36,7 +36,7 @@ are_filled g c = record {
   asked_long = c.requires.asked;
   greatest = c.requires.frame;
   shares = c.requires.demands;
-  order = c.order_in.ensures;
+  laid_out = c.laid_outputs.ensures;
   sources = c.sources_in.ensures;
   periods = c.periods_in.ensures;
   limits = c.limits_in.ensures;
@@ -78,13 +78,16 @@ pub spacings_are_least-requires : goal.spacings_are_least-requires
 spacings_are_least-requires g c = tt
 
 -- the widest column takes less than half of the addresses, and so does each
-wide : (g : _) → Start g → g.row.N * 12 < 2 ^ 63
+wide : (g : _) → Start g → g.row.N * 16 < 2 ^ 63
 wide g c = omega arith
 
-eight : (n : ℕ) → n * 12 < 2 ^ 63 → n * 8 < 2 ^ 63
+twelve : (n : ℕ) → n * 16 < 2 ^ 63 → n * 12 < 2 ^ 63
+twelve n all = omega arith
+
+eight : (n : ℕ) → n * 16 < 2 ^ 63 → n * 8 < 2 ^ 63
 eight n all = omega arith
 
-four : (n : ℕ) → n * 12 < 2 ^ 63 → n * 4 < 2 ^ 63
+four : (n : ℕ) → n * 16 < 2 ^ 63 → n * 4 < 2 ^ 63
 four n all = omega arith
 
 start : (g : _) → After-spacings_are_least g → Start g
@@ -106,8 +109,8 @@ sums_fit g c = omega arith
 pub sums-requires : goal.sums-requires
 sums-requires g c = (assumption, sums_fit g (start g c.before.before.before))
 
-pub order_in-requires : goal.order_in-requires
-order_in-requires g c = (assumption, eight g.row.N (wide g (start g c.before.before.before.before.before.before.before)))
+pub laid_outputs-requires : goal.laid_outputs-requires
+laid_outputs-requires g c = (assumption, (wide g (start g c.before.before.before.before.before.before.before)))
 
 pub sources_in-requires : goal.sources_in-requires
 sources_in-requires g c = (eight g.row.N (wide g (start g c.before.before.before.before.before.before.before.before)), c.requires.room)
@@ -117,4 +120,4 @@ periods_in-requires g c =
     (four g.row.N (wide g (start g c.before.before.before.before.before.before.before.before.before)), subst (λ (k : ℕ). k ≤ g.row.N) (c.requires.outputs ∙ sym c.requires.asked) c.requires.room)
 
 pub limits_in-requires : goal.limits_in-requires
-limits_in-requires g c = (wide g (start g c.before.before.before.before.before.before.before.before.before.before), (c.requires.room, (c.requires.intervals, c.requires.rate)))
+limits_in-requires g c = (twelve g.row.N (wide g (start g c.before.before.before.before.before.before.before.before.before.before)), (c.requires.room, (c.requires.intervals, c.requires.rate)))
