@@ -22,7 +22,7 @@ use Rattle.a429_cli.specs.Loads.{IsLoad, limit_of}
 use Rattle.a429_cli.specs.PlanRows.{told_plan}
 use Rattle.a429_cli.specs.SlotReplies.{HasSlots, slots_form}
 use Rattle.a429_cli.specs.Stamping.{IsStamped, stamp_line}
-use Rattle.a429_cli.specs.declared.replies.reply.Reply.{Reply}
+use Rattle.a429_console.specs.declared.reply.Reply.{Reply}
 
 -- its status, and the bytes about a proposal of a table
 abbrev pub IsReplyOnPlan : Verb → Given → List ℕ → Proposed → ℕ → List ℕ → Type 0

@@ -25,7 +25,6 @@ mod drawings;
 mod encode;
 mod findings;
 mod import;
-mod judging;
 mod keeping;
 pub mod laws;
 mod lines;
@@ -34,10 +33,8 @@ mod loads;
 mod plan_rows;
 mod plans;
 mod program;
-mod replies;
 mod slots;
 mod stamping;
-mod surveys;
 mod word;
 mod word_rows;
 

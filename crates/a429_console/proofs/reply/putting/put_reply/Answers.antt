@@ -1,8 +1,8 @@
 use Rattle.std.proofs.Common.{◌≤◌, ◌++◌, ◌∷◌, [], arith, refl}
 use Rattle.a429_console.specs.RefusalText.{refusal_line}
 use Rattle.a429_console.proofs.Refused.{both_ok}
-use Rattle.a429_cli.proofs.WholeAnswers.{done_is_few, done_put}
-use Rattle.a429_cli.proofs.replies.put_reply.Goals as goal
+use Rattle.a429_console.proofs.PutReplies.{done_is_few, done_put}
+use Rattle.a429_console.proofs.reply.putting.put_reply.Goals as goal
 
 pub returns-in-Ok-clause-put : goal.returns-in-Ok-clause-put
 returns-in-Ok-clause-put g c =

@@ -1,16 +1,21 @@
-//! Commands that print nothing before they have their whole answer: how that is put.
+//! How a reply is put.
 ghost use Rattle.std.specs.Prelude.{◌≡◌, ◌≤◌, IfOk, IsTrue, OnOk};
 ghost use Rattle.a429_console.specs.Outputs.{CountsFault, IsPut};
-ghost use Rattle.a429_cli.specs.WholeReplies.{IsReplyPut};
+ghost use Rattle.a429_console.specs.WholeReplies.{IsReplyPut, finding_status};
 
-pub mod reply;
-
-use crate::replies::reply::Reply;
-use a429_console::answered::{Answered, answer_with};
-use a429_console::output::endings::put_answer;
-use a429_console::output::{Output, OutputFault};
-use a429_console::refusals::{Refused, refuse_as};
+use crate::answered::{Answered, answer_with};
+use crate::output::endings::put_answer;
+use crate::output::{Output, OutputFault};
+use crate::refusals::{Refused, refuse_as};
+use crate::reply::Reply;
 use std::alloc::Global;
+
+/// 1 if something was found, otherwise 0.
+pub fn finding_status(found: bool) -> u8
+    ensures { result ≡ finding_status found }
+{
+    if found { 1 } else { 0 }
+}
 
 /// Puts what a command answers, or the line of its refusal. If an allocation for that line fails, the line is `refused
 /// memory`. The status is that of the reply, or `trouble` after a refusal. Error: the

@@ -1,8 +1,8 @@
 -- Commands that print nothing before they have their whole answer: the reply or the refusal, and what is put of it (profile: output).
-use Rattle.std.specs.Prelude.{◌≡◌, ◌∷◌, [], ◌++◌, ◌⊎◌, ℕ, List, Result, MatchResult, Ok, Err}
+use Rattle.std.specs.Prelude.{◌≡◌, ◌∷◌, [], ◌++◌, ◌⊎◌, ℕ, List, Bool, Result, MatchResult, Ok, Err, if◌then◌else◌}
 use Rattle.a429_console.specs.RefusalText.{IsToldOf, OrMemory, refusal_line}
 use Rattle.a429_console.specs.declared.refusals.CommandRefusal.{CommandRefusal}
-use Rattle.a429_cli.specs.declared.replies.reply.Reply.{Reply}
+use Rattle.a429_console.specs.declared.reply.Reply.{Reply}
 
 -- a reply as Says, a relation of status and bytes, has it; or a refusal that `Stands` allows, or that an allocation failed
 abbrev pub Replies : (ℕ → List ℕ → Type 0) → (CommandRefusal → Type 0) → Result Reply CommandRefusal → Type 0
@@ -17,3 +17,11 @@ IsReplyBy trouble Says Stands status bytes =
 abbrev pub IsReplyPut : ℕ → Result Reply CommandRefusal → ℕ → List ℕ → Type 0
 IsReplyPut trouble (Ok reply) status bytes = (status ≡ reply.status) × (bytes ≡ reply.bytes.items)
 IsReplyPut trouble (Err refusal) status bytes = (told : CommandRefusal) × IsToldOf refusal told × (status ≡ trouble) × (bytes ≡ refusal_line told ++ 10 ∷ [])
+
+-- such bytes, with status 0
+abbrev pub IsDone : (List ℕ → Type 0) → ℕ → List ℕ → Type 0
+IsDone Says status bytes = Says bytes × (status ≡ 0)
+
+-- 1 if something is found
+abbrev pub finding_status : Bool → ℕ
+finding_status found = if found then 1 else 0

@@ -1,7 +1,10 @@
-//! What a command answers.
+//! What a command answers that prints nothing before it has its whole answer.
 ghost use Rattle.std.specs.Prelude.{◌≤◌};
 
-use a429_console::answered::Found;
+mod putting;
+
+use crate::answered::Found;
+pub use crate::reply::putting::{finding_status, put_reply};
 
 /// What a command prints, its status, and what it leaves for a hint.
 #[derive(Drop)]

@@ -4,9 +4,9 @@ use Rattle.a429_console.proofs.ReadingParts.{read_weaker}
 use Rattle.a429_arguments.specs.Given.{text_given}
 use Rattle.a429_arguments.specs.Requests.{asked_of}
 use Rattle.a429_arguments.specs.declared.options.OptionName.TheVariants as option
-use Rattle.a429_cli.specs.SurveyReplies.{SurveyedBy, UnsurveyedBy}
-use Rattle.a429_cli.specs.WholeReplies.{Replies}
-use Rattle.a429_cli.proofs.surveys.survey_reply.Goals as goal
+use Rattle.a429_recordings.specs.Comparing.{SurveyedBy, UnsurveyedBy}
+use Rattle.a429_console.specs.WholeReplies.{Replies}
+use Rattle.a429_recordings.proofs.survey.survey_reply.Goals as goal
 
 pub returns-in-Some-clause-answer : goal.returns-in-Some-clause-answer
 returns-in-Some-clause-answer g c =
