@@ -136,23 +136,16 @@ pub fn millis_in(separator: u8, field: &[u8]) -> Option<u32>
     }
 }
 
-/// The label in one to three octal digits.
-fn label_of(digits: &[u8]) -> Option<Label>
-    ensures { result ≡ label_value (padded digits.now) }
-{
-    match digits {
-        [low] => Label::of_digits(&[b'0', b'0', *low]),
-        [middle, low] => Label::of_digits(&[b'0', *middle, *low]),
-        _ => Label::of_digits(digits),
-    }
-}
-
 /// The label in a field: three octal digits, 000 to 377. Leading zeros may be missing. `None` for any other field.
 #[tactic(auto, unfolding(crate::specs::ImportFields::label_in))]
 pub fn label_in(field: &[u8]) -> Option<Label>
     ensures { result ≡ label_in field.now }
 {
-    label_of(unwrapped(field))
+    match unwrapped(field) {
+        [low] => Label::of_digits(&[b'0', b'0', *low]),
+        [middle, low] => Label::of_digits(&[b'0', *middle, *low]),
+        digits => Label::of_digits(digits),
+    }
 }
 
 /// The SDI in a digit.
@@ -205,24 +198,18 @@ fn is_any(field: &[u8]) -> bool
         || is_text("-", field)
 }
 
-/// The SDI in a text.
-fn sdi_or_any(field: &[u8]) -> Option<Option<Sdi>>
-    ensures { result ≡ sdi_or_any field.now }
-{
-    if is_any(field) {
-        Some(None)
-    } else {
-        sdi_digits(field)
-    }
-}
-
 /// The SDI in a field: 0 to 3, or two binary digits. `Some(None)` if it is any: `any`, `all`, `x`, `-` or nothing. `None`
 /// for any other field.
 #[tactic(auto, unfolding(crate::specs::ImportFields::sdi_in))]
 pub fn sdi_in(field: &[u8]) -> Option<Option<Sdi>>
     ensures { result ≡ sdi_in field.now }
 {
-    sdi_or_any(unwrapped(field))
+    let text = unwrapped(field);
+    if is_any(text) {
+        Some(None)
+    } else {
+        sdi_digits(text)
+    }
 }
 
 /// The hold in a field: a number; `Some(None)` if it is empty or `none`.
