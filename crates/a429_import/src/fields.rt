@@ -214,7 +214,7 @@ pub fn sdi_in(field: &[u8]) -> Option<Option<Sdi>>
 
 /// The hold in a field: a number; `Some(None)` if it is empty or `none`.
 #[tactic(auto, unfolding(crate::specs::ImportFields::hold_in))]
-fn hold_in(field: &[u8]) -> Option<Option<u32>>
+pub fn hold_in(field: &[u8]) -> Option<Option<u32>>
     ensures { result ≡ hold_in field.now }
 {
     if field.is_empty() || field == "none".as_bytes() {
@@ -270,16 +270,15 @@ pub fn filters_in(field: &[u8]) -> Option<&str>
     if are_filters(text) { Some(text) } else { None }
 }
 
-/// The hold of a row. `Some(Some(n))`: the row has a group, and its field is the number n. `Some(None)`: there is no
-/// limit, since the field is empty, or is `none` in a row with a group. `None`: the field is none of these, or is not
-/// empty in a row without a group.
-pub fn hold_of(names_group: bool, field: &[u8]) -> Option<Option<u32>>
-    ensures { result ≡ if_group names_group hold_in None field.now }
+/// The value of a field of an output, which was read. In a row without a group it is `nothing`; `None` if the field is not
+/// empty there.
+pub fn if_group<T: Copy>(names_group: bool, field: &[u8], value: Option<T>, nothing: T) -> Option<T>
+    ensures { result ≡ if_group names_group (λ _. value) nothing field.now }
 {
     if names_group {
-        hold_in(field)
+        value
     } else if field.is_empty() {
-        Some(None)
+        Some(nothing)
     } else {
         None
     }

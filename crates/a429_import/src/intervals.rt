@@ -1,7 +1,6 @@
 //! Intervals in fields: microseconds, milliseconds or rates, and one limit or both in a field.
 ghost use Rattle.std.specs.Prelude.{◌≡◌, ◌<◌, length, position};
 ghost use Rattle.std.specs.Option.{option_and_then};
-ghost use Rattle.a429_import.specs.ImportFields.{if_group};
 ghost use Rattle.a429_import.specs.ImportIntervals.{both_in, both_unit, divider_len, form_named, interval_in, is_divider, limit_in, limit_of_both, limit_unit, ordered, parted, period_down, period_up, states_interval, takes_second, unit_among, unit_or_micros, value_in};
 
 use crate::blanks::{byte_at, trimmed};
@@ -230,32 +229,12 @@ fn limit_of_one(is_least: bool, unit: IntervalUnit, separator: u8, field: &[u8])
 
 /// A limit of an interval, in microseconds, from a column of this form. `None` for a field of another form, and at 0 Hz.
 #[tactic(auto, unfolding(crate::specs::ImportIntervals::interval_in))]
-fn interval_in(is_least: bool, form: IntervalForm, separator: u8, field: &[u8]) -> Option<u32>
+pub fn interval_in(is_least: bool, form: IntervalForm, separator: u8, field: &[u8]) -> Option<u32>
     ensures { result ≡ interval_in is_least form separator field.now }
 {
     if form.has_both {
         limit_of_both(is_least, form.unit, separator, field)
     } else {
         limit_of_one(is_least, form.unit, separator, field)
-    }
-}
-
-/// A limit of an interval of a row, in microseconds: the minimum if the flag is set. Of a row without a group it is 0. `None` if
-/// the field does not state it, or is not empty in a row without a group.
-pub fn interval_of(
-    names_group: bool,
-    is_least: bool,
-    form: IntervalForm,
-    separator: u8,
-    field: &[u8],
-) -> Option<u32>
-    ensures { result ≡ if_group names_group (interval_in is_least form separator) 0 field.now }
-{
-    if names_group {
-        interval_in(is_least, form, separator, field)
-    } else if field.is_empty() {
-        Some(0)
-    } else {
-        None
     }
 }
