@@ -3,8 +3,7 @@ ghost use Rattle.std.specs.Prelude.{◌≡◌, ◌∷◌, [], ◌<◌, ◌==◌,
 ghost use Rattle.std.specs.Char.{is_ascii_digit};
 ghost use Rattle.std.specs.List.{list_all};
 ghost use Rattle.a429_filter.specs.FilterTexts.{filter_read};
-ghost use Rattle.a429_import.specs.ImportFields.{are_filters, are_micros, digit_of, filters_in, has_thousands, hold_in, if_group, is_any, is_bit, is_mark, label_in, may_be_thousands, micros_in, millis_in, number_in, padded, sdi_digits, sdi_in, sdi_or_any, text_in, together, utf8_in};
-ghost use Rattle.a429_word.specs.Texts.{label_value};
+ghost use Rattle.a429_import.specs.ImportFields.{are_filters, are_micros, digit_of, filters_in, has_thousands, hold_in, if_group, is_any, is_bit, is_mark, label_in, may_be_thousands, micros_in, millis_in, number_in, sdi_digits, sdi_in, text_in, together, utf8_in};
 
 use crate::plain::{is_text, unwrapped};
 use a429_filter::Filter;

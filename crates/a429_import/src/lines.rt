@@ -5,7 +5,7 @@ ghost use Rattle.csv.specs.Records.{fields_of};
 ghost use Rattle.csv.specs.declared.parser.State.TheVariants as st;
 ghost use Rattle.a429_import.specs.ImportFields.{field_in};
 ghost use Rattle.a429_import.specs.ImportReading.{IsReadRow, IsUnread};
-ghost use Rattle.a429_import.specs.Imports.{has_text, is_filled, separated};
+ghost use Rattle.a429_import.specs.Imports.{has_text, separated};
 ghost use Rattle.a429_import.specs.ImportSteps.{state_of};
 ghost use Rattle.a429_import.specs.ImportWords.{trimmed};
 ghost use Rattle.a429_import.specs.LineCounts.{HasCounted, IsBefore, IsEnd, begins_with_end, is_between, row_end};
