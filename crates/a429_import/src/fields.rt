@@ -3,8 +3,7 @@ ghost use Rattle.std.specs.Prelude.{◌≡◌, ◌∷◌, [], ◌<◌, ◌==◌,
 ghost use Rattle.std.specs.Char.{is_ascii_digit};
 ghost use Rattle.std.specs.List.{list_all};
 ghost use Rattle.a429_filter.specs.FilterTexts.{filter_read};
-ghost use Rattle.a429_import.specs.ImportFields.{are_filters, are_micros, digit_of, filters_in, has_thousands, hold_in, if_group, is_any, is_bit, is_mark, label_in, may_be_thousands, micros_in, millis_in, number_in, padded, sdi_digits, sdi_in, sdi_or_any, text_in, together, utf8_in};
-ghost use Rattle.a429_word.specs.Texts.{label_value};
+ghost use Rattle.a429_import.specs.ImportFields.{are_filters, are_micros, digit_of, filters_in, has_thousands, hold_in, if_group, is_any, is_bit, is_mark, label_in, may_be_thousands, micros_in, millis_in, number_in, sdi_digits, sdi_in, text_in, together, utf8_in};
 
 use crate::plain::{is_text, unwrapped};
 use a429_filter::Filter;
@@ -136,23 +135,16 @@ pub fn millis_in(separator: u8, field: &[u8]) -> Option<u32>
     }
 }
 
-/// The label in one to three octal digits.
-fn label_of(digits: &[u8]) -> Option<Label>
-    ensures { result ≡ label_value (padded digits.now) }
-{
-    match digits {
-        [low] => Label::of_digits(&[b'0', b'0', *low]),
-        [middle, low] => Label::of_digits(&[b'0', *middle, *low]),
-        _ => Label::of_digits(digits),
-    }
-}
-
 /// The label in a field: three octal digits, 000 to 377. Leading zeros may be missing. `None` for any other field.
 #[tactic(auto, unfolding(crate::specs::ImportFields::label_in))]
 pub fn label_in(field: &[u8]) -> Option<Label>
     ensures { result ≡ label_in field.now }
 {
-    label_of(unwrapped(field))
+    match unwrapped(field) {
+        [low] => Label::of_digits(&[b'0', b'0', *low]),
+        [middle, low] => Label::of_digits(&[b'0', *middle, *low]),
+        digits => Label::of_digits(digits),
+    }
 }
 
 /// The SDI in a digit.
@@ -205,29 +197,23 @@ fn is_any(field: &[u8]) -> bool
         || is_text("-", field)
 }
 
-/// The SDI in a text.
-fn sdi_or_any(field: &[u8]) -> Option<Option<Sdi>>
-    ensures { result ≡ sdi_or_any field.now }
-{
-    if is_any(field) {
-        Some(None)
-    } else {
-        sdi_digits(field)
-    }
-}
-
 /// The SDI in a field: 0 to 3, or two binary digits. `Some(None)` if it is any: `any`, `all`, `x`, `-` or nothing. `None`
 /// for any other field.
 #[tactic(auto, unfolding(crate::specs::ImportFields::sdi_in))]
 pub fn sdi_in(field: &[u8]) -> Option<Option<Sdi>>
     ensures { result ≡ sdi_in field.now }
 {
-    sdi_or_any(unwrapped(field))
+    let text = unwrapped(field);
+    if is_any(text) {
+        Some(None)
+    } else {
+        sdi_digits(text)
+    }
 }
 
 /// The hold in a field: a number; `Some(None)` if it is empty or `none`.
 #[tactic(auto, unfolding(crate::specs::ImportFields::hold_in))]
-fn hold_in(field: &[u8]) -> Option<Option<u32>>
+pub fn hold_in(field: &[u8]) -> Option<Option<u32>>
     ensures { result ≡ hold_in field.now }
 {
     if field.is_empty() || field == "none".as_bytes() {
@@ -283,16 +269,15 @@ pub fn filters_in(field: &[u8]) -> Option<&str>
     if are_filters(text) { Some(text) } else { None }
 }
 
-/// The hold of a row. `Some(Some(n))`: the row has a group, and its field is the number n. `Some(None)`: there is no
-/// limit, since the field is empty, or is `none` in a row with a group. `None`: the field is none of these, or is not
-/// empty in a row without a group.
-pub fn hold_of(names_group: bool, field: &[u8]) -> Option<Option<u32>>
-    ensures { result ≡ if_group names_group hold_in None field.now }
+/// The value of a field of an output, which was read. In a row without a group it is `nothing`; `None` if the field is not
+/// empty there.
+pub fn if_group<T: Copy>(names_group: bool, field: &[u8], value: Option<T>, nothing: T) -> Option<T>
+    ensures { result ≡ if_group names_group (λ _. value) nothing field.now }
 {
     if names_group {
-        hold_in(field)
+        value
     } else if field.is_empty() {
-        Some(None)
+        Some(nothing)
     } else {
         None
     }

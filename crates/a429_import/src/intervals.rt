@@ -1,8 +1,7 @@
 //! Intervals in fields: microseconds, milliseconds or rates, and one limit or both in a field.
 ghost use Rattle.std.specs.Prelude.{◌≡◌, ◌<◌, length, position};
 ghost use Rattle.std.specs.Option.{option_and_then};
-ghost use Rattle.a429_import.specs.ImportFields.{if_group};
-ghost use Rattle.a429_import.specs.ImportIntervals.{both_in, both_unit, divider_len, form_named, interval_in, is_divider, limit_in, limit_of_both, limit_unit, ordered, parted, period_down, period_up, states_interval, takes_second, unit_among, unit_or_micros, value_in};
+ghost use Rattle.a429_import.specs.ImportIntervals.{both_in, both_unit, divider_len, form_named, interval_in, is_divider, limit_in, limit_of_both, limit_unit, ordered, parted, period_down, period_up, states_interval, takes_second, unit_among, value_in};
 
 use crate::blanks::{byte_at, trimmed};
 use crate::fault::ImportColumn;
@@ -75,23 +74,14 @@ pub fn states_interval(column: ImportColumn, name: &[u8]) -> bool
     limit_unit(column, name).is_some() || both_unit(column, name).is_some()
 }
 
-fn unit_or_micros(unit: Option<IntervalUnit>) -> IntervalUnit
-    ensures { result ≡ unit_or_micros unit }
-{
-    unit.unwrap_or(IntervalUnit::Micros)
-}
-
 /// How the column with this name states intervals; in microseconds if the name is that of no interval.
 pub fn form_named(column: ImportColumn, name: &[u8]) -> IntervalForm
     ensures { result ≡ form_named column name.now }
 {
     let both = both_unit(column, name);
-    let unit = match limit_unit(column, name) {
-        Some(unit) => Some(unit),
-        None => both,
-    };
+    let unit = limit_unit(column, name).or(both);
     IntervalForm {
-        unit: unit_or_micros(unit),
+        unit: unit.unwrap_or(IntervalUnit::Micros),
         has_both: both.is_some(),
     }
 }
@@ -191,10 +181,7 @@ fn parted(unit: IntervalUnit, separator: u8, field: &[u8], place: usize) -> Opti
 fn both_in(unit: IntervalUnit, separator: u8, field: &[u8]) -> Option<(u32, u32)>
     ensures { result ≡ both_in unit separator field.now }
 {
-    match first_divider(field) {
-        Some(place) => parted(unit, separator, field, place),
-        None => None,
-    }
+    parted(unit, separator, field, first_divider(field)?)
 }
 
 /// Whether a limit is the second number of a field with both: the minimum is the smaller interval, or the greater rate.
@@ -220,42 +207,14 @@ fn limit_of_both(is_least: bool, unit: IntervalUnit, separator: u8, field: &[u8]
     limit_in(is_least, unit, value)
 }
 
-/// A limit of an interval, of a field with one.
-fn limit_of_one(is_least: bool, unit: IntervalUnit, separator: u8, field: &[u8]) -> Option<u32>
-    ensures { result ≡ option_and_then (limit_in is_least unit) (value_in unit separator field.now) }
-{
-    let value = value_in(unit, separator, field)?;
-    limit_in(is_least, unit, value)
-}
-
 /// A limit of an interval, in microseconds, from a column of this form. `None` for a field of another form, and at 0 Hz.
 #[tactic(auto, unfolding(crate::specs::ImportIntervals::interval_in))]
-fn interval_in(is_least: bool, form: IntervalForm, separator: u8, field: &[u8]) -> Option<u32>
+pub fn interval_in(is_least: bool, form: IntervalForm, separator: u8, field: &[u8]) -> Option<u32>
     ensures { result ≡ interval_in is_least form separator field.now }
 {
     if form.has_both {
         limit_of_both(is_least, form.unit, separator, field)
     } else {
-        limit_of_one(is_least, form.unit, separator, field)
-    }
-}
-
-/// A limit of an interval of a row, in microseconds: the minimum if the flag is set. Of a row without a group it is 0. `None` if
-/// the field does not state it, or is not empty in a row without a group.
-pub fn interval_of(
-    names_group: bool,
-    is_least: bool,
-    form: IntervalForm,
-    separator: u8,
-    field: &[u8],
-) -> Option<u32>
-    ensures { result ≡ if_group names_group (interval_in is_least form separator) 0 field.now }
-{
-    if names_group {
-        interval_in(is_least, form, separator, field)
-    } else if field.is_empty() {
-        Some(0)
-    } else {
-        None
+        limit_in(is_least, form.unit, value_in(form.unit, separator, field)?)
     }
 }

@@ -5,7 +5,7 @@ ghost use Rattle.csv.specs.Records.{fields_of};
 ghost use Rattle.csv.specs.declared.parser.State.TheVariants as st;
 ghost use Rattle.a429_import.specs.ImportFields.{field_in};
 ghost use Rattle.a429_import.specs.ImportReading.{IsReadRow, IsUnread};
-ghost use Rattle.a429_import.specs.Imports.{has_text, is_filled, separated};
+ghost use Rattle.a429_import.specs.Imports.{has_text, separated};
 ghost use Rattle.a429_import.specs.ImportSteps.{state_of};
 ghost use Rattle.a429_import.specs.ImportWords.{trimmed};
 ghost use Rattle.a429_import.specs.LineCounts.{HasCounted, IsBefore, IsEnd, begins_with_end, is_between, row_end};
@@ -234,33 +234,6 @@ pub fn rows_of<'a>(alloc: Global, form: Form<'a>) -> ByteRecordsIntoIter<&'a [u8
     reader.into_byte_records()
 }
 
-/// A line of fields, without blanks round them. Error: an allocation failed.
-fn line_with(
-    alloc: Global,
-    text: &[u8],
-    form: Form<'_>,
-    count: &mut LineCount,
-    fields: ByteRecord,
-) -> Result<CsvLine, AllocError>
-    requires counted { HasCounted text.now count.old }
-    requires between { is_between (state_of count.old.part) ≡ true }
-    ensures fields { IfOk result (λ line. fields_of line.fields ≡ map trimmed (fields_of fields)) }
-    ensures separator { IfOk result (λ line. line.separator ≡ form.entry.separator) }
-    ensures number { IfOk result (λ line. line.number ≡ line_of text.now (from_row (drop count.old.at text.now))) }
-    ensures counted { OnOk result (HasCounted text.now count.new) }
-    ensures row { OnOk result (row_end (separated form.entry.separator) (state_of count.old.part) (drop count.old.at text.now)
-        ≡ (state_of count.new.part, drop count.new.at text.now)) }
-    ensures between { OnOk result (is_between (state_of count.new.part) ≡ true) }
-{
-    let number = count.row_line(text, form.separator);
-    let fields = trimmed_row(alloc, fields)?;
-    Ok(CsvLine {
-        number,
-        separator: form.separator,
-        fields,
-    })
-}
-
 /// A line, from what the library `csv` reads, without blanks round its fields. It is the next one that is counted. The library
 /// refuses no row, so its only error is that an allocation failed.
 pub fn line_of(
@@ -281,7 +254,15 @@ pub fn line_of(
     ensures between { OnOk result (is_between (state_of count.new.part) ≡ true) }
 {
     match row {
-        Ok(fields) => line_with(alloc, text, form, count, fields),
+        Ok(fields) => {
+            let number = count.row_line(text, form.separator);
+            let fields = trimmed_row(alloc, fields)?;
+            Ok(CsvLine {
+                number,
+                separator: form.separator,
+                fields,
+            })
+        }
         Err(_) => Err(AllocError),
     }
 }

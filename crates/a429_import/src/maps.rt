@@ -86,19 +86,8 @@ fn push_kept(alloc: Global, names: &mut ByteRecord, field: &[u8]) -> Result<(), 
     names.push_field(&name)
 }
 
-/// Adds the name of a field: COLUMN of the first text that is about it, or its own. Error: an allocation failed.
-fn push_mapped(names: &mut ByteRecord, maps: &[&str], field: &[u8]) -> Result<(), AllocError>
-    requires { partial_of names.old ≡ [] }
-    ensures fields { OnOk result (fields_of names.new ≡ fields_of names.old ++ mapped (given_texts maps.now) field.now ∷ []) }
-    ensures partial { OnOk result (partial_of names.new ≡ []) }
-{
-    match text_about(maps, field) {
-        Some(text) => names.push_field(column_in(text)),
-        None => names.push_field(field),
-    }
-}
-
-/// Adds the name of a field in a heading, after `#:` if its column goes along. Error: an allocation failed.
+/// Adds the name of a field in a heading, after `#:` if its column goes along. Otherwise it is COLUMN of the first text that
+/// is about the field, or its own. Error: an allocation failed.
 fn push_titled(
     alloc: Global,
     names: &mut ByteRecord,
@@ -109,10 +98,10 @@ fn push_titled(
     ensures fields { OnOk result (fields_of names.new ≡ fields_of names.old ++ titled (given_texts maps.now) field.now ∷ []) }
     ensures partial { OnOk result (partial_of names.new ≡ []) }
 {
-    if keeps(maps, field) {
-        push_kept(alloc, names, field)
-    } else {
-        push_mapped(names, maps, field)
+    match text_about(maps, field) {
+        Some(text) if is_keep(text) => push_kept(alloc, names, field),
+        Some(text) => names.push_field(column_in(text)),
+        None => names.push_field(field),
     }
 }
 

@@ -1,7 +1,6 @@
 //! Bit rates in fields.
-ghost use Rattle.std.specs.Prelude.{◌≡◌, codes, option_map};
-ghost use Rattle.std.specs.Option.{option_or};
-ghost use Rattle.a429_import.specs.ImportFields.{before_unit, has_unit, if_group, is_high, is_low, kilobits_in, rate_in, without_space, worded_rate};
+ghost use Rattle.std.specs.Prelude.{◌≡◌, option_map};
+ghost use Rattle.a429_import.specs.ImportFields.{before_unit, has_unit, is_high, is_low, kilobits_in, rate_in, without_space, worded_rate};
 
 use crate::fields::{millis_in, number_in};
 use crate::plain::is_text;
@@ -62,56 +61,25 @@ fn before_unit<'a>(unit: &str, field: &'a [u8]) -> Option<&'a [u8]>
     }
 }
 
-/// What comes before a unit of kbit/s, `kbit/s` or `kbps`.
-fn before_kilobits(field: &[u8]) -> Option<&[u8]>
-    ensures { option_map (λ f. f.now) result ≡ option_or (before_unit (codes "kbit/s") field.now) (before_unit (codes "kbps") field.now) }
-{
-    match before_unit("kbit/s", field) {
-        Some(number) => Some(number),
-        None => before_unit("kbps", field),
-    }
-}
-
 /// The bit rate in a number of kbit/s with its unit, in bit/s.
 fn kilobits_in(field: &[u8]) -> Option<u32>
     ensures { result ≡ kilobits_in field.now }
 {
-    let number = before_kilobits(field)?;
+    let number = match before_unit("kbit/s", field) {
+        Some(number) => number,
+        None => before_unit("kbps", field)?,
+    };
     millis_in(b',', number)
-}
-
-/// The bit rate in a field that is no number, in bit/s.
-fn other_rate(field: &[u8]) -> Option<u32>
-    ensures { result ≡ option_or (worded_rate field.now) (kilobits_in field.now) }
-{
-    match worded_rate(field) {
-        Some(rate) => Some(rate),
-        None => kilobits_in(field),
-    }
 }
 
 /// The bit rate in a field, in bit/s: a number, a word for one of the two usual bit rates, or a number of kbit/s with its
 /// unit. `None` for any other field.
 #[tactic(auto, unfolding(crate::specs::ImportFields::rate_in))]
-fn rate_in(field: &[u8]) -> Option<u32>
+pub fn rate_in(field: &[u8]) -> Option<u32>
     ensures { result ≡ rate_in field.now }
 {
     match number_in(field) {
         Some(rate) => Some(rate),
-        None => other_rate(field),
-    }
-}
-
-/// The bit rate of a row, in bit/s. Of a row without a group it is 0. `None` if the field states no bit rate, or is not
-/// empty in a row without a group.
-pub fn rate_of(names_group: bool, field: &[u8]) -> Option<u32>
-    ensures { result ≡ if_group names_group rate_in 0 field.now }
-{
-    if names_group {
-        rate_in(field)
-    } else if field.is_empty() {
-        Some(0)
-    } else {
-        None
+        None => worded_rate(field).or(kilobits_in(field)),
     }
 }

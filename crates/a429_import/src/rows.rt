@@ -8,10 +8,10 @@ ghost use Rattle.a429_import.specs.ImportTexts.{row_view, text_view, texts_view}
 
 use crate::columns::Heading;
 use crate::fault::{CsvFaultKind, ImportColumn};
-use crate::fields::{filters_in, hold_of, label_in, sdi_in, text_in};
-use crate::intervals::interval_of;
+use crate::fields::{filters_in, hold_in, if_group, label_in, sdi_in, text_in};
+use crate::intervals::interval_in;
 use crate::lines::CsvLine;
-use crate::rates::rate_of;
+use crate::rates::rate_in;
 use a429_word::{Label, Sdi};
 use std::alloc::{AllocError, Global};
 use std::marker::Model;
@@ -110,37 +110,23 @@ fn rate_at(heading: &Heading, line: &CsvLine) -> Result<u32, ImportColumn>
     ensures { result ≡ output_at rate_in 0 (fields_of heading.now.line.fields) (fields_of line.now.fields) ImportColumn.Rate }
 {
     let field = heading.field_of(line, ImportColumn::Rate);
-    rate_of(names_group(heading, line), field).ok_or(ImportColumn::Rate)
+    if_group(names_group(heading, line), field, rate_in(field), 0).ok_or(ImportColumn::Rate)
 }
 
 fn least_at(heading: &Heading, line: &CsvLine) -> Result<u32, ImportColumn>
     ensures { result ≡ interval_at line.now.separator (fields_of heading.now.line.fields) (fields_of line.now.fields) ImportColumn.MinUs }
 {
     let field = heading.field_of(line, ImportColumn::MinUs);
-    let column = ImportColumn::MinUs;
-    interval_of(
-        names_group(heading, line),
-        true,
-        heading.min_form,
-        line.separator,
-        field,
-    )
-    .ok_or(column)
+    let limit = interval_in(true, heading.min_form, line.separator, field);
+    if_group(names_group(heading, line), field, limit, 0).ok_or(ImportColumn::MinUs)
 }
 
 fn most_at(heading: &Heading, line: &CsvLine) -> Result<u32, ImportColumn>
     ensures { result ≡ interval_at line.now.separator (fields_of heading.now.line.fields) (fields_of line.now.fields) ImportColumn.MaxUs }
 {
     let field = heading.field_of(line, ImportColumn::MaxUs);
-    let column = ImportColumn::MaxUs;
-    interval_of(
-        names_group(heading, line),
-        false,
-        heading.max_form,
-        line.separator,
-        field,
-    )
-    .ok_or(column)
+    let limit = interval_in(false, heading.max_form, line.separator, field);
+    if_group(names_group(heading, line), field, limit, 0).ok_or(ImportColumn::MaxUs)
 }
 
 fn label_at(heading: &Heading, line: &CsvLine) -> Result<Label, ImportColumn>
@@ -159,7 +145,7 @@ fn hold_at(heading: &Heading, line: &CsvLine) -> Result<Option<u32>, ImportColum
     ensures { result ≡ output_at hold_in None (fields_of heading.now.line.fields) (fields_of line.now.fields) ImportColumn.Hold }
 {
     let field = heading.field_of(line, ImportColumn::Hold);
-    hold_of(names_group(heading, line), field).ok_or(ImportColumn::Hold)
+    if_group(names_group(heading, line), field, hold_in(field), None).ok_or(ImportColumn::Hold)
 }
 
 fn text_at<'a>(

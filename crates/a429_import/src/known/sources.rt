@@ -32,10 +32,7 @@ pub struct KnownSources {
 fn is_number(found: Option<usize>, number: usize) -> bool
     ensures { result ≡ is_number number found }
 {
-    match found {
-        Some(found) => found == number,
-        None => false,
-    }
+    found == Some(number)
 }
 
 impl KnownSources {
