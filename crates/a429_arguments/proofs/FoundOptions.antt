@@ -94,7 +94,7 @@ module _ (r : AskedBytes) (us : List (Rule × Text)) (f : Facts r.verb us) (has 
 
   option_there : (name : OptionName) (word : Text) → text_given r.given name ≡ Some word → row_at (id_of name) end_rows ≡ Some (row (id_of name) word)
   option_there name word is =
-      still_found (id_of name) (row (id_of name) word) (shape v).rules all_rows
+      still_found (id_of name) (row (id_of name) word) (shape v).rules all_rows f.plain
       (found_behind (id_of name) before (rows_of_options r.given names) (not_before name) ∙ option_found r.given name word names is (option_is_had name word is))
 
   -- an option with a value is not a flag
@@ -136,7 +136,7 @@ module _ (r : AskedBytes) (us : List (Rule × Text)) (f : Facts r.verb us) (has 
 
   pub uses_read_again : AllByRecursion (λ (u : Rule × Text). row_at u.0.id end_rows ≡ Some (use_row u)) us
   uses_read_again =
-      uses_still_found us all_rows (shape v).rules
+      uses_still_found us all_rows (shape v).rules f.plain
       (subst (λ (rows : List Row). AllByRecursion (λ (u : Rule × Text). row_at u.0.id rows ≡ Some (use_row u)) us) (sym (append_assoc (map use_row us) (rows_if (row_of v).more r.more) (rows_of_options r.given names)))
       (uses_found us [] (ids_if (row_of v).more ++ map id_of names) [] (rows_if (row_of v).more r.more ++ rows_of_options r.given names) f.new (λ id none. refl)))
 
@@ -162,7 +162,7 @@ module _ (r : AskedBytes) (us : List (Rule × Text)) (f : Facts r.verb us) (has 
       let uses_none : has_row id (map use_row us) ≡ false = uses_within id (is_new (ids_after [] us) id (map id_of names) (rw is at (new_after us [] (ids_if (row_of v).more ++ map id_of names) f.new))) in
       let last = row_of_words id (word ∷ more) in
       let before_found : row_at id before ≡ Some last = rw (is, some) (found_behind id (map use_row us) (last ∷ []) uses_none ∙ rw (same_text id) refl) in
-      rw (still_found id last (shape v).rules all_rows (found_before id before (rows_of_options r.given names) last before_found)) refl
+      rw (still_found id last (shape v).rules all_rows f.plain (found_before id before (rows_of_options r.given names) last before_found)) refl
 
   pub more_field : (given : Option Text) → (row_of v).more ≡ given → AreNamesIf given r.more → MatchOption given (r.more ≡ []) (λ id. values_of id end_rows ≡ r.more)
   more_field None is words = words

@@ -86,27 +86,27 @@ default_added rows a = go (has_row a.id rows) refl a.defaults refl
     go false none [] is = inl (rw (none, is) refl)
     go false none (v ∷ vs) is = inr (rw (none, is) (at_missing a.id (more_values DefaultValue (v ∷ vs)) (record { id = a.id; values = v ∷ vs; count = None; source = Some DefaultValue; reading = reading_by a } ∷ []) rows none))
 
-pub still_found : (id : Text) (r : Row) (rules : List Rule) (rows : List Row) → row_at id rows ≡ Some r → row_at id (with_defaults rows rules) ≡ Some r
-still_found id r [] rows found = found
-still_found id r (a ∷ rules) rows found = still_found id r rules (with_default rows a) (next (default_added rows a))
+-- what a default row keeps is true at the end
+kept : (P : List Row → Type 0) (rules : List Rule) (rows : List Row) → ((a : Rule) (rs : List Row) → HasPlainDefault a → P rs → P (rs ++ default_row a)) → AllByRecursion HasPlainDefault rules
+    → P rows → P (with_defaults rows rules)
+kept P [] rows step all is = is
+kept P (a ∷ rules) rows step (one, all) is = kept P rules (with_default rows a) step all (next (default_added rows a))
   where
-    next : (with_default rows a ≡ rows) ⊎ (with_default rows a ≡ rows ++ default_row a) → row_at id (with_default rows a) ≡ Some r
-    next (inl same) = ap (row_at id) same ∙ found
-    next (inr more) = ap (row_at id) more ∙ found_before id rows (default_row a) r found
+    next : (with_default rows a ≡ rows) ⊎ (with_default rows a ≡ rows ++ default_row a) → P (with_default rows a)
+    next (inl same) = subst P (sym same) is
+    next (inr more) = subst P (sym more) (step a rows one is)
+
+pub still_found : (id : Text) (r : Row) (rules : List Rule) (rows : List Row) → AllByRecursion HasPlainDefault rules → row_at id rows ≡ Some r → row_at id (with_defaults rows rules) ≡ Some r
+still_found id r rules rows = kept (λ (rs : List Row). row_at id rs ≡ Some r) rules rows (λ a rs is found. found_before id rs (default_row a) r found)
 
 -- an id that is no flag's stays missing
 pub still_missing : (id : Text) (rules : List Rule) (rows : List Row) → ((name : OptionName) → is_flag name ≡ true → bytes_eq (id_of name) id ≡ false) → AllByRecursion HasPlainDefault rules
     → has_row id rows ≡ false → has_row id (with_defaults rows rules) ≡ false
-still_missing id [] rows other all none = none
-still_missing id (a ∷ rules) rows other (is, all) none = still_missing id rules (with_default rows a) other all (next (default_added rows a))
+still_missing id rules rows other = kept (λ (rs : List Row). has_row id rs ≡ false) rules rows (λ a rs is none. missing_in_both id rs (default_row a) none (added a is))
   where
-    added : HasPlainDefault a → has_row id (default_row a) ≡ false
-    added (inl empty) = rw empty refl
-    added (inr (name, flag, same, values, how)) = rw (values, same, other name flag) refl
-
-    next : (with_default rows a ≡ rows) ⊎ (with_default rows a ≡ rows ++ default_row a) → has_row id (with_default rows a) ≡ false
-    next (inl same) = ap (has_row id) same ∙ none
-    next (inr more) = ap (has_row id) more ∙ missing_in_both id rows (default_row a) none (added is)
+    added : (a : Rule) → HasPlainDefault a → has_row id (default_row a) ≡ false
+    added a (inl empty) = rw empty refl
+    added a (inr (name, flag, same, values, how)) = rw (values, same, other name flag) refl
 
 -- and a flag that is not given is read as that
 abbrev read_unset : Option Row → Type 0
@@ -115,28 +115,20 @@ read_unset found = is_set (option_and_then row_text found) ≡ false
 abbrev unset : Text → List Row → Type 0
 unset id rows = is_set (one_of id rows) ≡ false
 
-still_unset : (id : Text) (rules : List Rule) (rows : List Row) → AllByRecursion HasPlainDefault rules → unset id rows → unset id (with_defaults rows rules)
-still_unset id [] rows all not_set = not_set
-still_unset id (a ∷ rules) rows (is, all) not_set = still_unset id rules (with_default rows a) all (next (default_added rows a))
+default_unset : (id : Text) (a : Rule) → HasPlainDefault a → read_unset (row_at id (default_row a))
+default_unset id a (inl empty) = rw empty refl
+default_unset id a (inr (name, flag, same, values, how)) = rw (values, how) (by (bytes_eq a.id id))
   where
-    alone : HasPlainDefault a → read_unset (row_at id (default_row a))
-    alone (inl empty) = rw empty refl
-    alone (inr (name, flag, same, values, how)) = rw (values, how) (by (bytes_eq a.id id) refl)
-      where
-        by : (b : Bool) → bytes_eq a.id id ≡ b → read_unset (if b then Some (record { id = a.id; values = codes "false" ∷ []; count = None; source = Some DefaultValue; reading = AsWritten }) else None)
-        by true e = refl
-        by false e = refl
+    by : (b : Bool) → read_unset (if b then Some (record { id = a.id; values = codes "false" ∷ []; count = None; source = Some DefaultValue; reading = AsWritten }) else None)
+    by true = refl
+    by false = refl
 
-    behind : (found : Option Row) → row_at id rows ≡ found → read_unset (row_at id (rows ++ default_row a))
-    behind (Some r) at = subst read_unset (sym (found_before id rows (default_row a) r at)) (subst read_unset at not_set)
-    behind None at = subst read_unset (sym (found_behind_none id rows (default_row a) at)) (alone is)
-
-    next : (with_default rows a ≡ rows) ⊎ (with_default rows a ≡ rows ++ default_row a) → unset id (with_default rows a)
-    next (inl same) = rw same not_set
-    next (inr more) = rw more (behind (row_at id rows) refl)
+unset_after : (id : Text) (a : Rule) (rows : List Row) (found : Option Row) → row_at id rows ≡ found → HasPlainDefault a → unset id rows → unset id (rows ++ default_row a)
+unset_after id a rows (Some r) at is not_set = subst read_unset (sym (found_before id rows (default_row a) r at)) (subst read_unset at not_set)
+unset_after id a rows None at is not_set = subst read_unset (sym (found_behind_none id rows (default_row a) at)) (default_unset id a is)
 
 pub flag_unset : (id : Text) (rules : List Rule) (rows : List Row) → AllByRecursion HasPlainDefault rules → has_row id rows ≡ false → is_set (one_of id (with_defaults rows rules)) ≡ false
-flag_unset id rules rows all none = still_unset id rules rows all (rw (none_found id rows none) refl)
+flag_unset id rules rows all none = kept (unset id) rules rows (λ a rs is not_set. unset_after id a rs (row_at id rs) refl is not_set) all (rw (none_found id rows none) refl)
 
 -- ---- options
 
@@ -191,10 +183,10 @@ uses_found (u ∷ us) ids rest rows more new within = (
 )
 
 -- and still is, with defaults
-pub uses_still_found : (us : List (Rule × Text)) (rows : List Row) (rules : List Rule) → AllByRecursion (λ (u : Rule × Text). row_at u.0.id rows ≡ Some (use_row u)) us
+pub uses_still_found : (us : List (Rule × Text)) (rows : List Row) (rules : List Rule) → AllByRecursion HasPlainDefault rules → AllByRecursion (λ (u : Rule × Text). row_at u.0.id rows ≡ Some (use_row u)) us
     → AllByRecursion (λ (u : Rule × Text). row_at u.0.id (with_defaults rows rules) ≡ Some (use_row u)) us
-uses_still_found [] rows rules all = tt
-uses_still_found (u ∷ us) rows rules (found, all) = (still_found u.0.id (use_row u) rules rows found, uses_still_found us rows rules all)
+uses_still_found [] rows rules plain all = tt
+uses_still_found (u ∷ us) rows rules plain (found, all) = (still_found u.0.id (use_row u) rules rows plain found, uses_still_found us rows rules plain all)
 
 use_given : (us : List (Rule × Text)) (rows : List Row) (id : Text) → AllByRecursion (λ (u : Rule × Text). row_at u.0.id rows ≡ Some (use_row u)) us → has_id (map use_id us) id ≡ true → is_given id rows ≡ true
 use_given [] rows id all has = cc

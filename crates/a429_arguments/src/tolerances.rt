@@ -122,6 +122,7 @@ pub fn is_general_twice(texts: &[&str]) -> bool
 }
 
 /// What some texts say: the definitions, by examples.
+#[tactic(auto, unfolding(std::specs::Path::rsplit_once, crate::specs::Numbers::number_up_to))]
 pub fn tolerances_are_as_written()
     ensures numbers { TolerancesAreFor }
     ensures groups { NamesGroup }
