@@ -3,6 +3,7 @@ ghost use Rattle.std.specs.Prelude.{◌≡◌, ◌++◌, IfOk, OnOk, map, string
 ghost use Rattle.a429_console.specs.Readings.{HasRead};
 ghost use Rattle.a429_cli.specs.Importing.{HasNoMillisGroup, HasNoShortGroup, ImportsSilently, IsImportReply, csv_kind, import_refusal};
 ghost use Rattle.a429_import.specs.ImportMaps.{given_texts, heading_texts};
+ghost use Rattle.a429_import.specs.Imports.{IsImport};
 
 mod short_intervals;
 
@@ -141,6 +142,29 @@ impl<F: FileReader> Watch for WatchedFiles<'_, F> {
     }
 }
 
+/// The table of `import_table`. A person sees how much is read.
+fn import_watched<F: FileReader>(
+    alloc: Global,
+    files: &F,
+    maps: &[&str],
+    options: ImportOptions,
+    bytes: &[u8],
+    refused: &mut Option<RefusedRows>,
+) -> Result<Imported, ImportFault>
+    ensures { IsImport (given_texts maps.now) options bytes.now result }
+{
+    let imported = import_table(
+        alloc,
+        maps,
+        options,
+        bytes,
+        &WatchedFiles { files },
+        refused,
+    );
+    files.show_end();
+    imported
+}
+
 /// Notes what an import has to warn of: each group whose intervals may be milliseconds, and rows that are notes.
 fn note_import(alloc: Global, imported: &Imported, warnings: &mut Vec<Warning>)
     ensures { imported.now.notes ≡ 0 → HasNoShortGroup imported.now.equipment → HasNoMillisGroup imported.now.equipment
@@ -213,9 +237,8 @@ fn import_by<F: FileReader>(
         → warnings.new.items ≡ warnings.old.items) files.old files.new }
 {
     let bytes = read_file(alloc, files, name)?;
-    let watch = WatchedFiles { files: &*files };
     let mut refused = None;
-    match import_table(alloc, maps, options, &bytes, &watch, &mut refused) {
+    match import_watched(alloc, &*files, maps, options, &bytes, &mut refused) {
         Ok(imported) => {
             note_import(alloc, &imported, warnings);
             Ok(Reply::done(imported.text))

@@ -355,7 +355,7 @@ fn with_swapped(
     }
     let named = match guess_for(&guesses, ImportColumn::Source) {
         Some(guess) => Some(guess.place),
-        None => column_place(file, ImportColumn::Source),
+        None => file.heading.place(ImportColumn::Source),
     };
     let Some(named) = named else {
         return Ok(guesses);
@@ -364,16 +364,6 @@ fn with_swapped(
         Some(other) => swapped(alloc, &guesses, file, named, other),
         None => Ok(guesses),
     }
-}
-
-/// The first field that names a column.
-pub fn column_place(file: FileRows, column: ImportColumn) -> Option<usize> {
-    for place in 0..field_count(&file.heading.line) {
-        if is_column_named(column, file.heading.line.field(place)) {
-            return Some(place);
-        }
-    }
-    None
 }
 
 fn guess_of(file: FileRows, column: ImportColumn, place: usize) -> Guess {

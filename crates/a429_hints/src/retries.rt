@@ -1,7 +1,7 @@
 //! The command `import` with which a sheet that was refused comes in.
 
 use crate::file_rows::FileRows;
-use crate::guesses::{Guess, column_place, guess_for};
+use crate::guesses::{Guess, guess_for};
 use crate::hint::HintText;
 use a429_import::{CsvLine, ImportColumn, made_name};
 
@@ -28,7 +28,7 @@ fn field_of<'a>(
 ) -> &'a [u8] {
     match guess_for(guesses, column) {
         Some(guess) => row.field(guess.place),
-        None => match column_place(file, column) {
+        None => match file.heading.place(column) {
             Some(place) => row.field(place),
             None => &[],
         },
