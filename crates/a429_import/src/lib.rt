@@ -9,15 +9,14 @@
 //! with its line and its column; otherwise the first fault of the table.
 //!
 //! ```text
-//! match import_table(alloc, maps, options, &bytes, &watch, &mut refused) {
-//!     Ok(imported) => {
-//!         ..
-//!         Ok(Reply::done(imported.text))
-//!     }
-//!     Err(fault) => {
-//!         ..
-//!     }
-//! }
+//! let imported = import_table(
+//!     alloc,
+//!     maps,
+//!     options,
+//!     bytes,
+//!     &WatchedFiles { files },
+//!     refused,
+//! );
 //! ```
 #![tactic(auto)]
 
