@@ -118,10 +118,11 @@ pub fn read_input<'a, F: FileReader>(
     let table = GivenTable::read(alloc, files, TableNames::of(asked))?;
     let heard = read_logs(alloc, files, asked.second, asked.texts(OptionName::In))?;
     let sent = read_log_files(alloc, files, &asked.more)?;
+    let terms = JudgeTerms::of(asked);
     Ok(JudgeInput {
         table,
         heard,
         sent,
-        terms: JudgeTerms::of(asked),
+        terms,
     })
 }

@@ -1,4 +1,4 @@
-use Rattle.std.proofs.Common.{◌∙◌, ◌∷◌, ap, inl, inr}
+use Rattle.std.proofs.Common.{◌∙◌, ◌∷◌, Global, Vec, ap, inl, inr, ℕ}
 use Rattle.std.specs.Prelude.{Err, None}
 use Rattle.std.proofs.lemmas.Result.{err_from_is_err_and}
 use Rattle.a429_arguments.specs.Requests.{asked_of}
@@ -42,7 +42,8 @@ returns-clause-answer g c =
     let logs = logs_of c.in_ok-logs.logs.items in
     let words = rw c.deref-2.ensures.value at c.in_ok-survey.ensures.survey in
     read_weaker c.in_ok-logs.ensures (λ file all.
-    (c.of-form.result, c.of-form.ensures, logs, c.in_ok-survey.survey, rw c.deref.ensures.value at all, words, c.done.ensures.bytes ∙ c.in_ok-text_of.ensures, c.done.ensures.status))
+    let text = ap (λ (text : Vec ℕ Global). text.items) c.done.ensures.bytes ∙ c.in_ok-text_of.ensures in
+    (c.of-form.result, c.of-form.ensures, (logs, c.in_ok-survey.survey, rw c.deref.ensures.value at all, words, text, c.done.ensures.status)))
 
 pub returns-in_err-survey-clause-silent : goal.returns-in_err-survey-clause-silent
 returns-in_err-survey-clause-silent g c =

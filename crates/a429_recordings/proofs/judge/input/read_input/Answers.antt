@@ -65,5 +65,5 @@ returns g c =
       subst (λ (names : TableTexts). IsTableRead file names table) c.of.ensures read,
       subst (λ (more : List (List ℕ)). AreReadLogs file (r.second ∷ more) heard) (c.texts.ensures refl) rest.0,
       rest.1,
-      c.of-3.ensures,
+      c.of-terms.ensures,
     ))

@@ -43,7 +43,7 @@ returns-clause-answer g c =
     (λ file read all.
     let these = rw c.deref.ensures.value at all in
     replies_weaker (IsCompared table f logs) (SurveyedBy (Some name) file r) (IsUncompared table f logs) (UnsurveyedBy (Some name) file r) c.compare_bytes.result
-    (λ status bytes one. (f, c.of-form.ensures, table, logs, read, these, one)) (λ e one. (f, c.of-form.ensures, inr (table, logs, read, these, one))) compared)
+    (λ status bytes one. (f, c.of-form.ensures, (table, logs, read, these, one))) (λ e one. (f, c.of-form.ensures, inr (table, logs, read, these, one))) compared)
 
 pub returns-in_err-table-clause-silent : goal.returns-in_err-table-clause-silent
 returns-in_err-table-clause-silent g c = read_weaker c.in_err-table.ensures (λ file bad none. refl)
