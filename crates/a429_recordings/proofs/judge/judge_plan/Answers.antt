@@ -4,7 +4,7 @@ use Rattle.a429_recordings.proofs.JudgedFiles.{unprinted}
 use Rattle.a429_recordings.proofs.judge.judge_plan.Goals as goal
 
 pub returns-in-Ok-clause-judged : goal.returns-in-Ok-clause-judged
-returns-in-Ok-clause-judged g c = (c.requires.groups, search rules, c.in_ok-found.found, c.in_ok-found.ensures, c.in-Ok.ensures.printed)
+returns-in-Ok-clause-judged g c = (c.requires.groups, search rules, (c.in_ok-found.found, c.in_ok-found.ensures, c.in-Ok.ensures.printed))
 
 pub returns-in-Err-clause-judged : goal.returns-in-Err-clause-judged
 returns-in-Err-clause-judged g c =
