@@ -153,14 +153,8 @@ fn import_watched<F: FileReader>(
 ) -> Result<Imported, ImportFault>
     ensures { IsImport (given_texts maps.now) options bytes.now result }
 {
-    let imported = import_table(
-        alloc,
-        maps,
-        options,
-        bytes,
-        &WatchedFiles { files },
-        refused,
-    );
+    let watch = WatchedFiles { files };
+    let imported = import_table(alloc, maps, options, bytes, &watch, refused);
     files.show_end();
     imported
 }

@@ -9,7 +9,11 @@
 //! with its line and its column; otherwise the first fault of the table.
 //!
 //! ```text
-//! match import_table(alloc, maps, options, &bytes, &watch, &mut refused) {
+//! let watch = WatchedFiles { files };
+//! let imported = import_table(alloc, maps, options, bytes, &watch, refused);
+//! files.show_end();
+//! ..
+//! match import_watched(alloc, &*files, maps, options, &bytes, &mut refused) {
 //!     Ok(imported) => {
 //!         ..
 //!         Ok(Reply::done(imported.text))
