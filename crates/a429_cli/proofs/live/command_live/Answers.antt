@@ -4,7 +4,7 @@ use Rattle.a429_console.specs.Ends.{writing}
 use Rattle.a429_arguments.specs.Texts.{texts_of}
 use Rattle.a429_console.specs.Outputs.{IsPut}
 use Rattle.a429_console.specs.Readings.{HasRead}
-use Rattle.a429_arguments.specs.Requests.{AskedBytes, asked_of}
+use Rattle.a429_arguments.specs.Requests.{AskedBytes}
 use Rattle.a429_arguments.specs.Usage.{live_kinds_of_words}
 use Rattle.a429_console.proofs.ReadingParts.{known_read, read_none, read_weaker}
 use Rattle.a429_live.specs.LiveReplies.{TakesLive}
@@ -35,7 +35,7 @@ returns-in-Err-clause-ends g c = c.in-Err.ensures.ends
 pub returns-clause-replied : goal.returns-clause-replied
 returns-clause-replied g c = λ r live asks tells none.
     let out = writing g.O.Output.contents g.O.Output.failures g.O.Output.is_flushed c.args.out.now c.put_reply-answered.new.out in
-    let put = live_put g.F.FileReader.answers c.args.files.now c.run_station-reply.new.files (asked_of c.asked.now) r c.run_station-reply.result c.put_reply-answered.result
+    let put = live_put g.F.FileReader.answers c.args.files.now c.run_station-reply.new.files _ r c.run_station-reply.result c.put_reply-answered.result
     (g.O.Output.contents c.asked_here.new.out) (g.O.Output.contents c.put_reply-answered.new.out) (c.in-Ok.ensures.request r asks) live c.run_station-reply.ensures.report c.put_reply-answered.ensures.put in
     answer_put (IsReplyOrMemory (g.F.FileReader.file c.args.files.now) r) out c.asked_here.new.out c.put_reply-answered.result c.ended-status.result c.in-Ok.ensures.left
     (known_read g.F.FileReader.answers g.F.FileReader.tells g.F.FileReader.file g.met.F.FileReader.known c.args.files.now c.run_station-reply.new.files put tells)
@@ -44,7 +44,7 @@ returns-clause-replied g c = λ r live asks tells none.
 pub returns-clause-read : goal.returns-clause-read
 returns-clause-read g c = λ r live asks none.
     let out = writing g.O.Output.contents g.O.Output.failures g.O.Output.is_flushed c.args.out.now c.put_reply-answered.new.out in
-    let put = live_put g.F.FileReader.answers c.args.files.now c.run_station-reply.new.files (asked_of c.asked.now) r c.run_station-reply.result c.put_reply-answered.result
+    let put = live_put g.F.FileReader.answers c.args.files.now c.run_station-reply.new.files _ r c.run_station-reply.result c.put_reply-answered.result
     (g.O.Output.contents c.asked_here.new.out) (g.O.Output.contents c.put_reply-answered.new.out) (c.in-Ok.ensures.request r asks) live c.run_station-reply.ensures.report c.put_reply-answered.ensures.put in (
       c.run_station-reply.new.files,
       read_weaker put (λ file is. answer_put (IsReplyOrMemory file r) out c.asked_here.new.out c.put_reply-answered.result c.ended-status.result c.in-Ok.ensures.left is
