@@ -3,7 +3,7 @@ pub mod KindReplies
 pub mod Pieces
 pub mod ReadingParts
 pub mod Refused
-pub mod RefusalEndings
+pub mod PutReplies
 pub mod SoFar
 pub mod EntryLines
 pub mod CallEnds

@@ -9,5 +9,6 @@ pub mod Replying
 pub mod Names
 pub mod FileReadings
 pub mod RefusalText
+pub mod WholeReplies
 pub mod Tables
 pub mod Lines

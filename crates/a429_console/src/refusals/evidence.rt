@@ -160,15 +160,14 @@ impl Drop for LineEvidence {
     }
 }
 
-/// The last line of a text that states something; empty lines and comments do not.
-fn last_stated(text: &[u8]) -> &[u8] {
-    let mut last: &[u8] = &[];
-    for line in text.split(|byte| *byte == b'\n') {
+/// The last line of a text that states something; empty lines and comments do not. Empty if there is none.
+pub fn last_stated(text: &[u8]) -> &[u8] {
+    for line in text.rsplit(|byte| *byte == b'\n') {
         if !line.is_empty() && !line.starts_with(b"#") {
-            last = line;
+            return line;
         }
     }
-    last
+    &[]
 }
 
 impl LineEvidence {
@@ -189,9 +188,12 @@ impl LineEvidence {
         })
     }
 
-    /// The same line, by its number in a longer text.
-    pub fn with_number(mut self, number: usize) -> LineEvidence {
+    /// The same line, by its number in a longer text. There `above` is the last line before this text that states something.
+    pub fn in_text(mut self, number: usize, above: &[u8]) -> LineEvidence {
         self.number = number;
+        if self.before.is_empty() {
+            let _ = self.before.extend_from_slice(above);
+        }
         self
     }
 
