@@ -7,7 +7,6 @@ use Rattle.a429_logs.specs.declared.reading.Reading.{Reading}
 use Rattle.a429_slots.specs.Proposed.{Proposed}
 use Rattle.a429_console.specs.Files.{logs_of}
 use Rattle.a429_console.specs.Names.{Naming, naming_of}
-use Rattle.a429_given.specs.GivenPlans.{IsGivenPlan}
 use Rattle.a429_console.specs.declared.refusals.CommandRefusal.{CommandRefusal}
 use Rattle.a429_console.specs.declared.refusals.CommandRefusal.TheVariants as refused
 use Rattle.a429_console.specs.RefusalText.{OrMemory}
@@ -15,13 +14,11 @@ use Rattle.a429_console.proofs.Refused.{or_memory_weaker}
 use Rattle.a429_align.specs.declared.search.Alignment.{Alignment}
 use Rattle.a429_judge.specs.Recordings.{JudgedLogs, nothing_noted}
 use Rattle.a429_recordings.specs.BoxLogs.{AreApartFrom, AreNoted, IsLaterNoting, notes, part_word_by, restarted}
-use Rattle.a429_recordings.specs.JudgeReplies.{AreBoxFiles, BoxFiles, IsJudgeAnswer, IsJudging, IsHeardFault, IsJudgingOf, IsNoRecording, IsRecorded, IsUnjudged, IsUnjudgedBy, IsUnjudgedOf, MayBeFound, aligned_by, has_both, heard_by, is_mixed, logs_of_sent, no_group_of}
+use Rattle.a429_recordings.specs.JudgeReplies.{BoxFiles, IsHeardFault, IsNoRecording, IsRecorded, IsUnjudgedOf, MayBeFound, aligned_by, has_both, heard_by, is_mixed, logs_of_sent, no_group_of}
 use Rattle.a429_recordings.specs.JudgedPlans.{all_duties, is_any_wide}
 use Rattle.a429_recordings.specs.LogItems.{IsItemFault}
 use Rattle.a429_equipment.specs.TableRecord.{TableRecord}
 use Rattle.a429_recordings.specs.LogViews.{View, view_after}
-use Rattle.a429_recordings.specs.declared.judge.JudgeForm.{JudgeForm}
-use Rattle.a429_recordings.specs.declared.judge.Judged.{Judged}
 use Rattle.a429_recordings.specs.declared.judge.words.BoxLog.TheVariants as log
 use Rattle.a429_recordings.specs.declared.judge.noting.NotedLogs.{NotedLogs}
 use Rattle.a429_recordings.proofs.NotedBoxes.{both, both_duties, both_in_order, both_noted}
@@ -31,11 +28,11 @@ pub same_count : (logs : List (Vec (Vec ℕ Global) Global)) → has_both logs �
 same_count logs = ap (λ (n : ℕ). n == 0) (sym (length-map logs _))
 
 -- what came in was noted, and then what was sent
-pub recorded : (q : Proposed) (i : BoxFiles (List ℕ)) (reading : Reading) (heard : NotedLogs) (result : Result JudgedLogs CommandRefusal)
-    → AreNoted q.station log.Heard (heard_by q i) reading i.heard (nothing_noted (all_duties q i.tolerances)) heard
-    → IsLaterNoting q.station (naming_of q.station) i.sent_view (is_mixed i) heard (logs_of_sent i) result → IsRecorded q i reading result
+pub recorded : (q : Proposed) (i : BoxFiles) (reading : Reading) (heard : NotedLogs) (result : Result JudgedLogs CommandRefusal)
+    → AreNoted q.station log.Heard (heard_by q i) reading i.heard (nothing_noted (all_duties q i.terms.tolerances)) heard
+    → IsLaterNoting q.station (naming_of q.station) i.terms.sent_view (is_mixed i) heard (logs_of_sent i) result → IsRecorded q i reading result
 recorded q i reading heard (Ok j) H L =
-    let ds = all_duties q i.tolerances in
+    let ds = all_duties q i.terms.tolerances in
     let is : j ≡ both q.station ds H.words L.noted.words = L.judge ∙ L.noted.judge ∙ ap (λ (k : JudgedLogs). fold (notes q.station log.Sent) k L.noted.words) H.judge in
     record {
       recorded = record {
@@ -50,9 +47,9 @@ recorded q i reading heard (Ok j) H L =
       in_order = ap (λ (k : JudgedLogs). k.in_order) is ∙ both_in_order q.station ds H.words L.noted.words H.ordered L.noted.ordered;
     }
 recorded q i reading heard (Err e) H bad =
-    let item = part_word_by (naming_of q.station) (view_after heard.next i.sent_view) (record { log = log.Sent; is_mixed = is_mixed i }) in
+    let item = part_word_by (naming_of q.station) (view_after heard.next i.terms.sent_view) (record { log = log.Sent; is_mixed = is_mixed i }) in
     let first = IsItemFault item (restarted heard.next) (logs_of_sent i) in
-    let second = AreApartFrom q.station (naming_of q.station) i.sent_view (is_mixed i) heard (logs_of_sent i) in
+    let second = AreApartFrom q.station (naming_of q.station) i.terms.sent_view (is_mixed i) heard (logs_of_sent i) in
     let lost : first e ⊎ second e → IsNoRecording q i reading e = elim [
       | inl fault ↦ inr (inl (H.words, H.read, rw H.next at fault))
       | inr apart ↦ inr (inr (H.words, apart.noted.words, H.read, rw H.next at apart.noted.read, rw (H.span, apart.noted.span) at apart.apart, apart.refused))
@@ -60,10 +57,10 @@ recorded q i reading heard (Err e) H bad =
     or_memory_weaker (λ (refusal : CommandRefusal). first refusal ⊎ second refusal) (IsNoRecording q i reading) e lost bad
 
 -- the logs that have what was sent
-pub same_heard : (i : BoxFiles (List ℕ)) → is_mixed i ≡ true → i.heard ≡ logs_of_sent i
+pub same_heard : (i : BoxFiles) → is_mixed i ≡ true → i.heard ≡ logs_of_sent i
 same_heard i mixed = sym (ap (λ (b : Bool). if b then i.heard else i.sent) mixed)
 
-pub same_sent : (i : BoxFiles (List ℕ)) → is_mixed i ≡ false → i.sent ≡ logs_of_sent i
+pub same_sent : (i : BoxFiles) → is_mixed i ≡ false → i.sent ≡ logs_of_sent i
 same_sent i apart = sym (ap (λ (b : Bool). if b then i.heard else i.sent) apart)
 
 -- by other names of the same values
@@ -72,22 +69,11 @@ pub later_noted : (t u : TableRecord) (names known : Naming) (view moved : View)
 later_noted t u names known view moved mixed both heard texts all result a b c d e noted = rw (a, b, c, d, e) at noted
 
 -- a line of what came in is faulty
-pub unheard : (q : Proposed) (i : BoxFiles (List ℕ)) (reading : Reading) (e : CommandRefusal) → OrMemory (IsHeardFault q i reading) e → IsRecorded q i reading (Err e)
+pub unheard : (q : Proposed) (i : BoxFiles) (reading : Reading) (e : CommandRefusal) → OrMemory (IsHeardFault q i reading) e → IsRecorded q i reading (Err e)
 unheard q i reading e bad = or_memory_weaker (IsHeardFault q i reading) (IsNoRecording q i reading) e (λ one. inl one) bad
 
 -- each group is there, and no tolerance is too great
-pub unprinted : (q : Proposed) (i : BoxFiles (List ℕ)) (f : JudgeForm) (clock : Option Alignment) (e : CommandRefusal) → no_group_of (naming_of q.station) i.tolerances ≡ None → is_any_wide q i.tolerances ≡ false → MayBeFound i clock
-    → OrMemory (IsNoRecording q (aligned_by clock i) f.reading) e → OrMemory (IsUnjudgedOf q i f) e
-unprinted q i f clock e all narrow may bad =
-    or_memory_weaker (IsNoRecording q (aligned_by clock i) f.reading) (IsUnjudgedOf q i f) e (λ one. inr (all, inr (narrow, (clock, may, one)))) bad
-
--- the bytes of the table have this plan
-pub judged_of : (q : Proposed) (i : BoxFiles (List ℕ)) (f : JudgeForm) (result : Result Judged CommandRefusal) → IsGivenPlan i.table q → IsJudgingOf q i f result → IsJudging i f result
-judged_of q i f (Ok j) proposed is = (q, proposed, is)
-judged_of q i f (Err e) proposed bad = or_memory_weaker (IsUnjudgedOf q i f) (IsUnjudged i f) e (λ one. inr (q, proposed, one)) bad
-
--- the files have these bytes
-pub judged_by : (file : List ℕ → Option (List ℕ)) (names i : BoxFiles (List ℕ)) (f : JudgeForm) (result : Result Judged CommandRefusal) → AreBoxFiles file names i → IsJudging i f result
-    → IsJudgeAnswer file names f result
-judged_by file names i f (Ok j) are is = (i, are, is)
-judged_by file names i f (Err e) are bad = or_memory_weaker (IsUnjudged i f) (IsUnjudgedBy file names f) e (λ one. inr (i, are, one)) bad
+pub unprinted : (q : Proposed) (i : BoxFiles) (clock : Option Alignment) (e : CommandRefusal) → no_group_of (naming_of q.station) i.terms.tolerances ≡ None → is_any_wide q i.terms.tolerances ≡ false
+    → MayBeFound i clock → OrMemory (IsNoRecording q (aligned_by clock i) i.terms.reading) e → OrMemory (IsUnjudgedOf q i) e
+unprinted q i clock e all narrow may bad =
+    or_memory_weaker (IsNoRecording q (aligned_by clock i) i.terms.reading) (IsUnjudgedOf q i) e (λ one. inr (all, inr (narrow, (clock, may, one)))) bad

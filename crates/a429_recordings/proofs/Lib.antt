@@ -11,7 +11,6 @@ pub mod ShortNames
 pub mod SentCells
 pub mod TrackOrder
 mod CloseRuns
-pub mod ComparedFiles
 pub mod SimulationEnds
 pub mod SimulationPrinted
 pub mod SendFigures

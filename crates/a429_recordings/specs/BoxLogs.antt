@@ -24,7 +24,6 @@ use Rattle.a429_recordings.specs.declared.judge.words.BoxLog.{BoxLog}
 use Rattle.a429_recordings.specs.declared.judge.words.BoxLog.TheVariants as log
 use Rattle.a429_recordings.specs.declared.judge.words.BoxPart.{BoxPart}
 use Rattle.a429_recordings.specs.declared.judge.words.BoxWord.{BoxWord}
-use Rattle.a429_recordings.specs.declared.judge.words.BoxWords.{BoxWords}
 use Rattle.a429_recordings.specs.declared.judge.noting.LogTexts.{LogTexts}
 use Rattle.a429_recordings.specs.declared.judge.noting.LogTexts.TheVariants as texts
 use Rattle.a429_recordings.specs.declared.judge.noting.NotedLogs.{NotedLogs}
@@ -130,11 +129,6 @@ overlap words other = meet (span_of words) (span_of other)
 abbrev pub with_time : Option BoxSpan → ℕ → Option BoxSpan
 with_time None time = Some (record { first = time; last = time })
 with_time (Some s) time = Some (record s { last = time })
-
--- the words of logs and how the next log is read, or the first faulty line
-abbrev pub IsLogsReading : (Stated → Option (List BoxWord)) → Reading → List (List ℕ) → Result BoxWords CommandRefusal → Type 0
-IsLogsReading item reading texts result =
-    MatchResult result (λ read. (items_of item reading texts ≡ Ok read.words.items) × (read.next ≡ reading_behind reading texts)) (OrMemory (IsItemFault item reading texts))
 
 -- no word comes before the one above it, nor before this time
 abbrev pub AreFrom : ℕ → List BoxWord → Type 0

@@ -9,29 +9,16 @@ use Rattle.a429_logs.specs.declared.reader.LogFault.{LogFault}
 use Rattle.a429_logs.specs.declared.reader.LogPoint.{LogPoint}
 use Rattle.a429_logs.specs.declared.reader.LogReader.{LogReader}
 use Rattle.a429_logs.specs.declared.reading.Reading.{Reading}
-use Rattle.a429_arguments.specs.Texts.{texts_of}
 use Rattle.a429_console.specs.FileReadings.{AreReadLogs}
 use Rattle.a429_console.specs.Files.{bytes_of}
 use Rattle.a429_console.specs.Lines.{entries_before}
 use Rattle.a429_console.specs.RefusalText.{OrMemory}
 use Rattle.a429_console.specs.declared.refusals.CommandRefusal.{CommandRefusal}
 use Rattle.a429_console.specs.declared.refusals.CommandRefusal.TheVariants as refused
-use Rattle.a429_recordings.specs.LogViews.{View, view_of}
-use Rattle.a429_recordings.specs.declared.logs.LogNames.{LogNames}
 use Rattle.a429_recordings.specs.declared.logs.keeping.KeepFault.{KeepFault}
 use Rattle.a429_recordings.specs.declared.logs.keeping.LogEnd.{LogEnd}
 use Rattle.a429_recordings.specs.declared.logs.keeping.PieceEnd.{PieceEnd}
 use Rattle.a429_recordings.specs.declared.logs.keeping.KeepFault.TheVariants as fault
-
--- ---- names
-
--- the names of logs
-abbrev pub logs_named : LogNames → List (List ℕ)
-logs_named n = n.first.now ∷ texts_of n.more.now
-
--- which words of them are taken, and how
-abbrev pub view_named : LogNames → View
-view_named n = view_of n.view
 
 -- ---- items
 

@@ -15,20 +15,20 @@ use Rattle.a429_console.specs.Names.{naming_of}
 use Rattle.a429_console.specs.Outputs.{AppendsPending, IsPut, OrNoMemory, memory_refused}
 use Rattle.a429_console.specs.RefusalText.{OrMemory, refusal_line}
 use Rattle.a429_arguments.specs.Given.{Given, dates_of, form_of, has_given, long_number_given, order_of, origin_of, unit_of}
+use Rattle.a429_arguments.specs.Requests.{AskedBytes}
 use Rattle.a429_arguments.specs.declared.options.OptionName.TheVariants as option
 use Rattle.a429_given.specs.GivenPlans.{IsGivenPlan, IsNoGivenPlan}
-use Rattle.a429_given.specs.GivenTables.{IsTableRead, IsTableUnread, TableTexts, table_texts}
+use Rattle.a429_given.specs.GivenTables.{IsTableRead, IsTableUnread, TableTexts, named_table, table_texts}
 use Rattle.a429_console.specs.declared.refusals.CommandRefusal.{CommandRefusal}
 use Rattle.a429_console.specs.declared.refusals.CommandRefusal.TheVariants as refused
 use Rattle.a429_recordings.specs.CloseWords.{AreSpaced}
-use Rattle.a429_recordings.specs.LogItems.{logs_named, view_named}
-use Rattle.a429_recordings.specs.LogViews.{View, view_of}
+use Rattle.a429_recordings.specs.LogItems.{PassesNoLine}
+use Rattle.a429_recordings.specs.LogViews.{View, view_of, whole_view}
 use Rattle.a429_recordings.specs.SimulationLog.{IsLogFault, log_words}
 use Rattle.a429_recordings.specs.Timeline.{TimelineIsBegun, IsTimeline, SendsTooMuch, end_of}
 use Rattle.a429_recordings.specs.Simulating.{happenings_of, steps_of, text_of}
 use Rattle.a429_recordings.specs.SimulationRuns.{AreHappenings, CanBePlayed, HasPlayed, HasStationNames, IsBegin}
 use Rattle.a429_recordings.specs.Summary.{summary_text}
-use Rattle.a429_recordings.specs.declared.logs.LogNames.{LogNames}
 use Rattle.a429_recordings.specs.declared.simulate.Simulation.{Simulation}
 use Rattle.a429_recordings.specs.declared.simulate.SimulationForm.{SimulationForm}
 use Rattle.a429_recordings.specs.declared.simulate.SimulationInput.{SimulationInput}
@@ -55,6 +55,10 @@ pub record IsReadingFor (given : Given) (reading : Reading) : Type 0 where
   pub has_rows : reading.has_rows ≡ false
   pub calendar : reading.calendar ≡ Open
   pub clock : reading.clock ≡ clock_from (origin_of given)
+
+-- no line of the logs of these names is passed over as they are read, other than those that every log may have
+abbrev pub PassesNoAskedLine : (List ℕ → Option (List ℕ)) → List (List ℕ) → Given → Type 0
+PassesNoAskedLine file names given = (reading : Reading) → IsReadingFor given reading → PassesNoLine file names reading
 
 -- how lines are written, by whether only the words that are sent have one, and by the form of what is printed
 abbrev pub line_style : Bool → SheetForm → LineStyle
@@ -153,25 +157,31 @@ IsSimulation file table logs view form status bytes =
     ⊎ ((i : SimulationFiles) × (q : Proposed) × (words : List LogWord) × AreSimulationFiles file table logs view i × IsSimulated i form.reading q words
     × IsWritten q words (end_of q words form.until) form.summary form.style form.form status bytes)
 
+-- the same of a request, in the form that the options ask for
+abbrev pub IsAskedSimulation : (List ℕ → Option (List ℕ)) → AskedBytes → ℕ → List ℕ → Type 0
+IsAskedSimulation file r status bytes =
+    (form : SimulationForm) × IsSimulationForm r.given form × IsSimulation file (named_table r) (r.second ∷ r.more) (whole_view r.given) form status bytes
+
 -- the words of the logs that are simulated are apart
 abbrev pub SimulatesSpacedWords : (List ℕ → Option (List ℕ)) → TableTexts → List (List ℕ) → View → SimulationForm → Type 0
 SimulatesSpacedWords file table logs view form =
     (i : SimulationFiles) (q : Proposed) (words : List LogWord) → AreSimulationFiles file table logs view i → IsSimulated i form.reading q words → AreSpaced words
+
+-- the same of a request
+abbrev pub SimulatesAskedSpacedWords : (List ℕ → Option (List ℕ)) → AskedBytes → Type 0
+SimulatesAskedSpacedWords file r =
+    (form : SimulationForm) → IsSimulationForm r.given form → SimulatesSpacedWords file (named_table r) (r.second ∷ r.more) (whole_view r.given) form
 
 -- ---- by the values of the program
 
 abbrev pub files_of : SimulationInput → SimulationFiles
 files_of i = record { table = table_texts i.table; logs = logs_of i.logs.items; view = view_of i.view }
 
--- what it writes of the logs of these names
-abbrev pub IsSimulationOf : (List ℕ → Option (List ℕ)) → TableTexts → LogNames → SimulationForm → ℕ → List ℕ → Type 0
-IsSimulationOf file table names form = IsSimulation file table (logs_named names) (view_named names) form
-
 -- what reading the files gives: their bytes, or the first that cannot be read
-abbrev pub IsSimulationReading : (List ℕ → Option (List ℕ)) → TableTexts → LogNames → Result SimulationInput CommandRefusal → Type 0
-IsSimulationReading file table names result =
-    MatchResult result (λ i. AreSimulationFiles file table (logs_named names) (view_named names) (files_of i))
-    (OrMemory (IsUnreadFile file table (logs_named names)))
+abbrev pub IsSimulationReading : (List ℕ → Option (List ℕ)) → AskedBytes → Result SimulationInput CommandRefusal → Type 0
+IsSimulationReading file r result =
+    MatchResult result (λ i. AreSimulationFiles file (named_table r) (r.second ∷ r.more) (whole_view r.given) (files_of i))
+    (OrMemory (IsUnreadFile file (named_table r) (r.second ∷ r.more)))
 
 -- a station of a table, with its names
 abbrev pub IsSettingOf : TableTexts → LineStyle → Setting → Type 0

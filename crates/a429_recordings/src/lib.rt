@@ -1,22 +1,14 @@
 //! Commands on recordings of words.
 //!
-//! `simulate` plays the words of a log on the station of a table, at their times. It puts a line for each word that is sent
-//! or refused, or the summary of what each output sent, in the form that a `SimulationForm` says.
+//! `survey_reply` says what is on the lines of logs, and `judge_reply` whether what a box sent is right. Each answers a `Reply`.
 //!
 //! ```text
-//! let form = SimulationForm::of(asked);
-//! simulate(
-//!     alloc,
-//!     files,
-//!     TableNames::of(asked),
-//!     simulated_logs(asked),
-//!     form,
-//!     warnings,
-//!     out,
-//! )
+//! Verb::Survey => survey_reply(alloc, files, asked, warnings),
+//! Verb::Judge => judge_reply(alloc, files, asked, warnings),
 //! ```
 //!
-//! `survey_logs` needs no table: its answer is the text of a sheet that says what is on the lines of a log.
+//! `simulate` plays the words of a log on the station of a table, at their times. It puts a line for each word that is sent
+//! or refused, or the summary of what each output sent, as it is asked for.
 #![tactic(auto)]
 
 pub mod judge;

@@ -1,4 +1,4 @@
-//! Logs: their names, which of their words are taken, and how they are read.
+//! Logs: which of their words are taken, and how they are read.
 ghost use Rattle.std.specs.Prelude.{◌≡◌};
 ghost use Rattle.a429_arguments.specs.Requests.{asked_of};
 ghost use Rattle.a429_recordings.specs.SimulationReplies.{IsReadingFor, clock_from};
@@ -6,19 +6,10 @@ ghost use Rattle.a429_recordings.specs.SimulationReplies.{IsReadingFor, clock_fr
 pub mod keeping;
 pub mod views;
 
-use crate::logs::views::LogView;
 use a429_arguments::options::OptionName;
 use a429_arguments::requests::Asked;
 use a429_arguments::times::LogOrigin;
 use a429_logs::{Clock, Reading};
-
-/// The names of logs that are read one after another, and which of their words are taken.
-#[derive(Clone, Copy)]
-pub struct LogNames<'a> {
-    pub first: &'a str,
-    pub more: &'a [&'a str],
-    pub view: LogView<'a>,
-}
 
 /// The clock that reads times as they are, or counts them from that of the first word.
 fn clock_from(from: LogOrigin) -> Clock

@@ -1,15 +1,16 @@
 //! The command `simulate`.
-ghost use Rattle.std.specs.Prelude.{◌≡◌, ◌≤◌, true, IfOk, IsTrue, MatchResult, OnOk};
+ghost use Rattle.std.specs.Prelude.{◌≡◌, ◌≤◌, ◌∷◌, true, IfOk, IsTrue, MatchResult, OnOk};
+ghost use Rattle.a429_arguments.specs.Requests.{asked_of};
 ghost use Rattle.a429_console.specs.Readings.{HasRead};
 ghost use Rattle.a429_console.specs.Outputs.{CountsFault};
 ghost use Rattle.a429_console.specs.RefusalText.{OrMemory};
 ghost use Rattle.a429_console.specs.Replying.{HasReplied};
 ghost use Rattle.a429_given.specs.GivenPlans.{IsNoGivenPlan};
-ghost use Rattle.a429_given.specs.GivenTables.{table_names, table_texts};
+ghost use Rattle.a429_given.specs.GivenTables.{table_texts};
 ghost use Rattle.a429_recordings.specs.CellLines.{IsBeginOfSlot};
 ghost use Rattle.a429_recordings.specs.CloseWords.{AreSpaced};
-ghost use Rattle.a429_recordings.specs.LogItems.{PassesNoLine, PassesNone, logs_named, view_named};
-ghost use Rattle.a429_recordings.specs.SimulationReplies.{BeginsLog, BeginsNoLog, HasPrinted, HasPrintedLines, HasPrintedSummary, HasSummary, IsPreparing, IsSettingOf, IsSimulationOf, IsSimulationReading, PutsLines, SimulatesSpacedWords, SimulationIsReady, files_of, line_style};
+ghost use Rattle.a429_recordings.specs.LogItems.{PassesNone};
+ghost use Rattle.a429_recordings.specs.SimulationReplies.{BeginsLog, BeginsNoLog, HasPrinted, HasPrintedLines, HasPrintedSummary, HasSummary, IsAskedSimulation, IsPreparing, IsSettingOf, IsSimulationReading, PassesNoAskedLine, PutsLines, SimulatesAskedSpacedWords, SimulationIsReady, files_of, line_style};
 ghost use Rattle.a429_recordings.specs.SimulationRuns.{CanBePlayed, HasStationNames};
 
 mod close;
@@ -22,14 +23,12 @@ mod playing;
 mod summary_rows;
 mod tracks;
 
-pub use crate::logs::LogNames;
 use crate::logs::keeping::bytes_in;
 use crate::logs::reading_for;
-pub use crate::logs::views::LogView;
+use crate::logs::views::LogView;
 use crate::simulate::close::close_receiver;
 use crate::simulate::figures::Summary;
-pub use crate::simulate::lines::LineStyle;
-use crate::simulate::lines::{PendingLines, Setting};
+use crate::simulate::lines::{LineStyle, PendingLines, Setting};
 use crate::simulate::log::read_words;
 use crate::simulate::playing::Player;
 use crate::simulate::summary_rows::summary_sheet;
@@ -113,21 +112,20 @@ impl Drop for Simulation {
     }
 }
 
-/// Reads the files of these names.
+/// Reads the files that a request names.
 fn read_input<'a, F: FileReader>(
     alloc: Global,
     files: &mut F,
-    table: TableNames<'_>,
-    names: LogNames<'a>,
+    asked: &'a Asked<'_>,
 ) -> Result<SimulationInput<'a>, Refused>
-    ensures { HasRead F.answers (λ file. IsSimulationReading file (table_names table.entry) names.entry result) files.old files.new }
+    ensures { HasRead F.answers (λ file. IsSimulationReading file (asked_of asked.now) result) files.old files.new }
 {
-    let table = GivenTable::read(alloc, files, table)?;
-    let logs = read_logs(alloc, files, names.first, names.more)?;
+    let table = GivenTable::read(alloc, files, TableNames::of(asked))?;
+    let logs = read_logs(alloc, files, asked.second, &asked.more)?;
     Ok(SimulationInput {
         table,
         logs,
-        view: names.view,
+        view: LogView::whole(asked),
     })
 }
 
@@ -344,26 +342,24 @@ fn print_simulation<F: FileReader, O: Output>(
 /// refused, or only for those that are sent, or instead the summary of what each output sent. A refusal is one line
 /// instead. The status is 0, or 1 after a refusal, or if an allocation fails after the first lines. A receiver to which
 /// words come too closely is noted, and so is what is passed over in a log. Error: the output failed.
-pub fn simulate<'a, F: FileReader, O: Output>(
+pub fn simulate<F: FileReader, O: Output>(
     alloc: Global,
     files: &mut F,
-    table: TableNames<'_>,
-    names: LogNames<'a>,
-    form: SimulationForm<'a>,
+    asked: &Asked,
     warnings: &mut Vec<Warning>,
     out: &mut O,
 ) -> Result<Answered, OutputFault>
-    ensures simulated { HasReplied F.answers O.contents (λ file. IsSimulationOf file (table_names table.entry) names.entry form.entry)
+    ensures simulated { HasReplied F.answers O.contents (λ file. IsAskedSimulation file (asked_of asked.now))
         files.old files.new out.old out.new result }
     ensures silent { HasRead F.answers
-        (λ file. PassesNoLine file (logs_named names.entry) form.entry.reading
-        → SimulatesSpacedWords file (table_names table.entry) (logs_named names.entry) (view_named names.entry) form.entry
-        → warnings.new.items ≡ warnings.old.items) files.old files.new }
+        (λ file. PassesNoAskedLine file ((asked_of asked.now).second ∷ (asked_of asked.now).more) (asked_of asked.now).given
+        → SimulatesAskedSpacedWords file (asked_of asked.now) → warnings.new.items ≡ warnings.old.items) files.old files.new }
     ensures status { IfOk result (λ status. status ≤ 1) }
     ensures flushed { OnOk result (IsTrue (O.is_flushed out.new)) }
     ensures faults { CountsFault result (O.failures out.old) (O.failures out.new) }
 {
-    let input = match read_input(alloc, files, table, names) {
+    let form = SimulationForm::of(asked);
+    let input = match read_input(alloc, files, asked) {
         Ok(input) => input,
         Err(refusal) => return refuse(alloc, refusal, out),
     };

@@ -1,19 +1,22 @@
 //! The command `survey`.
-ghost use Rattle.std.specs.Prelude.{◌≡◌, Ok, IfOk, MatchResult, option_map};
+ghost use Rattle.std.specs.Prelude.{◌≡◌, ◌∷◌, None, Ok, IfOk, MatchResult, option_map};
+ghost use Rattle.a429_arguments.specs.Requests.{asked_of};
 ghost use Rattle.a429_console.specs.Files.{logs_of};
 ghost use Rattle.a429_console.specs.Readings.{HasRead};
 ghost use Rattle.a429_console.specs.RefusalText.{OrMemory};
-ghost use Rattle.a429_recordings.specs.LogItems.{IsItemFault, PassesNoLine, PassesNone, items_of, logs_named};
-ghost use Rattle.a429_recordings.specs.LogViews.{view_of};
-ghost use Rattle.a429_recordings.specs.Surveys.{IsSurveyAnswer, noted_by, survey_text, text_in};
+ghost use Rattle.a429_console.specs.WholeReplies.{Replies};
+ghost use Rattle.a429_recordings.specs.Comparing.{IsSurveyed, IsUnsurveyed, SurveyedBy, UnsurveyedBy};
+ghost use Rattle.a429_recordings.specs.LogItems.{PassesNone};
+ghost use Rattle.a429_recordings.specs.SimulationReplies.{PassesNoAskedLine};
+ghost use Rattle.a429_recordings.specs.Surveys.{IsWordFault, survey_text, text_in, words_in};
 
-pub mod compare;
+mod compare;
 mod expected;
 
-pub use crate::logs::LogNames;
 use crate::logs::keeping::{KeepFault, WordKeeper, keep_logs};
 use crate::logs::reading_for;
-pub use crate::logs::views::{ClockMove, LogView};
+use crate::logs::views::{ClockMove, LogView};
+use crate::survey::compare::compared_reply;
 use a429_arguments::options::OptionName;
 use a429_arguments::requests::Asked;
 use a429_console::files::FileReader;
@@ -21,6 +24,7 @@ use a429_console::files::reading::read_logs;
 use a429_console::hints::warnings::Warning;
 use a429_console::refusals::Refused;
 use a429_console::refusals::evidence::{LineEvidence, LogRefusal};
+use a429_console::reply::Reply;
 use a429_logs::{Reading, StatedWord};
 use a429_survey::Survey;
 use a429_text::SheetForm;
@@ -33,13 +37,14 @@ const HIGH_SPEED: u32 = 100_000;
 /// By how much intervals are widened, in per cent, if it is not given (profile).
 const USUAL_SLACK: u32 = 25;
 
-/// What a survey prints: its sheet in a form at a bit rate in bit/s, or the start of a table.
+/// What a survey prints: its sheet in a form at a bit rate in bit/s, or the start of a table; and of which words.
 #[derive(Clone, Copy)]
 pub struct SurveyForm<'a> {
     pub rate: u32,
     /// Rows for `import` are printed, and their intervals are widened by this part of them, in per cent.
     pub slack: Option<u32>,
     pub form: SheetForm,
+    pub view: LogView<'a>,
     /// How the first line of the first log is read.
     pub reading: Reading<'a>,
 }
@@ -61,6 +66,7 @@ impl<'a> SurveyForm<'a> {
             rate: asked.number(OptionName::Rate).unwrap_or(HIGH_SPEED),
             slack,
             form: asked.form(),
+            view: LogView::window(asked, ClockMove::none()),
             reading: reading_for(asked),
         }
     }
@@ -114,15 +120,15 @@ impl WordKeeper for Survey {
 fn survey_of<'a, F: FileReader>(
     alloc: Global,
     files: &F,
-    view: LogView<'a>,
-    reading: Reading<'a>,
+    form: SurveyForm<'a>,
     logs: &'a [Vec<Vec<u8>>],
     warnings: &mut Vec<Warning>,
 ) -> Result<Survey, Refused>
-    ensures silent { PassesNone reading.entry (logs_of logs.now) → warnings.new.items ≡ warnings.old.items }
-    ensures survey { MatchResult result (λ survey. items_of (noted_by (view_of view.entry)) reading.entry (logs_of logs.now) ≡ Ok survey)
-        (OrMemory (IsItemFault (noted_by (view_of view.entry)) reading.entry (logs_of logs.now))) }
+    ensures silent { PassesNone form.entry.reading (logs_of logs.now) → warnings.new.items ≡ warnings.old.items }
+    ensures survey { MatchResult result (λ survey. words_in form.entry (logs_of logs.now) ≡ Ok survey)
+        (OrMemory (IsWordFault form.entry (logs_of logs.now))) }
 {
+    let (view, reading) = (form.view, form.reading);
     let mut survey = Survey::new(alloc);
     match keep_logs(alloc, files, &mut survey, view, reading, 0, logs, warnings) {
         Ok(_) => Ok(survey),
@@ -146,21 +152,41 @@ fn text_of(alloc: Global, survey: &Survey, form: SurveyForm<'_>) -> Result<Vec<u
     }
 }
 
-/// What is on the lines of logs, as a sheet; or the start of a table, as rows for `import`. What is passed over is noted. Errors: a log cannot be read,
-/// or has a faulty line; that is a line as the reader of logs says, or one with a name that is not UTF-8. `Memory` if an
-/// allocation fails.
-pub fn survey_logs<'a, F: FileReader>(
+/// What is on the lines of logs, without a table.
+fn plain_reply<F: FileReader>(
     alloc: Global,
     files: &mut F,
-    names: LogNames<'a>,
-    form: SurveyForm<'a>,
+    asked: &Asked,
     warnings: &mut Vec<Warning>,
-) -> Result<Vec<u8>, Refused>
-    ensures silent { HasRead F.answers (λ file. PassesNoLine file (logs_named names.entry) form.entry.reading
-        → warnings.new.items ≡ warnings.old.items) files.old files.new }
-    ensures answer { HasRead F.answers (λ file. IsSurveyAnswer file names.entry form.entry result) files.old files.new }
+) -> Result<Reply, Refused>
+    ensures silent { HasRead F.answers (λ file. PassesNoAskedLine file ((asked_of asked.now).first ∷ (asked_of asked.now).more)
+        (asked_of asked.now).given → warnings.new.items ≡ warnings.old.items) files.old files.new }
+    ensures answer { HasRead F.answers (λ file. Replies (SurveyedBy None file (asked_of asked.now))
+        (UnsurveyedBy None file (asked_of asked.now)) result) files.old files.new }
 {
-    let logs = read_logs(alloc, files, names.first, names.more)?;
-    let survey = survey_of(alloc, files, names.view, form.reading, &logs, warnings)?;
-    Ok(text_of(alloc, &survey, form)?)
+    let form = SurveyForm::of(asked);
+    let logs = read_logs(alloc, files, asked.first, &asked.more)?;
+    let survey = survey_of(alloc, files, form, &logs, warnings)?;
+    Ok(Reply::done(text_of(alloc, &survey, form)?))
+}
+
+/// What is on the lines of a log and of those that follow it, as a sheet or as rows for `import`, with status 0. If a table is
+/// given, its column `table` has what that says, and the status is 1 if something is found. Errors, in this order: a file is refused,
+/// that of the table first; the table has a fault; a line is faulty, as the reader of logs says, or since its name is not UTF-8.
+/// `Memory` if an allocation fails. What is passed over in a log is noted.
+pub fn survey_reply<F: FileReader>(
+    alloc: Global,
+    files: &mut F,
+    asked: &Asked,
+    warnings: &mut Vec<Warning>,
+) -> Result<Reply, Refused>
+    ensures silent { HasRead F.answers (λ file. PassesNoAskedLine file ((asked_of asked.now).first ∷ (asked_of asked.now).more)
+        (asked_of asked.now).given → warnings.new.items ≡ warnings.old.items) files.old files.new }
+    ensures answer { HasRead F.answers (λ file. Replies (IsSurveyed file (asked_of asked.now))
+        (IsUnsurveyed file (asked_of asked.now)) result) files.old files.new }
+{
+    match asked.text(OptionName::Table) {
+        Some(table) => compared_reply(alloc, files, table, asked, warnings),
+        None => plain_reply(alloc, files, asked, warnings),
+    }
 }

@@ -161,12 +161,12 @@ fn note_heard<'a, F: FileReader>(
 
 /// How what came in is read.
 fn heard_part<'a>(input: &JudgeInput<'a>, reading: Reading<'a>) -> PartLogs<'a>
-    ensures view { result.view ≡ input.now.heard_view }
+    ensures view { result.view ≡ input.now.terms.heard_view }
     ensures part { result.part ≡ record { log = Heard; is_mixed = is_mixed (files_of input.now) } }
     ensures reading { result.reading ≡ reading.entry }
 {
     PartLogs {
-        view: input.heard_view,
+        view: input.terms.heard_view,
         part: input.part(BoxLog::Heard),
         reading,
         first: 0,
@@ -190,14 +190,10 @@ pub fn read_notes<'a, F: FileReader>(
     ensures recorded { IsRecorded proposal.now (aligned_by found (files_of input.entry)) reading.entry result }
 {
     let part = heard_part(&input, reading);
-    let (view, is_mixed) = (sent_view(input.sent_view, found), input.is_mixed());
+    let (view, is_mixed) = (sent_view(input.terms.sent_view, found), input.is_mixed());
     let equipment = proposal.equipment();
-    let JudgeInput {
-        heard,
-        sent,
-        tolerances,
-        ..
-    } = input;
+    let tolerances = input.terms.tolerances;
+    let JudgeInput { heard, sent, .. } = input;
     if is_mixed {
         let texts = LogTexts::Kept(&heard);
         return match note_heard(

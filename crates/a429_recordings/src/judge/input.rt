@@ -1,26 +1,26 @@
-//! The files that are judged.
+//! What is judged: the bytes of files, and what is asked for.
 ghost use Rattle.std.specs.Prelude.{◌≡◌};
+ghost use Rattle.a429_arguments.specs.Requests.{asked_of};
 ghost use Rattle.a429_console.specs.Files.{logs_of};
 ghost use Rattle.a429_console.specs.Readings.{HasRead};
-ghost use Rattle.a429_recordings.specs.JudgeReplies.{IsBoxReading, files_of, names_of};
+ghost use Rattle.a429_recordings.specs.JudgeReplies.{IsBoxReading, files_of, given_clock};
 
 use crate::judge::words::{BoxLog, BoxPart};
-use crate::logs::views::LogView;
+use crate::logs::reading_for;
+use crate::logs::views::{ClockMove, LogView};
+use a429_arguments::options::OptionName;
+use a429_arguments::requests::Asked;
 use a429_console::files::FileReader;
 use a429_console::files::reading::{read_log_files, read_logs};
 use a429_console::refusals::Refused;
 use a429_given::{GivenTable, TableNames};
+use a429_logs::Reading;
+use a429_text::SheetForm;
 use std::alloc::Global;
 
-/// The names of the files that are judged, which words of the logs are taken, and how far times may be wrong.
+/// Which words of the logs are judged and how, and what is printed of it.
 #[derive(Clone, Copy)]
-pub struct JudgeNames<'a> {
-    pub table: TableNames<'a>,
-    /// The first log of what came in, and the others.
-    pub heard: &'a str,
-    pub more_heard: &'a [&'a str],
-    /// The logs of what was sent. Without one, the logs of what came in have both.
-    pub sent: &'a [&'a str],
+pub struct JudgeTerms<'a> {
     pub heard_view: LogView<'a>,
     pub sent_view: LogView<'a>,
     /// Whether the clock of what was sent is looked for. If one is found, it counts instead of that of the view.
@@ -28,18 +28,50 @@ pub struct JudgeNames<'a> {
     /// Each is US, or GROUP=US for one group, in microseconds. The tolerance of a group without one is two slots, or half its
     /// shortest period if that is less.
     pub tolerances: &'a [&'a str],
+    /// How the first line of the first log is read.
+    pub reading: Reading<'a>,
+    /// There is a row for each finding, instead of one for each output.
+    pub events: bool,
+    pub form: SheetForm,
 }
 
-/// The bytes of those files, which words of the logs are taken, and these tolerances.
+/// How a request moves the times of what was sent.
+fn given_clock(asked: &Asked) -> ClockMove
+    ensures { result ≡ given_clock (asked_of asked.now).given }
+{
+    ClockMove {
+        drift: asked.drift(),
+        shift: asked.shift(),
+    }
+}
+
+impl<'a> JudgeTerms<'a> {
+    ghost use Rattle.a429_recordings.specs.JudgeReplies.{AreAskedTerms, terms_of};
+
+    /// What a request asks for.
+    pub fn of(asked: &'a Asked<'_>) -> JudgeTerms<'a>
+        ensures { AreAskedTerms (asked_of asked.now).given (terms_of result) }
+    {
+        JudgeTerms {
+            heard_view: LogView::window(asked, ClockMove::none()),
+            sent_view: LogView::window(asked, given_clock(asked)),
+            aligned: asked.has(OptionName::Align),
+            tolerances: asked.texts(OptionName::Tolerance),
+            reading: reading_for(asked),
+            events: asked.has(OptionName::Events),
+            form: asked.form(),
+        }
+    }
+}
+
+/// The bytes of the files that are judged: a table, the logs of what came in, and those of what was sent. Without one of those, the
+/// logs of what came in have both.
 #[derive(Drop)]
 pub struct JudgeInput<'a> {
     pub table: GivenTable,
     pub heard: Vec<Vec<Vec<u8>>>,
     pub sent: Vec<Vec<Vec<u8>>>,
-    pub heard_view: LogView<'a>,
-    pub sent_view: LogView<'a>,
-    pub aligned: bool,
-    pub tolerances: &'a [&'a str],
+    pub terms: JudgeTerms<'a>,
 }
 
 impl JudgeInput<'_> {
@@ -75,24 +107,22 @@ impl JudgeInput<'_> {
     }
 }
 
-/// Reads the files of these names.
+/// Reads the files that a request names.
 pub fn read_input<'a, F: FileReader>(
     alloc: Global,
     files: &mut F,
-    names: JudgeNames<'a>,
+    asked: &'a Asked<'_>,
 ) -> Result<JudgeInput<'a>, Refused>
-    ensures { HasRead F.answers (λ file. IsBoxReading file (names_of names.entry) result) files.old files.new }
+    ensures { HasRead F.answers (λ file. IsBoxReading file (asked_of asked.now) result) files.old files.new }
 {
-    let table = GivenTable::read(alloc, files, names.table)?;
-    let heard = read_logs(alloc, files, names.heard, names.more_heard)?;
-    let sent = read_log_files(alloc, files, names.sent)?;
+    let table = GivenTable::read(alloc, files, TableNames::of(asked))?;
+    let heard = read_logs(alloc, files, asked.second, asked.texts(OptionName::In))?;
+    let sent = read_log_files(alloc, files, &asked.more)?;
+    let terms = JudgeTerms::of(asked);
     Ok(JudgeInput {
         table,
         heard,
         sent,
-        heard_view: names.heard_view,
-        sent_view: names.sent_view,
-        aligned: names.aligned,
-        tolerances: names.tolerances,
+        terms,
     })
 }

@@ -2,25 +2,17 @@
 ghost use Rattle.std.specs.Prelude.{false, true, IfOk};
 ghost use Rattle.a429_recordings.specs.JudgeReplies.{IsJudgeSheet};
 
-use crate::judge::JudgeForm;
 use crate::judge::events::{EVENT_COLUMNS, add_events};
 use crate::judge::judging::Judging;
 use crate::judge::rows::add_groups;
 use a429_console::answered::Found;
+use a429_console::reply::{Reply, finding_status};
 use a429_judge::COLUMNS;
 use a429_text::{Rows, Sheet, SheetForm};
 use std::alloc::{AllocError, Global};
 
-/// What is printed, whether something was found, and the rows of outputs, for a hint.
-#[derive(Drop)]
-pub struct Sheeted {
-    pub text: Vec<u8>,
-    pub found: bool,
-    pub rows: Found,
-}
-
-/// A row for each output and each group. Error: an allocation failed.
-fn row_sheet(alloc: Global, judging: &Judging<'_>, form: SheetForm) -> Result<Sheeted, AllocError>
+/// A row for each output and each group, which are left for a hint. Error: an allocation failed.
+fn row_sheet(alloc: Global, judging: &Judging<'_>, form: SheetForm) -> Result<Reply, AllocError>
     ensures { IfOk result (IsJudgeSheet false judging.now form) }
 {
     let mut rows = Rows::new(alloc);
@@ -29,16 +21,16 @@ fn row_sheet(alloc: Global, judging: &Judging<'_>, form: SheetForm) -> Result<Sh
         columns: COLUMNS,
         rows,
     };
-    let text = sheet.render(alloc, form)?;
-    Ok(Sheeted {
-        text,
-        found,
-        rows: Found::Rows(sheet),
+    let bytes = sheet.render(alloc, form)?;
+    Ok(Reply {
+        bytes,
+        status: finding_status(found),
+        found: Found::Rows(sheet),
     })
 }
 
 /// A row for each finding. Error: an allocation failed.
-fn event_sheet(alloc: Global, judging: &Judging<'_>, form: SheetForm) -> Result<Sheeted, AllocError>
+fn event_sheet(alloc: Global, judging: &Judging<'_>, form: SheetForm) -> Result<Reply, AllocError>
     ensures { IfOk result (IsJudgeSheet true judging.now form) }
 {
     let mut rows = Rows::new(alloc);
@@ -48,21 +40,21 @@ fn event_sheet(alloc: Global, judging: &Judging<'_>, form: SheetForm) -> Result<
         columns: EVENT_COLUMNS,
         rows,
     };
-    let text = sheet.render(alloc, form)?;
-    Ok(Sheeted {
-        text,
-        found,
-        rows: Found::Nothing,
+    let bytes = sheet.render(alloc, form)?;
+    Ok(Reply {
+        bytes,
+        status: finding_status(found),
+        found: Found::Nothing,
     })
 }
 
-/// The sheet that is asked for. Error: an allocation failed.
+/// The sheet that is asked for. The status is 1 if something was found, otherwise 0. Error: an allocation failed.
 pub fn judge_sheet(
     alloc: Global,
     judging: &Judging<'_>,
     events: bool,
     form: SheetForm,
-) -> Result<Sheeted, AllocError>
+) -> Result<Reply, AllocError>
     ensures { IfOk result (IsJudgeSheet events judging.now form) }
 {
     if events {

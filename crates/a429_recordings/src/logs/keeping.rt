@@ -3,19 +3,20 @@ ghost use Rattle.std.specs.Prelude.{◌≡◌, ◌≤◌, [], IfOk, None, OnOk, 
 ghost use Rattle.a429_logs.specs.LogRows.{Stated, stated_by};
 ghost use Rattle.a429_logs.specs.Logs.{joined};
 ghost use Rattle.a429_console.specs.Files.{bytes_of, logs_of};
-ghost use Rattle.a429_console.specs.declared.refusals.CommandRefusal.TheVariants.{LogLine};
 ghost use Rattle.a429_recordings.specs.LogItems.{AreKept, GoesOnFrom, KeepsLog, KeepsLogs, KeepsPiece, KeepsPieces, PassesNone, left_at, whole_log};
 ghost use Rattle.a429_logs.specs.LogsLeft.{reading_at, tail_at_point, tail_of, titles_at, titles_of};
 ghost use Rattle.a429_recordings.specs.LogViews.{view_of, viewed};
 
+mod faulty;
 pub mod freeing;
 
+use crate::logs::keeping::faulty::{LogPieces, last_line, refuse_line};
 use crate::logs::views::LogView;
 use a429_console::files::FileReader;
 use a429_console::hints::warnings::{PassedLines, Warning};
-use a429_console::refusals::evidence::{Evidence, LineEvidence, LogEvidence, LogRefusal};
+use a429_console::refusals::evidence::{LineEvidence, LogRefusal};
 use a429_console::refusals::{CommandRefusal, Refused};
-use a429_logs::{LogPoint, LogReader, PassedOver, Reading, Shape, StatedWord, TimeUnit};
+use a429_logs::{LogPoint, LogReader, PassedOver, Reading, StatedWord};
 use std::alloc::{AllocFailed, Global};
 
 /// Why a word of a log was not kept.
@@ -75,13 +76,6 @@ struct NumberedLog<'a> {
     all: usize,
 }
 
-/// Pieces of a log, and how many lines are above them.
-#[derive(Clone, Copy)]
-struct LogPieces<'a> {
-    pieces: &'a [Vec<u8>],
-    lines: usize,
-}
-
 /// After how many lines it is shown again how much is done.
 const STRIDE: usize = 1 << 14;
 
@@ -113,58 +107,6 @@ fn show_line<F: FileReader>(
     if line % STRIDE == 0 {
         files.show_done(log.until.saturating_sub(reader.bytes_left()), log.all);
     }
-}
-
-/// The unit of the times of a log whose rows have this form so far.
-fn unit_in(shape: Option<Shape>, reading: Reading<'_>) -> TimeUnit {
-    match shape {
-        Some(shape) => shape.unit,
-        None => reading.unit.unwrap_or(TimeUnit::Microseconds),
-    }
-}
-
-/// The line of this number of a log, for a hint. `None` if an allocation fails.
-fn line_evidence<T: WordKeeper>(
-    alloc: Global,
-    keeper: &T,
-    pieces: LogPieces<'_>,
-    line: usize,
-) -> Option<LineEvidence> {
-    let mut above = pieces.lines;
-    for piece in pieces.pieces {
-        let feeds = piece.iter().filter(|byte| **byte == b'\n').count();
-        let until = above.saturating_add(feeds).saturating_add(1);
-        if line <= until {
-            let evidence = keeper.line_evidence(alloc, piece, line.saturating_sub(above))?;
-            return Some(evidence.with_number(line));
-        }
-        above = until;
-    }
-    None
-}
-
-/// The refusal of a faulty line of a log, with that line. The log's rows have this form so far.
-fn refuse_line<T: WordKeeper>(
-    alloc: Global,
-    keeper: &T,
-    log: NumberedLog<'_>,
-    pieces: LogPieces<'_>,
-    shape: Option<Shape>,
-    line: usize,
-    why: LogRefusal,
-) -> Refused
-    ensures { result ≡ LogLine line }
-{
-    let evidence = LogEvidence {
-        why,
-        number: log.number,
-        shape,
-        unit: unit_in(shape, log.reading),
-    };
-    Refused::with(
-        CommandRefusal::LogLine { line },
-        Evidence::of_log(line_evidence(alloc, keeper, pieces, line), evidence),
-    )
 }
 
 /// Notes what is passed over in a log of this number, if anything is.
@@ -282,7 +224,11 @@ fn keep_first<'a, T: WordKeeper, F: FileReader>(
     ensures fixed { T.fixed keeper.new ≡ T.fixed keeper.old }
 {
     let mut reader = LogReader::open(log.reading, pieces);
-    let all = LogPieces { pieces, lines: 0 };
+    let all = LogPieces {
+        pieces,
+        lines: 0,
+        above: &[],
+    };
     match keep_piece(alloc, files, keeper, view, log, all, &mut reader) {
         Ok(()) => Ok(PieceEnd {
             next: reader.next_piece(),
@@ -292,7 +238,8 @@ fn keep_first<'a, T: WordKeeper, F: FileReader>(
     }
 }
 
-/// Keeps the words of the next piece of a log from this point on, as they are taken. Error: the first faulty line, or an allocation failed.
+/// Keeps the words of the next piece of a log from this point on, as they are taken. Above it, `above` is the last line that
+/// states something. Error: the first faulty line, or an allocation failed.
 fn keep_next<'a, T: WordKeeper, F: FileReader>(
     alloc: Global,
     files: &F,
@@ -300,6 +247,7 @@ fn keep_next<'a, T: WordKeeper, F: FileReader>(
     view: LogView<'a>,
     log: NumberedLog<'a>,
     point: LogPoint<'a>,
+    above: &[u8],
     pieces: &[Vec<u8>],
 ) -> Result<PieceEnd<'a>, Refused>
     ensures kept { KeepsPieces (viewed (view_of view.entry) (T.items keeper.old)) (left_at point.entry (bytes_of pieces.now))
@@ -311,6 +259,7 @@ fn keep_next<'a, T: WordKeeper, F: FileReader>(
     let left = LogPieces {
         pieces,
         lines: point.lines_before(),
+        above,
     };
     match keep_piece(alloc, files, keeper, view, log, left, &mut reader) {
         Ok(()) => Ok(PieceEnd {
@@ -339,10 +288,13 @@ fn keep_log<'a, T: WordKeeper, F: FileReader>(
     ensures fixed { T.fixed keeper.new ≡ T.fixed keeper.old }
 {
     let mut left = pieces;
+    let mut above: &[u8] = &[];
     let mut end = keep_first(alloc, files, keeper, view, log, left)?;
     while end.next < left.len() {
-        left = left.split_at(end.next).1;
-        end = match keep_next(alloc, files, keeper, view, log, end.point, left) {
+        let (read, rest) = left.split_at(end.next);
+        above = last_line(above, read);
+        left = rest;
+        end = match keep_next(alloc, files, keeper, view, log, end.point, above, left) {
             Ok(end) => end,
             Err(refusal) => return Err(refusal),
         };

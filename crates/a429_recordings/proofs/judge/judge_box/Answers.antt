@@ -15,14 +15,14 @@ returns-in-Some-clause-judged g c =
     let i = files_of c.args.input in
     let name = c.in-Some.group.now in
     let named : c.in_ok-names.names ≡ naming_of q.station = c.in_ok-names.ensures ∙ ap naming_of c.equipment.ensures.equipment in
-    let first : no_group_of (naming_of q.station) i.tolerances ≡ Some name =
-    ap (λ (n : Naming). no_group_of n i.tolerances) (sym named) ∙ (sym c.no_group_of.ensures ∙ ap (option_map (λ group. group.now)) c.in-Some.is) in
+    let first : no_group_of (naming_of q.station) i.terms.tolerances ≡ Some name =
+    ap (λ (n : Naming). no_group_of n i.terms.tolerances) (sym named) ∙ (sym c.no_group_of.ensures ∙ ap (option_map (λ group. group.now)) c.in-Some.is) in
     let bad : OrMemory (IsGroupRefusal name) c.plain.result = subst (λ (e : CommandRefusal). OrMemory (IsGroupRefusal name) e) (sym c.plain.ensures) c.no_group.ensures in
-    or_memory_weaker (IsGroupRefusal name) (IsUnjudgedOf q i c.args.form) c.plain.result (λ one. inl (name, first, one)) bad
+    or_memory_weaker (IsGroupRefusal name) (IsUnjudgedOf q i) c.plain.result (λ one. inl (name, first, one)) bad
 
 pub judge_plan-requires-clause-groups : goal.judge_plan-requires-clause-groups
 judge_plan-requires-clause-groups g c =
     let q = c.args.proposal.now in
-    let given = texts_of c.args.input.tolerances.now in
+    let given = texts_of c.args.input.terms.tolerances.now in
     let named : c.in_ok-names.names ≡ naming_of q.station = c.in_ok-names.ensures ∙ ap naming_of c.equipment.ensures.equipment in
     ap (λ (n : Naming). no_group_of n given) (sym named) ∙ (sym c.no_group_of.ensures ∙ ap (option_map (λ group. group.now)) c.in-None.is)

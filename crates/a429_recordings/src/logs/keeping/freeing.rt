@@ -6,6 +6,7 @@ ghost use Rattle.a429_console.specs.Files.{bytes_of, logs_of};
 ghost use Rattle.a429_recordings.specs.LogItems.{KeepsLog, KeepsLogs, PassesNone};
 ghost use Rattle.a429_recordings.specs.LogViews.{view_of, viewed};
 
+use crate::logs::keeping::faulty::last_line;
 use crate::logs::keeping::{
     LogEnd, NumberedLog, WordKeeper, bytes_in, bytes_of_log, keep_first, keep_next, note_passed,
 };
@@ -26,6 +27,15 @@ fn drop_first(pieces: &mut Vec<Vec<u8>>, count: usize)
     }
 }
 
+/// Notes the last line of pieces that states something, if there is one. If an allocation fails, nothing is noted.
+fn note_above(above: &mut Vec<u8>, pieces: &[Vec<u8>]) {
+    let last = last_line(&[], pieces);
+    if !last.is_empty() {
+        above.clear();
+        let _ = above.extend_from_slice(last);
+    }
+}
+
 /// Keeps the words of a log as `keep_log` does, and gives back the memory of each piece once it is read.
 fn keep_and_free<'a, T: WordKeeper, F: FileReader>(
     alloc: Global,
@@ -43,10 +53,12 @@ fn keep_and_free<'a, T: WordKeeper, F: FileReader>(
     ensures fixed { T.fixed keeper.new ≡ T.fixed keeper.old }
 {
     let mut left = pieces;
+    let mut above = Vec::new(alloc);
     let mut end = keep_first(alloc, files, keeper, view, log, &left)?;
     while end.next < left.len() {
+        note_above(&mut above, &left[..end.next]);
         drop_first(&mut left, end.next);
-        end = keep_next(alloc, files, keeper, view, log, end.point, &left)?;
+        end = keep_next(alloc, files, keeper, view, log, end.point, &above, &left)?;
     }
     Ok(end.log_end())
 }

@@ -18,7 +18,7 @@ returns-then-is_mixed-clause-recorded g c =
       | in-Ok w ↦
           let first = rw (c.requires, c.heard_part-part.ensures.view, c.heard_part-part.ensures.part, c.heard_part-part.ensures.reading, c.deref.ensures.value) at w.in-Ok.ensures.noted in
           let all =
-          later_noted c.equipment-equipment.result.now q.station c.args.names.now (naming_of q.station) (view_of c.sent_view-view.result) i.sent_view c.is_mixed-is_mixed.result (is_mixed i)
+          later_noted c.equipment-equipment.result.now q.station c.args.names.now (naming_of q.station) (view_of c.sent_view-view.result) i.terms.sent_view c.is_mixed-is_mixed.result (is_mixed i)
           w.in-Ok.noted (logs_of c.args.input.heard.items) (logs_of_sent i) w.note_later.result
           c.equipment-equipment.ensures.equipment c.requires c.sent_view-view.ensures c.is_mixed-is_mixed.ensures (same_heard i mixed) w.note_later.ensures.noted in
           rw w.result-is (recorded q i reading w.in-Ok.noted w.note_later.result first all)
@@ -36,7 +36,7 @@ returns-in-Ok-note_heard-clause-recorded g c =
     let result = c.note_later-in-Ok-note_heard.result in
     let first = rw (c.requires, c.heard_part-part.ensures.view, c.heard_part-part.ensures.part, c.heard_part-part.ensures.reading) at c.in-Ok-note_heard.ensures.noted in
     let all =
-    later_noted c.equipment-equipment.result.now q.station c.args.names.now (naming_of q.station) (view_of c.sent_view-view.result) i.sent_view c.is_mixed-is_mixed.result (is_mixed i)
+    later_noted c.equipment-equipment.result.now q.station c.args.names.now (naming_of q.station) (view_of c.sent_view-view.result) i.terms.sent_view c.is_mixed-is_mixed.result (is_mixed i)
     heard (logs_of c.args.input.sent.items) (logs_of_sent i) result
     c.equipment-equipment.ensures.equipment c.requires c.sent_view-view.ensures c.is_mixed-is_mixed.ensures (same_sent i apart) c.note_later-in-Ok-note_heard.ensures.noted in
     recorded q i c.args.reading heard result first all

@@ -5,22 +5,18 @@ use Rattle.a429_console.specs.Files.{logs_of}
 use Rattle.a429_console.specs.RefusalText.{OrMemory}
 use Rattle.a429_console.specs.declared.refusals.CommandRefusal.TheVariants as refused
 use Rattle.a429_console.proofs.Refused.{failed}
-use Rattle.a429_recordings.specs.LogItems.{IsItemFault}
-use Rattle.a429_recordings.specs.LogViews.{view_of}
-use Rattle.a429_recordings.specs.Surveys.{noted_by}
+use Rattle.a429_recordings.specs.Surveys.{IsWordFault}
 use Rattle.a429_recordings.proofs.survey.compare.compare_words.Goals as goal
 
 pub returns-in_err-survey-clause-compared : goal.returns-in_err-survey-clause-compared
 returns-in_err-survey-clause-compared g c =
-    let fault = IsItemFault (noted_by (view_of c.args.view)) c.args.form.reading (logs_of c.args.logs.now) in
     let p = err_from_is_err_and c.from_residual.result c.from_residual.ensures.1 in
-    failed c.from_residual.result _ (OrMemory fault) c.in_err-survey.field-0.0 (p.1 ∙ ap Err p.2) c.in_err-survey.ensures.survey
+    failed c.from_residual.result _ (OrMemory (IsWordFault c.args.form (logs_of c.args.logs.now))) c.in_err-survey.field-0.0 (p.1 ∙ ap Err p.2) c.in_err-survey.ensures.survey
 
 pub returns-in_err-sheet_of-clause-compared : goal.returns-in_err-sheet_of-clause-compared
 returns-in_err-sheet_of-clause-compared g c =
-    let fault = IsItemFault (noted_by (view_of c.args.view)) c.args.form.reading (logs_of c.args.logs.now) in
     let p = err_from_is_err_and c.from_residual-in_err-sheet_of.result c.from_residual-in_err-sheet_of.ensures.1 in
-    failed c.from_residual-in_err-sheet_of.result _ (OrMemory fault) refused.Memory (p.1 ∙ ap Err p.2) tt
+    failed c.from_residual-in_err-sheet_of.result _ (OrMemory (IsWordFault c.args.form (logs_of c.args.logs.now))) refused.Memory (p.1 ∙ ap Err p.2) tt
 
 pub returns-clause-compared : goal.returns-clause-compared
 returns-clause-compared g c = (c.in_ok-survey.survey, c.in_ok-survey.ensures.survey, c.in_ok-sheet_of.ensures)
