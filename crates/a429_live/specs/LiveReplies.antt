@@ -2,8 +2,6 @@
 use Rattle.std.specs.Prelude.{◌≡◌, ◌≤◌, ◌<◌, ◌+◌, ◌^◌, slice_get, sum_by, zero, suc, ◌∷◌, [], ◌++◌, ◌⊎◌, ⊤, ℕ, List, true, false, Option, Some, Ok, OnOk, Result, MatchResult, codes, length}
 use Rattle.std.specs.List.{AllByRecursion, concat}
 use Rattle.std.specs.Fmt.{decimal}
-use Rattle.std.specs.declared.vec.Vec.{Vec}
-use Rattle.std.specs.declared.alloc.Global.{Global}
 use Rattle.a429_equipment.specs.TableRecord.{TableRecord}
 use Rattle.a429_equipment.specs.SameStation.{same_station}
 use Rattle.a429_equipment.specs.declared.rows.ReceiverRow.{ReceiverRow}
@@ -18,13 +16,11 @@ use Rattle.a429_workers.specs.declared.receiving.ReceiveTotals.{ReceiveTotals}
 use Rattle.a429_workers.specs.declared.sending.SendTotals.{SendTotals}
 use Rattle.a429_console.specs.Files.{bytes_of}
 use Rattle.a429_console.specs.FileReadings.{AreRead, IsFirstUnread}
-use Rattle.a429_console.specs.Replying.{HasReplied}
-use Rattle.a429_console.specs.declared.files.FileFault.{FileFault}
-use Rattle.a429_console.specs.declared.output.OutputFault.{OutputFault}
 use Rattle.a429_arguments.specs.Requests.{AskedBytes}
 use Rattle.a429_console.specs.Names.{naming_of}
 use Rattle.a429_console.specs.RefusalText.{OrMemory, refusal_line}
 use Rattle.a429_console.specs.Tables.{IsProposedBy, IsTableRefusal}
+use Rattle.a429_console.specs.WholeReplies.{IsDone, IsReplyBy, Replies}
 use Rattle.a429_given.specs.GivenPlans.{IsGivenPlan, IsNoGivenPlan, TakesAll}
 use Rattle.a429_given.specs.GivenTables.{IsTableRead, IsTableUnread, TableTexts, named_table, table_texts}
 use Rattle.a429_station.specs.Course.{fresh}
@@ -38,6 +34,7 @@ use Rattle.a429_live.specs.declared.running.PreparedRun.{PreparedRun}
 use Rattle.a429_live.specs.declared.words.Arrival.{Arrival}
 use Rattle.a429_console.specs.declared.refusals.CommandRefusal.{CommandRefusal}
 use Rattle.a429_console.specs.declared.refusals.CommandRefusal.TheVariants as refused
+use Rattle.a429_console.specs.declared.reply.Reply.{Reply}
 
 -- ---- before the run
 
@@ -197,9 +194,7 @@ IsReportOf file r bytes = (i : LiveFiles) × (q : Proposed) × (arrivals : List 
 
 -- what is written, and the status: the line of a refusal, or the report
 abbrev pub IsLiveReply : (List ℕ → Option (List ℕ)) → AskedBytes → ℕ → List ℕ → Type 0
-IsLiveReply file r status bytes =
-    ((refusal : CommandRefusal) × OrMemory (IsLiveRefusal file r) refusal × (status ≡ 1) × (bytes ≡ refusal_line refusal ++ 10 ∷ []))
-    ⊎ (IsReportOf file r bytes × (status ≡ 0))
+IsLiveReply file r = IsReplyBy 1 (IsDone (IsReportOf file r)) (IsLiveRefusal file r)
 
 -- ---- by the values of the program
 
@@ -226,14 +221,6 @@ AppendsLine v w table old new result = v.planner.last.number + 1 < 2 ^ 64 → On
 abbrev pub AreAppended : TableRecord → List (List ℕ) → List ℕ → List ℕ → Type 0
 AreAppended t tables old new = (lines : List (List ℕ)) × AreResubmitLines t 0 tables lines × (new ≡ old ++ concat lines)
 
--- the text of a report, or why there is none
-abbrev pub IsRunResult : TableRecord → List Arrival → ℕ → List (List ℕ) → Result (Vec ℕ Global) CommandRefusal → Type 0
-IsRunResult t arrivals frames further result = MatchResult result (λ text. IsRunReport t arrivals frames further text.items) (OrMemory (IsRunRefusal t arrivals frames))
-
--- the text of the report of what is asked for, or why there is none
-abbrev pub IsLiving : (List ℕ → Option (List ℕ)) → AskedBytes → Result (Vec ℕ Global) CommandRefusal → Type 0
-IsLiving file r result = MatchResult result (λ text. IsReportOf file r text.items) (OrMemory (IsLiveRefusal file r))
-
--- what `live` answers of the files of a reader: the files are those that give what the reader answered in the call
-abbrev pub HasToldRun : {S X : Type 0} → (S → List ℕ → Result (List ℕ) FileFault → S → Type 0) → (X → Option (List ℕ)) → AskedBytes → S → S → X → X → Result ℕ OutputFault → Type 0
-HasToldRun Answers contents r = HasReplied Answers contents (λ file. IsLiveReply file r)
+-- a report, or why there is none
+abbrev pub IsRunResult : TableRecord → List Arrival → ℕ → List (List ℕ) → Result Reply CommandRefusal → Type 0
+IsRunResult t arrivals frames further = Replies (IsDone (IsRunReport t arrivals frames further)) (IsRunRefusal t arrivals frames)

@@ -1,13 +1,12 @@
 -- The outcome of tables that are submitted again to a running station, one after another (profile: docs/FORMATS.md, Output of `live`).
-use Rattle.std.specs.Prelude.{◌≡◌, ◌+◌, ◌^◌, ◌∷◌, [], ℕ, Bool, true, false, List, Ok, IfOk, OnOk, Result, MatchResult}
-use Rattle.std.specs.declared.vec.Vec.{Vec}
-use Rattle.std.specs.declared.alloc.Global.{Global}
+use Rattle.std.specs.Prelude.{◌≡◌, ◌+◌, ◌^◌, ◌∷◌, [], ℕ, Bool, true, false, List, Ok, IfOk, OnOk, Result}
 use Rattle.a429_equipment.specs.TableRecord.{TableRecord}
 use Rattle.a429_workers.specs.declared.receiving.ReceiveTotals.{ReceiveTotals}
 use Rattle.a429_workers.specs.declared.sending.SendTotals.{SendTotals}
-use Rattle.a429_console.specs.RefusalText.{OrMemory}
 use Rattle.a429_console.specs.declared.refusals.CommandRefusal.{CommandRefusal}
+use Rattle.a429_console.specs.declared.reply.Reply.{Reply}
 use Rattle.a429_console.specs.Tables.{IsProposedBy, IsTableRefusal}
+use Rattle.a429_console.specs.WholeReplies.{IsDone, Replies}
 use Rattle.a429_equipment.specs.SameStation.{same_station}
 use Rattle.a429_slots.specs.Proposed.{Proposed}
 use Rattle.a429_table.specs.Reading.{reading}
@@ -51,7 +50,7 @@ AppendsAll tables answers old new result =
     (begin end : Running) → begin.planner.last.number ≡ 0 → AreAnswers begin tables answers end → OnOk result (AreAppended begin.station tables old new)
 
 -- the report of a station for which no plan was published before, to which these tables were submitted again and answered so; or an allocation failed
-abbrev pub ReportsRun : TableRecord → List (List ℕ) → List SubmitAnswer → List ReceiveTotals → List SendTotals → Result (Vec ℕ Global) CommandRefusal → Type 0
+abbrev pub ReportsRun : TableRecord → List (List ℕ) → List SubmitAnswer → List ReceiveTotals → List SendTotals → Result Reply CommandRefusal → Type 0
 ReportsRun station tables answers received sent result =
     (begin end : Running) → begin.station ≡ station → begin.planner.last.number ≡ 0 → AreAnswers begin tables answers end
-    → MatchResult result (λ text. IsReport station tables received sent text.items) (OrMemory (λ why. ⊥))
+    → Replies (IsDone (IsReport station tables received sent)) (λ why. ⊥) result

@@ -1,12 +1,12 @@
-//! The command `live`: the station of a table on threads of its own, from files to the bytes of a report and a status.
+//! The command `live`: the station of a table on threads of its own, from files to its report.
 //!
-//! `run_station` reads the table, the file of words and the further tables, runs the station, and puts the report, or one
-//! line of a refusal. While the station runs, a `Progress` gets reports of its progress: `ProgressLine` shows them on a
+//! `run_station` reads the table, the file of words and the further tables, runs the station, and answers the report, or a
+//! refusal. While the station runs, a `Progress` gets reports of its progress: `ProgressLine` shows them on a
 //! terminal, `NoProgress` shows nothing.
 //!
 //! ```text
 //! let mut warnings = Vec::new(alloc);
-//! let answered = run_station(rt, alloc, files, &asked, &mut warnings, out, progress);
+//! let reply = run_station(rt, alloc, files, &asked, &mut warnings, progress);
 //! ```
 #![tactic(auto)]
 

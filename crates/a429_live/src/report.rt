@@ -8,6 +8,7 @@ ghost use Rattle.a429_console.specs.RefusalText.{refusal_line};
 
 use crate::control::SubmitAnswer;
 use a429_console::refusals::{CommandRefusal, Refused};
+use a429_console::reply::Reply;
 use a429_equipment::{Equipment, GroupRow, ReceiverRow};
 use a429_filter::MemoryLine;
 use a429_station::Report;
@@ -116,15 +117,14 @@ fn push_all_resubmitted(
     Ok(())
 }
 
-/// The text of a report: a line for each further table, for each receiver, and for each group. Error: `Memory` if an
-/// allocation fails.
-pub fn report_text(
+/// The report: a line for each further table, for each receiver, and for each group. Error: `Memory` if an allocation fails.
+pub fn report_reply(
     alloc: Global,
     station: &Equipment,
     further: &[Vec<u8>],
     answers: &[SubmitAnswer],
     report: &Report<MemoryLine, CountSink>,
-) -> Result<Vec<u8>, Refused>
+) -> Result<Reply, Refused>
     ensures { ReportsRun station.now (bytes_of further.now) answers.now report.now.receivers.items report.now.groups.items result }
 {
     let mut text = Vec::new(alloc);
@@ -132,7 +132,7 @@ pub fn report_text(
         return Err(Refused::plain(CommandRefusal::Memory));
     };
     match push_totals(&mut text, station, report) {
-        Ok(()) => Ok(text),
+        Ok(()) => Ok(Reply::done(text)),
         Err(_) => Err(Refused::plain(CommandRefusal::Memory)),
     }
 }

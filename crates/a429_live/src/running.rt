@@ -1,30 +1,28 @@
 //! A run of the station, from files to its report.
-ghost use Rattle.std.specs.Prelude.{◌≡◌, ◌≤◌, IfOk, IsTrue, MatchResult, OnOk, vec_len};
+ghost use Rattle.std.specs.Prelude.{◌≡◌, IfOk, MatchResult, vec_len};
 ghost use Rattle.a429_console.specs.Files.{bytes_of};
 ghost use Rattle.a429_slots.specs.Planned.{IsPlanOf};
-ghost use Rattle.a429_live.specs.LiveReplies.{HasToldRun, IsLiveReading, IsLiving, IsNoLiveStart, IsPreparedLive, IsRunResult, TakesLive, files_of, refusal_of};
+ghost use Rattle.a429_live.specs.LiveReplies.{IsLiveReading, IsLiveRefusal, IsNoLiveStart, IsPreparedLive, IsReportOf, IsRunResult, TakesLive, files_of, refusal_of};
 ghost use Rattle.a429_live.specs.WordsFile.{IsWordsReading};
 ghost use Rattle.a429_console.specs.Names.{naming_of};
 ghost use Rattle.a429_arguments.specs.Requests.{asked_of};
-ghost use Rattle.a429_console.specs.Outputs.{CountsFault};
 ghost use Rattle.a429_console.specs.Readings.{HasRead};
 ghost use Rattle.a429_console.specs.RefusalText.{OrMemory};
 ghost use Rattle.a429_console.specs.Tables.{IsTakenBy};
+ghost use Rattle.a429_console.specs.WholeReplies.{IsDone, Replies};
 ghost use Rattle.std.specs.List.{AllByRecursion};
 
 use crate::control::Resubmits;
 use crate::progress::{Progress, ProgressGate};
-use crate::report::report_text;
+use crate::report::report_reply;
 use crate::words::{Arrival, line_sources, read_words};
 use a429_arguments::requests::Asked;
-use a429_console::answered::{Answered, plain_answer};
 use a429_console::files::FileReader;
 use a429_console::files::reading::{read_file, read_files};
 use a429_console::hints::warnings::Warning;
-use a429_console::output::endings::finish;
-use a429_console::output::{Output, OutputFault};
 use a429_console::refusals::evidence::Evidence;
-use a429_console::refusals::{CommandRefusal, Refused, refuse};
+use a429_console::refusals::{CommandRefusal, Refused};
+use a429_console::reply::Reply;
 use a429_equipment::Equipment;
 use a429_given::{GivenTable, TableNames};
 use a429_replay::Names;
@@ -123,7 +121,7 @@ fn run_refusal(equipment: &Equipment, fault: LiveFault) -> Refused
 }
 
 /// Runs a station with the words of its receivers for this number of frames, and resubmits further tables during the
-/// run. Answers the text of the report. The further tables whose plans the station does not take are noted.
+/// run. Answers the report. The further tables whose plans the station does not take are noted.
 fn run<'a, R: Threads + Wait, P: Progress + Sync>(
     rt: &R,
     alloc: Global,
@@ -134,7 +132,7 @@ fn run<'a, R: Threads + Wait, P: Progress + Sync>(
     further: &'a [Vec<u8>],
     gate: &ProgressGate<P>,
     warnings: &mut Vec<Warning>,
-) -> Result<Vec<u8>, Refused>
+) -> Result<Reply, Refused>
     requires planned { IsPlanOf equipment.now plan.now }
     ensures report { IsRunResult equipment.now arrivals.now frames (bytes_of further.now) result }
     ensures taken { AllByRecursion (IsTakenBy equipment.now) (bytes_of further.now) → warnings.new.items ≡ warnings.old.items }
@@ -156,24 +154,26 @@ fn run<'a, R: Threads + Wait, P: Progress + Sync>(
     ) {
         Ok(report) => {
             control.hand_warnings(warnings);
-            report_text(alloc, equipment, further, &control.answers, &report)
+            report_reply(alloc, equipment, further, &control.answers, &report)
         }
         Err(fault) => Err(run_refusal(equipment, fault)),
     }
 }
 
-/// The text of the report of a run. Error: a file, the table, its plan, the file of words, or the run is refused. The
-/// run is refused as `TooMuch` for more than a million frames or words of a receiver, and as `Join` if a thread could
+/// Runs the station of a table, by its own plan or that of a plan text, on threads of its own. Answers the report of the run, with status
+/// 0. While the station runs, `progress` gets reports of its progress. Error: a file, the table, its plan, the file of words, or the run
+/// is refused. The run is refused as `TooMuch` for more than a million frames or words of a receiver, and as `Join` if a thread could
 /// not be started or joined.
-fn run_report<R: Threads + Wait, F: FileReader, P: Progress + Sync>(
+pub fn run_station<R: Threads + Wait, F: FileReader, P: Progress + Sync>(
     rt: &R,
     alloc: Global,
     files: &mut F,
     asked: &Asked,
     warnings: &mut Vec<Warning>,
     progress: &P,
-) -> Result<Vec<u8>, Refused>
-    ensures report { HasRead F.answers (λ file. IsLiving file (asked_of asked.now) result) files.old files.new }
+) -> Result<Reply, Refused>
+    ensures report { HasRead F.answers (λ file. Replies (IsDone (IsReportOf file (asked_of asked.now)))
+        (IsLiveRefusal file (asked_of asked.now)) result) files.old files.new }
     ensures taken { HasRead F.answers (λ file. TakesLive file (asked_of asked.now)
         → warnings.new.items ≡ warnings.old.items) files.old files.new }
 {
@@ -189,28 +189,4 @@ fn run_report<R: Threads + Wait, F: FileReader, P: Progress + Sync>(
     );
     progress.end();
     result
-}
-
-/// Runs the station of a table, by its own plan or that of a plan text, on threads of its own. It prints the report of the
-/// run, or one refusal line. The status is 0, or 1 after a refusal. While the station runs, `progress` gets reports of its progress. Error: the output failed.
-pub fn run_station<R: Threads + Wait, F: FileReader, O: Output, P: Progress + Sync>(
-    rt: &R,
-    alloc: Global,
-    files: &mut F,
-    asked: &Asked,
-    warnings: &mut Vec<Warning>,
-    out: &mut O,
-    progress: &P,
-) -> Result<Answered, OutputFault>
-    ensures replied { HasToldRun F.answers O.contents (asked_of asked.now) files.old files.new out.old out.new result }
-    ensures taken { HasRead F.answers (λ file. TakesLive file (asked_of asked.now)
-        → warnings.new.items ≡ warnings.old.items) files.old files.new }
-    ensures status { IfOk result (λ status. status ≤ 1) }
-    ensures flushed { OnOk result (IsTrue (O.is_flushed out.new)) }
-    ensures faults { CountsFault result (O.failures out.old) (O.failures out.new) }
-{
-    match run_report(rt, alloc, files, asked, warnings, progress) {
-        Ok(text) => plain_answer(finish(&text, true, out)),
-        Err(refusal) => refuse(alloc, refusal, out),
-    }
 }

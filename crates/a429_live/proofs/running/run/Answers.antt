@@ -21,7 +21,8 @@ use Rattle.a429_equipment.specs.TableRecord.{TableRecord}
 use Rattle.a429_console.specs.Tables.{IsTakenBy}
 use Rattle.a429_live.proofs.LiveRuns.{GivesFrom, as_many, heard_rows}
 use Rattle.a429_live.proofs.WholeFrames.{all_sent_whole}
-use Rattle.a429_console.proofs.Refused.{matched_both, or_memory_weaker}
+use Rattle.a429_console.specs.WholeReplies.{IsDone}
+use Rattle.a429_console.proofs.PutReplies.{replies_weaker}
 use Rattle.a429_live.proofs.running.run.Goals as goal
 
 pub returns-in-Ok-clause-report : goal.returns-in-Ok-clause-report
@@ -45,10 +46,10 @@ returns-in-Ok-clause-report g c =
     let groups = as_many _ c.in_ok-sinks.sinks.items report.sinks.items report.groups.items ran.sent ∙ few in
     let cells : AreSentWhole t c.args.frames further report.groups.items =
     all_sent_whole _ c.args.frames t ran.course further answers c.in_ok-sinks.sinks.items report.sinks.items report.groups.items _ between ran.planned answered ran.sent in
-    matched_both c.report_text.result (λ text. IsReport t further report.receivers.items report.groups.items text.items) (λ text. IsRunReport t words c.args.frames further text.items)
-    (OrMemory (λ why. ⊥)) (OrMemory (IsRunRefusal t words c.args.frames)) (λ text is. (report.receivers.items, report.groups.items, record { few = ran.few; heard = heard; receivers = receivers; groups = groups; cells = cells }, is))
-    (λ e why. or_memory_weaker (λ why. ⊥) (IsRunRefusal t words c.args.frames) e (λ none. absurd none) why)
-    (c.report_text.ensures between.begin between.end between.station between.begun.planned.number answered)
+    let run = record { few = ran.few; heard = heard; receivers = receivers; groups = groups; cells = cells } in
+    replies_weaker (IsDone (IsReport t further report.receivers.items report.groups.items)) (IsDone (IsRunReport t words c.args.frames further)) (λ why. ⊥) (IsRunRefusal t words c.args.frames)
+    c.report_reply.result (λ status bytes is. ((report.receivers.items, report.groups.items, run, is.0), is.1)) (λ e none. absurd none)
+    (c.report_reply.ensures between.begin between.end between.station between.begun.planned.number answered)
 
 pub returns-in-Ok-clause-taken : goal.returns-in-Ok-clause-taken
 returns-in-Ok-clause-taken g c = λ all.
