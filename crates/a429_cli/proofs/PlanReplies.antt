@@ -7,8 +7,8 @@ use Rattle.a429_arguments.specs.declared.forms.Verb.TheVariants as verb
 use Rattle.a429_console.specs.declared.refusals.CommandRefusal.{CommandRefusal}
 use Rattle.a429_cli.specs.Plans.{IsNoPlanReply, IsPlanReply}
 use Rattle.a429_cli.specs.Replies.{IsAnswerOf, IsNoAnswer}
-use Rattle.a429_cli.specs.WholeReplies.{Replies}
-use Rattle.a429_cli.specs.declared.replies.reply.Reply.{Reply}
+use Rattle.a429_console.specs.WholeReplies.{Replies}
+use Rattle.a429_console.specs.declared.reply.Reply.{Reply}
 
 module _ (file : List ℕ → Option (List ℕ)) (r : AskedBytes) (result : Result Reply CommandRefusal) where
   pub on_plan : (v : Verb) → ¬ (v ≡ verb.Word) → ¬ (v ≡ verb.Encode) → ¬ (v ≡ verb.Import) → ¬ (v ≡ verb.Check) → ¬ (v ≡ verb.Lint) → ¬ (v ≡ verb.Diff) → ¬ (v ≡ verb.Survey)

@@ -2,8 +2,8 @@
 use Rattle.std.specs.Prelude.{◌≡◌, ◌∷◌, [], ◌++◌, ◌⊎◌, ℕ, List, Option, Result, MatchResult, Ok, Err, codes, string_bytes}
 use Rattle.a429_equipment.specs.TableRecord.{TableRecord}
 use Rattle.a429_table.specs.Reading.{reading}
-use Rattle.a429_cli.specs.WholeReplies.{Replies}
-use Rattle.a429_cli.specs.declared.replies.reply.Reply.{Reply}
+use Rattle.a429_console.specs.WholeReplies.{Replies}
+use Rattle.a429_console.specs.declared.reply.Reply.{Reply}
 use Rattle.a429_cert.specs.Due.{IsFirstUnfitOf}
 use Rattle.a429_cert.specs.Judged.{IsVerdictOnBytes}
 use Rattle.a429_text.specs.Fields.{Field, Text, Number, Absent}

@@ -14,8 +14,8 @@ use Rattle.a429_console.specs.RefusalText.{OrMemory}
 use Rattle.a429_console.specs.declared.refusals.CommandRefusal.{CommandRefusal}
 use Rattle.a429_console.specs.declared.refusals.CommandRefusal.TheVariants as refused
 use Rattle.a429_cli.specs.declared.drawings.Picture.{Picture}
-use Rattle.a429_cli.specs.declared.replies.reply.Reply.{Reply}
-use Rattle.a429_cli.specs.WholeReplies.{Replies}
+use Rattle.a429_console.specs.declared.reply.Reply.{Reply}
+use Rattle.a429_console.specs.WholeReplies.{Replies}
 
 -- the number of the first group of this name
 unfoldable pub group_numbered : List GroupRow → List ℕ → Option ℕ

@@ -18,8 +18,8 @@ use Rattle.a429_arguments.specs.Given.{form_of, has_given, text_given}
 use Rattle.a429_arguments.specs.Requests.{AskedBytes}
 use Rattle.a429_arguments.specs.declared.options.OptionName.TheVariants as option
 use Rattle.a429_cli.specs.Stamping.{IsStamped, stamp_line}
-use Rattle.a429_cli.specs.WholeReplies.{Replies}
-use Rattle.a429_cli.specs.declared.replies.reply.Reply.{Reply}
+use Rattle.a429_console.specs.WholeReplies.{Replies}
+use Rattle.a429_console.specs.declared.reply.Reply.{Reply}
 
 -- the names of a sheet's columns
 abbrev pub names_of : Sheet → List (List ℕ)

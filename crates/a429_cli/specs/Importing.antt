@@ -14,8 +14,8 @@ use Rattle.a429_import.specs.declared.fault.CsvFaultKind.{CsvFaultKind}
 use Rattle.a429_import.specs.declared.fault.CsvFaultKind.TheVariants as rows
 use Rattle.a429_import.specs.declared.fault.ImportFault.{ImportFault}
 use Rattle.a429_import.specs.declared.fault.ImportFault.TheVariants as wrong
-use Rattle.a429_cli.specs.WholeReplies.{Replies}
-use Rattle.a429_cli.specs.declared.replies.reply.Reply.{Reply}
+use Rattle.a429_console.specs.WholeReplies.{Replies}
+use Rattle.a429_console.specs.declared.reply.Reply.{Reply}
 use Rattle.a429_console.specs.FileReadings.{IsFileRefusal, readable}
 use Rattle.a429_console.specs.declared.refusals.CommandRefusal.{CommandRefusal}
 use Rattle.a429_console.specs.declared.refusals.CommandRefusal.TheVariants as refused

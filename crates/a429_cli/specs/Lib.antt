@@ -1,4 +1,3 @@
-pub mod WholeReplies
 pub mod WordRows
 pub mod WordLines
 pub mod Encoding
@@ -8,8 +7,6 @@ pub mod PlanRows
 pub mod Checks
 pub mod Drawings
 pub mod SlotReplies
-pub mod SurveyReplies
-pub mod JudgeAnswers
 pub mod Keeping
 pub mod Loads
 pub mod Stamping

@@ -22,7 +22,7 @@ use Rattle.a429_cli.specs.Loads.{IsLoad, limit_of}
 use Rattle.a429_cli.specs.PlanRows.{told_plan}
 use Rattle.a429_cli.specs.SlotReplies.{HasSlots, slots_form}
 use Rattle.a429_cli.specs.Stamping.{IsStamped, stamp_line}
-use Rattle.a429_cli.specs.declared.replies.reply.Reply.{Reply}
+use Rattle.a429_console.specs.declared.reply.Reply.{Reply}
 
 -- the command writes something about the plan of one table
 abbrev pub is_on_plan : Verb → Bool

@@ -23,12 +23,10 @@ use Rattle.a429_import.specs.ImportMaps.{heading_texts}
 use Rattle.a429_live.specs.LiveReplies.{IsLiveReply, TakesLive}
 use Rattle.a429_replay.specs.Replaying.{IsReplay, TakesFurther}
 use Rattle.a429_replay.specs.Views.{view_given}
-use Rattle.a429_recordings.specs.LogViews.{whole_view}
-use Rattle.a429_recordings.specs.SimulationReplies.{IsSimulation, IsSimulationForm, SimulatesSpacedWords}
-use Rattle.a429_recordings.specs.declared.simulate.SimulationForm.{SimulationForm}
-use Rattle.a429_cli.specs.JudgeAnswers.{IsJudgement, IsUnjudged, PassesNoAskedBoxLine}
-use Rattle.a429_cli.specs.SurveyReplies.{IsSurveyed, IsUnsurveyed, PassesNoAskedLine}
-use Rattle.a429_cli.specs.WholeReplies.{IsReplyBy}
+use Rattle.a429_recordings.specs.SimulationReplies.{IsAskedSimulation, PassesNoAskedLine, SimulatesAskedSpacedWords}
+use Rattle.a429_recordings.specs.Comparing.{IsSurveyed, IsUnsurveyed}
+use Rattle.a429_recordings.specs.JudgeReplies.{IsJudgement, IsUnjudged, PassesNoAskedBoxLine}
+use Rattle.a429_console.specs.WholeReplies.{IsReplyBy}
 
 -- the command prints nothing before it has its whole answer
 abbrev pub is_whole : Verb → Bool
@@ -80,16 +78,6 @@ IsNoAnswer verb.Survey file r = IsUnsurveyed file r
 IsNoAnswer verb.Judge file r = IsUnjudged file r
 IsNoAnswer verb.Plan file r = IsUnplanned file r
 IsNoAnswer v file r = IsNoPlanReply v file r
-
--- what `simulate` writes in the form that the options ask for
-abbrev pub IsAskedSimulation : (List ℕ → Option (List ℕ)) → AskedBytes → ℕ → List ℕ → Type 0
-IsAskedSimulation file r status bytes =
-    (form : SimulationForm) × IsSimulationForm r.given form × IsSimulation file (named_table r) (r.second ∷ r.more) (whole_view r.given) form status bytes
-
--- the words of the log are apart on the buses, in that form
-abbrev pub SimulatesAskedSpacedWords : (List ℕ → Option (List ℕ)) → AskedBytes → Type 0
-SimulatesAskedSpacedWords file r =
-    (form : SimulationForm) → IsSimulationForm r.given form → SimulatesSpacedWords file (named_table r) (r.second ∷ r.more) (whole_view r.given) form
 
 -- the status and the bytes that answer a command, by these files and by what it is given
 abbrev pub IsReplyOf : Verb → (List ℕ → Option (List ℕ)) → AskedBytes → ℕ → List ℕ → Type 0

@@ -10,8 +10,8 @@ use Rattle.a429_arguments.specs.Given.{Given, form_of, has_given}
 use Rattle.a429_arguments.specs.declared.options.OptionName.TheVariants as option
 use Rattle.a429_console.specs.declared.refusals.CommandRefusal.{CommandRefusal}
 use Rattle.a429_cli.specs.Drawings.{IsNoGroup, group_asked}
-use Rattle.a429_cli.specs.WholeReplies.{Replies}
-use Rattle.a429_cli.specs.declared.replies.reply.Reply.{Reply}
+use Rattle.a429_console.specs.WholeReplies.{Replies}
+use Rattle.a429_console.specs.declared.reply.Reply.{Reply}
 use Rattle.a429_cli.specs.declared.slots.SlotsForm.{SlotsForm}
 
 -- whether a header for C is asked for; otherwise whether rows for a bus board are; otherwise whether the empty cells have rows too; and the form

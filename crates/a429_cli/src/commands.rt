@@ -7,11 +7,9 @@ ghost use Rattle.a429_console.specs.Readings.{HasRead, HasReadFrom};
 ghost use Rattle.a429_arguments.specs.Given.{has_given};
 ghost use Rattle.a429_arguments.specs.RequestRows.{AsksFor};
 ghost use Rattle.a429_arguments.specs.Requests.{AskedBytes, asked_of};
-ghost use Rattle.a429_recordings.specs.LogItems.{logs_named, view_named};
-ghost use Rattle.a429_recordings.specs.LogViews.{whole_view};
 ghost use Rattle.a429_cli.specs.Replies.{IsAnswerOf, IsNoAnswer, IsReplyOrMemory, RepliesToCommand, RepliesToCommandByReader, IsSilent, import_options, is_whole, trouble_of};
 ghost use Rattle.a429_cli.specs.Keeping.{IsPlanned, IsUnplanned};
-ghost use Rattle.a429_cli.specs.WholeReplies.{Replies};
+ghost use Rattle.a429_console.specs.WholeReplies.{Replies};
 ghost use Rattle.a429_arguments.specs.Usage.{is_run, kinds_of_words};
 
 use crate::calls::{asked_here, ended};
@@ -19,14 +17,10 @@ use crate::checks::check_reply;
 use crate::encode::{FieldOptions, encode_reply};
 use crate::findings::{diff_reply, lint_reply};
 use crate::import::import_reply;
-use crate::judging::judge_reply;
 use crate::keeping::kept_reply;
 use crate::lines::tell_lines;
 use crate::plans::plan_reply;
-use crate::replies::put_reply;
-use crate::replies::reply::Reply;
 use crate::runs::{is_whole, trouble_of};
-use crate::surveys::survey_reply;
 use crate::word::word_reply;
 use a429_arguments::forms::Verb;
 use a429_arguments::options::OptionName;
@@ -37,9 +31,12 @@ use a429_console::hints::Hints;
 use a429_console::hints::warnings::Warning;
 use a429_console::output::{Output, OutputFault};
 use a429_console::refusals::Refused;
+use a429_console::reply::{Reply, put_reply};
 use a429_given::TableNames;
 use a429_import::ImportOptions;
-use a429_recordings::simulate::{LogNames, LogView, SimulationForm, simulate};
+use a429_recordings::judge::judge_reply;
+use a429_recordings::simulate::simulate;
+use a429_recordings::survey::survey_reply;
 use a429_replay::replay::replay;
 use a429_replay::views::ReplayForm;
 use std::alloc::Global;
@@ -146,40 +143,6 @@ fn reply_to<F: FileReader>(
     }
 }
 
-/// Answers by a command that prints nothing before it has its whole answer.
-fn answer_whole<F: FileReader, O: Output>(
-    alloc: Global,
-    asked: &Asked,
-    files: &mut F,
-    warnings: &mut Vec<Warning>,
-    out: &mut O,
-) -> Result<Answered, OutputFault>
-    requires { is_whole asked.now.verb ≡ true }
-    ensures read { HasRead F.answers (λ file. IfOk result
-        (IsPut (IsReplyOrMemory file (asked_of asked.now)) (O.contents out.old) (O.contents out.new))) files.old files.new }
-    ensures silent { HasRead F.answers (λ file. IsSilent file (asked_of asked.now)
-        → warnings.new.items ≡ warnings.old.items) files.old files.new }
-    ensures status { IfOk result (λ status. status ≤ trouble_of asked.now.verb) }
-    ensures few { IfOk result (λ status. status ≤ 2) }
-    ensures flushed { OnOk result (IsTrue (O.is_flushed out.new)) }
-    ensures faults { CountsFault result (O.failures out.old) (O.failures out.new) }
-{
-    let reply = reply_to(alloc, asked, files, warnings);
-    put_reply(alloc, reply, trouble_of(asked.verb), out)
-}
-
-/// The names of the logs that a request has after its table, and which of their words it asks for.
-fn simulated_logs<'a>(asked: &'a Asked) -> LogNames<'a>
-    ensures logs { logs_named result ≡ (asked_of asked.now).second ∷ (asked_of asked.now).more }
-    ensures view { view_named result ≡ whole_view (asked_of asked.now).given }
-{
-    LogNames {
-        first: asked.second,
-        more: &asked.more,
-        view: LogView::whole(asked),
-    }
-}
-
 /// Answers by a command that prints line by line.
 fn answer_by_lines<F: FileReader, O: Output>(
     alloc: Global,
@@ -211,18 +174,7 @@ fn answer_by_lines<F: FileReader, O: Output>(
             let table = TableNames::of(asked);
             replay(alloc, files, table, second, more, &view, warnings, out)
         }
-        Verb::Simulate => {
-            let form = SimulationForm::of(asked);
-            simulate(
-                alloc,
-                files,
-                TableNames::of(asked),
-                simulated_logs(asked),
-                form,
-                warnings,
-                out,
-            )
-        }
+        Verb::Simulate => simulate(alloc, files, asked, warnings, out),
         _ => unreachable!(),
     }
 }
@@ -256,7 +208,8 @@ fn answer<F: FileReader, O: Output>(
     ensures faults { CountsFault result (O.failures out.old) (O.failures out.new) }
 {
     if is_whole(asked.verb) {
-        answer_whole(alloc, asked, files, warnings, out)
+        let reply = reply_to(alloc, asked, files, warnings);
+        put_reply(alloc, reply, trouble_of(asked.verb), out)
     } else {
         answer_by_lines(alloc, asked, files, warnings, out)
     }

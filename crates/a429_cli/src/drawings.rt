@@ -5,12 +5,12 @@ ghost use Rattle.a429_cli.specs.Drawings.{GivesGroup, GivesNamedImage, GivesNumb
 ghost use Rattle.a429_console.specs.declared.refusals.CommandRefusal.TheVariants.{Memory};
 ghost use Rattle.a429_slots.specs.Tables.{groups_of};
 
-use crate::replies::reply::Reply;
 use a429_arguments::options::OptionName;
 use a429_arguments::requests::Asked;
 use a429_console::files::reading::printable_name;
 use a429_console::refusals::tables::no_group;
 use a429_console::refusals::{CommandRefusal, Refused};
+use a429_console::reply::Reply;
 use a429_documents::{Drawing, DrawingFault, DrawingForm, TableFile, draw_text, page_text};
 use a429_equipment::GroupRow;
 use a429_slots::{OUTPUTS, Proposal};

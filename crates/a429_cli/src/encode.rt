@@ -2,14 +2,14 @@
 ghost use Rattle.std.specs.Prelude.{◌≡◌, ◌<◌, ◌≤◌, ◌-◌, ◌%◌, ◌^◌, ◌++◌, ◌∷◌, [], IfOk, MatchOption};
 ghost use Rattle.a429_cli.specs.Encoding.{GivesData, HasBcd, HasBnr, HasData, HasFields, HasHex, IsEncoded, IsNoBcd, IsNoBnr, IsNoHex, IsNotEncoded, NoWordHasData, NoWordHasFields, fields_of, given_sdi, given_ssm, hex_number, in_place};
 ghost use Rattle.a429_word.specs.Hexadecimal.{hex};
-ghost use Rattle.a429_cli.specs.WholeReplies.{Replies};
+ghost use Rattle.a429_console.specs.WholeReplies.{Replies};
 ghost use Rattle.a429_cli.specs.WordRows.{told_word};
 
-use crate::replies::reply::Reply;
 use crate::word_rows::word_sheet;
 use a429_arguments::options::OptionName;
 use a429_arguments::requests::Asked;
 use a429_console::refusals::{CommandRefusal, Refused};
+use a429_console::reply::Reply;
 use a429_text::SheetForm;
 use a429_text::from_end::push_hex;
 use a429_word::{Label, Sdi, Ssm, Word, decimal_number, raw_word};

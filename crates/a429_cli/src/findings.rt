@@ -10,9 +10,8 @@ ghost use Rattle.a429_given.specs.GivenTables.{table_names, table_texts};
 ghost use Rattle.a429_documents.specs.Diff.{diff_columns, diff_rows};
 ghost use Rattle.a429_cli.specs.Findings.{AnswersDiff, IsDiffBetween, IsFound, IsLint, IsLinted, IsNoDiffBetween, IsNoLint, found_status, names_of, other_table};
 ghost use Rattle.a429_cli.specs.Stamping.{IsStamped, stamp_line};
-ghost use Rattle.a429_cli.specs.WholeReplies.{Replies};
+ghost use Rattle.a429_console.specs.WholeReplies.{Replies};
 
-use crate::replies::reply::Reply;
 use crate::stamping::{stamped, stamped_both};
 use a429_arguments::options::OptionName;
 use a429_arguments::requests::Asked;
@@ -21,6 +20,7 @@ use a429_console::files::FileReader;
 use a429_console::files::reading::read_file;
 use a429_console::planning::read_table;
 use a429_console::refusals::Refused;
+use a429_console::reply::Reply;
 use a429_documents::{TableFile, diff_sheet, lint_sheet};
 use a429_equipment::Equipment;
 use a429_given::{GivenTable, TableNames};

@@ -7,7 +7,6 @@ ghost use Rattle.a429_import.specs.ImportMaps.{given_texts, heading_texts};
 mod short_intervals;
 
 use crate::import::short_intervals::{note_millis_groups, note_short_intervals};
-use crate::replies::reply::Reply;
 use a429_console::files::FileReader;
 use a429_console::files::reading::read_file;
 use a429_console::hints::warnings::Warning;
@@ -15,6 +14,7 @@ use a429_console::refusals::evidence::Evidence;
 use a429_console::refusals::kinds::CsvKind;
 use a429_console::refusals::rows::{RowEvidence, RowsEvidence};
 use a429_console::refusals::{CommandRefusal, Refused};
+use a429_console::reply::Reply;
 use a429_import::{
     CsvFaultKind, CsvLine, ImportFault, ImportOptions, Imported, RefusedRows, heading_texts,
     import_or_keep, keep_texts,

@@ -12,6 +12,7 @@ use crate::calls::{asked_here, ended};
 use a429_console::files::FileReader;
 use a429_console::hints::Hints;
 use a429_console::output::Output;
+use a429_console::reply::put_reply;
 use a429_live::{Progress, run_station};
 use std::alloc::Global;
 use std::sync::Wait;
@@ -56,7 +57,8 @@ pub fn command_live<
         Err(status) => return status,
     };
     let mut warnings = Vec::new(alloc);
-    let answered = run_station(rt, alloc, files, &asked, &mut warnings, out, progress);
+    let reply = run_station(rt, alloc, files, &asked, &mut warnings, progress);
+    let answered = put_reply(alloc, reply, 1, out);
     let status = ended(alloc, &asked, &answered, &warnings, hints, err);
     // `drop` keeps the proof short: a drop in place goes through all parts.
     drop(answered);

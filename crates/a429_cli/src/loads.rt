@@ -1,9 +1,9 @@
 //! What `load` writes about a plan: the status says whether a bus is above the limit.
 ghost use Rattle.std.specs.Prelude.{◌≡◌, ◌≤◌, IfOk, IfSome};
-ghost use Rattle.a429_cli.specs.Loads.{IsLoad, above_status, limit_of};
+ghost use Rattle.a429_cli.specs.Loads.{IsLoad, limit_of};
 
-use crate::replies::reply::Reply;
 use a429_console::answered::Found;
+use a429_console::reply::{Reply, finding_status};
 use a429_documents::load_sheet;
 use a429_slots::{OUTPUTS, Proposal};
 use a429_text::SheetForm;
@@ -20,13 +20,6 @@ fn limit_of(limit: Option<u32>) -> Option<u32>
     }
 }
 
-/// 1 if a bus is above the limit, otherwise 0.
-fn above_status(above: bool) -> u8
-    ensures { result ≡ above_status above }
-{
-    if above { 1 } else { 0 }
-}
-
 /// The load of each bus of a proposal's plan, in a form. The status is 1 if a bus is above the limit in per cent, otherwise 0.
 /// Error: an allocation failed.
 pub fn load_of(
@@ -41,7 +34,7 @@ pub fn load_of(
     let bytes = load.sheet.render(alloc, form)?;
     Ok(Reply {
         bytes,
-        status: above_status(load.above),
+        status: finding_status(load.above),
         found: Found::Nothing,
     })
 }

@@ -6,8 +6,8 @@ ghost use Rattle.a429_text.specs.Fields.{Number};
 ghost use Rattle.a429_text.specs.Sheets.{field_of};
 ghost use Rattle.a429_cli.specs.PlanRows.{group_fields, group_rows, hold_field, listed_fields, plan_columns, plan_row, plan_rows, rows_of_group, told_plan};
 
-use crate::replies::reply::Reply;
 use a429_cert::plan_text;
+use a429_console::reply::Reply;
 use a429_equipment::{Equipment, GroupRow};
 use a429_slots::{GroupPlan, OUTPUTS, OutputId, Proposal, SlotPlace};
 use a429_text::{Cell, Rows, Sheet, SheetForm};

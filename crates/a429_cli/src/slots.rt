@@ -5,10 +5,10 @@ ghost use Rattle.a429_slots.specs.Tables.{groups_of};
 ghost use Rattle.a429_cli.specs.SlotReplies.{GivesSlots, slots_text};
 
 use crate::drawings::group_asked;
-use crate::replies::reply::Reply;
 use a429_arguments::options::OptionName;
 use a429_arguments::requests::Asked;
 use a429_console::refusals::Refused;
+use a429_console::reply::Reply;
 use a429_documents::{SLOT_SOURCE, render_kept, slot_board, slot_header, slot_sheet};
 use a429_slots::{OUTPUTS, Proposal};
 use a429_text::SheetForm;

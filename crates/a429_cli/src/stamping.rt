@@ -3,10 +3,10 @@ ghost use Rattle.std.specs.Prelude.{◌≡◌, ◌++◌, IfOk, OnOk};
 ghost use Rattle.a429_arguments.specs.Requests.{asked_of};
 ghost use Rattle.a429_cli.specs.Stamping.{stamp_line, stamped};
 
-use crate::replies::reply::Reply;
 use a429_arguments::options::OptionName;
 use a429_arguments::requests::Asked;
 use a429_console::files::reading::printable_name;
+use a429_console::reply::Reply;
 use a429_documents::{TableFile, put_stamp};
 use a429_text::Text;
 use std::alloc::{AllocError, Global};

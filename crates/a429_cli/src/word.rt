@@ -6,11 +6,11 @@ ghost use Rattle.std.specs.Fmt.{decimal};
 ghost use Rattle.std.specs.Io.KnownBytes.{Appends};
 ghost use Rattle.a429_cli.specs.WordLines.{IsNoWord, IsWordOf, bcd_digits, bcd_line, bnr_line, data_text, fields_line, name_text, status_text, word_lines};
 ghost use Rattle.a429_cli.specs.WordRows.{told_word};
-ghost use Rattle.a429_cli.specs.WholeReplies.{Replies};
+ghost use Rattle.a429_console.specs.WholeReplies.{Replies};
 
-use crate::replies::reply::Reply;
 use crate::word_rows::word_sheet;
 use a429_console::refusals::{CommandRefusal, Refused};
+use a429_console::reply::Reply;
 use a429_text::SheetForm;
 use a429_word::{Label, Sdi, Ssm, Word, raw_word};
 use std::alloc::{AllocError, Global};

@@ -1,11 +1,8 @@
 use Rattle.a429_console.proofs.ReadingParts.{read_weaker}
-use Rattle.std.proofs.Common.{◌∷◌, List, ℕ, inl, refl, subst, sym}
+use Rattle.std.proofs.Common.{inl, refl, subst, sym}
 use Rattle.std.proofs.lemmas.Result.{IfOk-weaker}
 use Rattle.a429_arguments.specs.Texts.{texts_of}
 use Rattle.a429_arguments.specs.Requests.{asked_of}
-use Rattle.a429_recordings.specs.LogItems.{PassesNoLine, logs_named, view_named}
-use Rattle.a429_recordings.specs.LogViews.{View, whole_view}
-use Rattle.a429_recordings.specs.SimulationReplies.{IsSimulation, SimulatesSpacedWords}
 use Rattle.a429_arguments.specs.Given.{form_of}
 use Rattle.a429_text.specs.declared.sheets.SheetForm.{SheetForm}
 use Rattle.a429_given.specs.GivenTables.{TableTexts, named_table, table_names}
@@ -40,41 +37,13 @@ returns-in-Replay-clause-read g c =
 
 pub returns-in-Simulate-clause-read : goal.returns-in-Simulate-clause-read
 returns-in-Simulate-clause-read g c =
-    rw c.in-Simulate.is (read_weaker c.simulate.ensures.simulated (λ file is. IfOk-weaker c.simulate.result _ _ (λ status told.
-    let a = c.args.asked.now in
-    let table = named_table (asked_of a) in
-    let names = c.simulated_logs.result in
-    let form = c.of-form.result in
-    let by_table : IsSimulation file table (logs_named names) (view_named names) form status told.0 =
-    subst (λ (t : TableTexts). IsSimulation file t (logs_named names) (view_named names) form status told.0) c.of.ensures told.1 in
-    let by_logs : IsSimulation file table (a.second.now ∷ texts_of a.more.items) (view_named names) form status told.0 =
-    subst (λ (logs : List (List ℕ)). IsSimulation file table logs (view_named names) form status told.0) c.simulated_logs.ensures.logs by_table in
-    let reply : IsSimulation file table (a.second.now ∷ texts_of a.more.items) (whole_view (asked_of a).given) form status told.0 =
-    subst (λ (view : View). IsSimulation file table (a.second.now ∷ texts_of a.more.items) view form status told.0) c.simulated_logs.ensures.view by_logs in
-    (told.0, inl (form, c.of-form.ensures, reply), told.2))
-    is))
+    rw c.in-Simulate.is (read_weaker c.simulate.ensures.simulated (λ file is. IfOk-weaker c.simulate.result _ _ (λ status told. (told.0, inl told.1, told.2)) is))
 
 pub returns-in-Lines-clause-silent : goal.returns-in-Lines-clause-silent
 returns-in-Lines-clause-silent g c = read_weaker c.tell_lines.ensures.told (λ file is takes. refl)
 
 pub returns-in-Simulate-clause-silent : goal.returns-in-Simulate-clause-silent
-returns-in-Simulate-clause-silent g c =
-    rw c.in-Simulate.is
-    (read_weaker c.simulate.ensures.silent (λ file is none.
-    let a = c.args.asked.now in
-    let names = c.simulated_logs.result in
-    let logs = a.second.now ∷ texts_of a.more.items in
-    let view = whole_view (asked_of a).given in
-    let form = c.of-form.result in
-    let plain : PassesNoLine file (logs_named names) form.reading =
-    subst (λ (ls : List (List ℕ)). PassesNoLine file ls form.reading) (sym c.simulated_logs.ensures.logs) (none.0 form.reading c.of-form.ensures.reading) in
-    let by_table : SimulatesSpacedWords file (table_names c.of.result) logs view form =
-    subst (λ (t : TableTexts). SimulatesSpacedWords file t logs view form) (sym c.of.ensures) (none.1 form c.of-form.ensures) in
-    let by_logs : SimulatesSpacedWords file (table_names c.of.result) (logs_named names) view form =
-    subst (λ (ls : List (List ℕ)). SimulatesSpacedWords file (table_names c.of.result) ls view form) (sym c.simulated_logs.ensures.logs) by_table in
-    let these : SimulatesSpacedWords file (table_names c.of.result) (logs_named names) (view_named names) form =
-    subst (λ (v : View). SimulatesSpacedWords file (table_names c.of.result) (logs_named names) v form) (sym c.simulated_logs.ensures.view) by_logs in
-    is plain these))
+returns-in-Simulate-clause-silent g c = rw c.in-Simulate.is (read_weaker c.simulate.ensures.silent (λ file is none. is none.0 none.1))
 
 pub returns-in-Replay-clause-silent : goal.returns-in-Replay-clause-silent
 returns-in-Replay-clause-silent g c =

@@ -7,7 +7,7 @@ use Rattle.a429_arguments.specs.declared.options.OptionName.TheVariants as optio
 use Rattle.a429_arguments.specs.declared.forms.Verb.{Verb}
 use Rattle.a429_cli.specs.Keeping.{IsKeptOf, IsNoKept, PlannedBy, UnplannedBy}
 use Rattle.a429_cli.specs.Plans.{IsNoPlanReply, IsPlanReply}
-use Rattle.a429_cli.specs.WholeReplies.{Replies}
+use Rattle.a429_console.specs.WholeReplies.{Replies}
 use Rattle.a429_text.specs.declared.sheets.SheetForm.{SheetForm}
 use Rattle.a429_cli.proofs.commands.plan_or_kept.Goals as goal
 

@@ -6,7 +6,7 @@ use Rattle.a429_text.specs.declared.sheets.SheetForm.{SheetForm}
 use Rattle.a429_cli.specs.Checks.{AnswersCheck}
 use Rattle.a429_cli.specs.WordLines.{IsNoWord, IsWordOf}
 use Rattle.a429_cli.specs.Encoding.{FieldBytes, IsEncoded, IsNotEncoded}
-use Rattle.a429_cli.specs.WholeReplies.{Replies}
+use Rattle.a429_console.specs.WholeReplies.{Replies}
 use Rattle.a429_import.specs.declared.import.ImportOptions.{ImportOptions}
 use Rattle.a429_cli.specs.Importing.{ImportsSilently, IsImportReply}
 use Rattle.a429_import.specs.ImportMaps.{heading_texts}

@@ -7,7 +7,7 @@ use Rattle.a429_given.specs.GivenPlans.{IsNoGivenPlan}
 use Rattle.a429_given.specs.GivenTables.{table_texts}
 use Rattle.a429_arguments.specs.Requests.{asked_of}
 use Rattle.a429_cli.specs.Plans.{IsNoReplyOnPlan, IsNoReplyToTable, IsReplyOnPlan, IsReplyToTable}
-use Rattle.a429_cli.specs.WholeReplies.{Replies}
+use Rattle.a429_console.specs.WholeReplies.{Replies}
 use Rattle.a429_cli.proofs.plans.reply_to_table.Goals as goal
 
 pub returns-in_err-proposal : goal.returns-in_err-proposal
