@@ -1,8 +1,7 @@
-use Rattle.std.proofs.Common.{◌≡◌, ◌≤◌, ◌∙◌, [], ℕ, ap, arith, inl, inr, refl, subst}
+use Rattle.std.proofs.Common.{◌≡◌, ◌≤◌, ◌∙◌, [], arith, inr, refl, subst}
 use Rattle.std.proofs.lemmas.Result.{IfOk-weaker}
 use Rattle.a429_console.specs.Ends.{writing}
 use Rattle.a429_arguments.specs.Texts.{texts_of}
-use Rattle.a429_console.specs.Outputs.{IsPut}
 use Rattle.a429_console.specs.Readings.{HasRead}
 use Rattle.a429_arguments.specs.Requests.{AskedBytes}
 use Rattle.a429_arguments.specs.Usage.{live_kinds_of_words}

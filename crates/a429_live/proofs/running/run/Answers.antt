@@ -9,7 +9,7 @@ use Rattle.a429_station.specs.Course.{IsHeardIn, asked}
 use Rattle.a429_station.specs.Faults.{IsLiveFault}
 use Rattle.a429_station.specs.Numbered.{AllOfThree}
 use Rattle.a429_console.specs.Files.{bytes_of}
-use Rattle.a429_live.specs.LiveReplies.{AreSentWhole, IsReport, IsRunRefusal, IsRunReport}
+use Rattle.a429_live.specs.LiveReplies.{AreSentWhole, HasLiveRun, IsReport, IsRunRefusal, IsRunReport}
 use Rattle.a429_live.specs.declared.control.SubmitAnswer.{SubmitAnswer}
 use Rattle.a429_live.specs.Resubmitted.{AreAnswers}
 use Rattle.a429_console.specs.RefusalText.{OrMemory}
@@ -46,7 +46,7 @@ returns-in-Ok-clause-report g c =
     let groups = as_many _ c.in_ok-sinks.sinks.items report.sinks.items report.groups.items ran.sent ∙ few in
     let cells : AreSentWhole t c.args.frames further report.groups.items =
     all_sent_whole _ c.args.frames t ran.course further answers c.in_ok-sinks.sinks.items report.sinks.items report.groups.items _ between ran.planned answered ran.sent in
-    let run = record { few = ran.few; heard = heard; receivers = receivers; groups = groups; cells = cells } in
+    let run : HasLiveRun t words c.args.frames further report.receivers.items report.groups.items = record { few = ran.few; heard = heard; receivers = receivers; groups = groups; cells = cells } in
     replies_weaker (IsDone (IsReport t further report.receivers.items report.groups.items)) (IsDone (IsRunReport t words c.args.frames further)) (λ why. ⊥) (IsRunRefusal t words c.args.frames)
     c.report_reply.result (λ status bytes is. ((report.receivers.items, report.groups.items, run, is.0), is.1)) (λ e none. absurd none)
     (c.report_reply.ensures between.begin between.end between.station between.begun.planned.number answered)
