@@ -16,7 +16,9 @@ use crate::sends::{SentCell, send_word, sends_of};
 use crate::sources::{Kept, keep};
 use a429_equipment::{COUNT_BITS, Equipment};
 use a429_slots::laws::sends_are_recalled;
-use a429_slots::{Answer, Due, GroupSends, OUTPUTS, OpenFault, Plan, Proposal, Refusal, Sender};
+use a429_slots::{
+    Answer, CachedSender, Due, GroupSends, OUTPUTS, OpenFault, Plan, Proposal, Refusal,
+};
 use a429_word::Word;
 use std::alloc::{AllocError, Global};
 use std::marker::Model;
@@ -30,7 +32,7 @@ pub struct State<const C: u32> {
     equipment: Equipment,
     limit: u64,
     sources: Vec<Kept>,
-    groups: Vec<Sender>,
+    groups: Vec<CachedSender>,
     sends: Vec<GroupSends>,
     newest: Box<Plan<OUTPUTS>>,
 }
@@ -78,19 +80,20 @@ fn frames_fit(plan: &Plan<OUTPUTS>, first: u64) -> bool
 }
 
 /// The groups before their first cells.
-fn senders_of(alloc: Global, plan: &Plan<OUTPUTS>, first: u64) -> Result<Vec<Sender>, AllocError>
+fn senders_of(alloc: Global, plan: &Plan<OUTPUTS>, first: u64) -> Result<Vec<CachedSender>, AllocError>
     requires { IsTrue (all_fit first (groups_of plan.now)) }
     ensures { IfOk result (λ senders. senders.items ≡ map (begun first) (groups_of plan.now)) }
 {
     let mut senders = Vec::new(alloc);
     for group in 0..plan.groups() {
-        senders.push(Sender::open(*plan.group(group), first))?;
+        let sender = CachedSender::open(alloc, *plan.group(group), first)?;
+        senders.push(sender)?;
     }
     Ok(senders)
 }
 
 /// The next cell of a group: its bus, its slot, and its output; no output if the cell is empty.
-fn next_cell(groups: &mut Vec<Sender>, group: usize) -> Option<(u32, u64, Option<Due>)>
+fn next_cell(groups: &mut Vec<CachedSender>, group: usize) -> Option<(u32, u64, Option<Due>)>
     requires { group < length groups.old.items }
     ensures due { result ≡ asked_cell groups.old.items group }
     ensures after { groups.new.items ≡ after_asked groups.old.items group }
@@ -104,7 +107,7 @@ fn next_cell(groups: &mut Vec<Sender>, group: usize) -> Option<(u32, u64, Option
 }
 
 /// Takes the next frame of a group by the newest plan, if the frame before is over.
-fn next_frame(groups: &mut Vec<Sender>, newest: &Plan<OUTPUTS>, group: usize) -> Answer
+fn next_frame(groups: &mut Vec<CachedSender>, newest: &Plan<OUTPUTS>, group: usize) -> Answer
     requires group { group < length groups.old.items }
     requires planned { group < length (groups_of newest.now) }
     ensures answer { result ≡ (frame_at groups.old.items newest.now group).0 }
@@ -285,7 +288,7 @@ impl<const C: u32> State<C> {
             return Answer::Refused(Refusal::CountSpent);
         }
         let (_, mut newest) = proposal.into_parts();
-        *newest = newest.numbered(last + 1);
+        newest.renumber(last + 1);
         self.newest = newest;
         Answer::Published { plan: last + 1 }
     }

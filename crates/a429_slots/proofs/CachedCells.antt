@@ -1,5 +1,5 @@
--- What is kept of cells that were looked up.
-use Rattle.std.proofs.Common.{◌≡◌, ℕ, ◌+◌, ◌/◌, ◌%◌, ◌^◌, Bool, List, [], ◌∷◌, length, get_or, map, refl, ap, ap₂, ◌∙◌, sym, true, false, not, inl, inr, ⊎_elim}
+-- Tables whose columns have the same places.
+use Rattle.std.proofs.Common.{◌≡◌, ℕ, ◌+◌, ◌%◌, ◌^◌, Bool, List, [], ◌∷◌, length, get_or, map, refl, ap, ap₂, ◌∙◌, sym, true, false, not}
 use Rattle.std.specs.Prelude.{◌&&◌, Some, None, cond, nat_eq, nat_lt, position}
 use Rattle.std.specs.List.{prefix_len, range_with_len}
 use Rattle.std.proofs.lemmas.List.{length-map}
@@ -9,8 +9,7 @@ use Rattle.std.specs.Cmp.Lexicographic.{pointwise}
 use Rattle.a429_word.proofs.Lists.{not_false}
 use Rattle.a429_slots.specs.declared.group_plan.GroupPlan.TheInside.{Inside}
 use Rattle.a429_slots.specs.Columns.{placed_in, table_in}
-use Rattle.a429_slots.specs.Tables.{SlotTable, stands_in, cell_at}
-use Rattle.a429_slots.specs.Cached.{AreCached, IsForgotten, cached}
+use Rattle.a429_slots.specs.Tables.{stands_in, cell_at}
 
 -- the first of some values that passes
 prefix-map : {A B : Type 0} (p : B → Bool) (f : A → B) (xs : List A) → prefix_len p (map f xs) ≡ prefix_len (λ x. p (f x)) xs
@@ -41,14 +40,6 @@ same_cells p q same bus slot =
     ∙ ap (λ (xs : List ℕ). position (stands bus slot q.on_bus q.offsets xs) (range_with_len 0 (length p.sums))) same.periods
     ∙ ap (λ (n : ℕ). position (stands bus slot q.on_bus q.offsets q.periods) (range_with_len 0 n)) same.count
     ∙ sym (position-map (stands_in bus slot) (placed_in q) (range_with_len 0 (length q.sums)))
-
--- nothing kept is kept rightly of any table
-pub forgotten_cached : (t : SlotTable) (cells : List ℕ) → IsForgotten cells → AreCached t cells
-forgotten_cached t cells none i = inl (none i)
-
--- what is kept of one table is kept of another, whose outputs are in the same cells
-pub cached_alike : (t u : SlotTable) (cells : List ℕ) → ((bus slot : ℕ) → cell_at t bus slot ≡ cell_at u bus slot) → AreCached t cells → AreCached u cells
-cached_alike t u cells same kept i = ⊎_elim (λ none. inl none) (λ is. inr (is ∙ ap cached (same (i % 16) (i / 16)))) (kept i)
 
 -- what `==` and `!=` say of two arrays of numbers
 pub arrays_same : (xs ys : List ℕ) (r : Bool) → r ≡ pointwise nat_eq xs ys → r ≡ true → xs ≡ ys

@@ -24,4 +24,5 @@ pub mod OneFault
 pub mod NextCells
 pub mod Known
 pub mod CachedCells
+pub mod MarkedCells
 pub mod Replaced

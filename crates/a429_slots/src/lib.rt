@@ -2,7 +2,7 @@
 //!
 //! `plan` makes the plan of an equipment: a `GroupPlan` for each group, on the fewest buses. A `Proposal` is an
 //! equipment with its own plan. `GroupPlan::at` says which output is in a cell, `place` which cells an output has.
-//! `Sender` and `GroupSends` go through the cells of frames, for the machine and for transmitters. `gap` is the number
+//! `CachedSender` and `GroupSends` go through the cells of frames, for the machine and for transmitters. `gap` is the number
 //! of slots between two cells of an output at a change of plan.
 //!
 //! ```text
@@ -51,6 +51,6 @@ pub use planner::{PlanFault, demands_of, plan};
 pub use plans::Plan;
 pub use proposals::{NoProposal, Proposal};
 pub use senders::cached::CachedSender;
-pub use senders::{Due, Sender};
+pub use senders::Due;
 pub use sends::LastSend;
 pub use times::{latency_us, slots_us};

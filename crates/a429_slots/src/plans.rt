@@ -106,6 +106,13 @@ impl<const N: usize> Plan<N> {
         Plan { number, ..self }
     }
 
+    /// Gives the plan this number, where it is.
+    pub fn renumber(&mut self, number: u64)
+        ensures { self.new ≡ record self.old { number = number } }
+    {
+        self.number = number;
+    }
+
     /// A copy of the plan.
     pub fn copied(&self) -> Plan<N>
         ensures { result ≡ self.now }

@@ -1,8 +1,8 @@
 //! The place of a group in its frame.
 pub mod cached;
 
-ghost use Rattle.std.specs.Prelude.{◌≡◌, ◌≤◌, ◌+◌, ◌<◌, ◌^◌, length, nat_lt, option_map, slice_get, IfSome, MatchOption, Some, ⊤};
-ghost use Rattle.a429_slots.specs.Tables.{cells_of, frame_of, outputs_of, output_in};
+ghost use Rattle.std.specs.Prelude.{◌≡◌, ◌≤◌, ◌+◌, ◌<◌, ◌^◌, length, nat_lt, option_map, slice_get, MatchOption, Some, ⊤};
+ghost use Rattle.a429_slots.specs.Tables.{cells_of, frame_of, outputs_of};
 ghost use Rattle.a429_slots.specs.FrameStates.{begun, next_cell, after_cell, fits_next, turned, due_of};
 
 use crate::group_plan::{GroupPlan, SendLimits};
@@ -20,7 +20,7 @@ pub struct Due {
 /// The plan in force of a group, the first slot of its frame, and the slot and the bus of the next cell: cells are
 /// counted up slot by slot, and in a slot bus by bus, so that no number of cells is divided.
 #[derive(Drop)]
-pub struct Sender {
+pub(crate) struct Sender {
     plan: GroupPlan<OUTPUTS>,
     first: u64,
     slot: u32,
@@ -74,15 +74,6 @@ impl Sender {
         ensures { result ≡ (nat_lt self.now.sent (cells_of self.now.table)) }
     {
         self.bus < self.plan.buses() && self.slot < self.plan.frame()
-    }
-
-    /// The output of a bus in a slot of the frame; `None`: an empty cell.
-    pub fn output_in(&self, bus: u32, slot: u64) -> Option<Due>
-        ensures output { result ≡ option_map due_of (output_in self.now.table bus slot) }
-        ensures some { IfSome result (λ due. 1 ≤ due.limits.spacing) }
-    {
-        let output = self.plan.at(bus, slot)?;
-        Some(self.due(output))
     }
 
     /// The slot table in force.

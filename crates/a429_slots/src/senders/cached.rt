@@ -1,10 +1,10 @@
-//! A group in its frame, which looks each cell of its slot table up once.
-ghost use Rattle.std.specs.Prelude.{◌≡◌, ◌≤◌, ◌+◌, ◌<◌, ◌^◌, IfOk, IfSome, MatchOption, ⊤, length, nat_lt, option_map};
+//! A group in its frame, with the output of each cell at hand.
+ghost use Rattle.std.specs.Prelude.{◌≡◌, ◌≤◌, ◌+◌, ◌<◌, ◌^◌, ◌/◌, ◌%◌, ℕ, List, IfOk, IfSome, MatchOption, ⊤, length, get_or, nat_lt, option_map, true};
 ghost use Rattle.a429_slots.specs.Tables.{cell_at, cells_of, frame_of, outputs_of, output_in};
 ghost use Rattle.a429_slots.specs.FrameStates.{begun, next_cell, after_cell, fits_next, turned, due_of};
-ghost use Rattle.a429_slots.specs.Cached.{AreCached, IsForgotten, cached};
+ghost use Rattle.a429_slots.specs.Cached.{AreCached, IsCellOf, cached};
 
-use crate::group_plan::GroupPlan;
+use crate::group_plan::{GroupPlan, SlotPlace};
 use crate::outputs::OutputId;
 use crate::senders::{Due, Sender};
 use a429_equipment::OUTPUTS;
@@ -14,9 +14,12 @@ use std::marker::Model;
 /// How many cells the largest frame has: 8192 slots on each of 16 buses.
 const CELLS: usize = 131072;
 
-/// A `Sender`, and what was found in each cell of its slot table. Each cell has a byte: 0 if it was not looked up yet,
-/// 1 if it is empty, otherwise the output's number plus two. A plan with the same outputs in the same cells keeps these
-/// bytes; any other plan sets all to 0.
+/// The byte of an empty cell.
+const EMPTY: u8 = 0;
+
+/// A `Sender`, and the output of each cell of its frame. Each cell has a byte: 0 if it is empty, otherwise the output's
+/// number plus one. A plan with the same outputs in the same cells keeps these bytes; for any other plan they are
+/// written when its first frame begins. So a cell takes one read, however many outputs there are.
 #[derive(Drop)]
 pub struct CachedSender {
     sender: Sender,
@@ -34,71 +37,88 @@ impl Model for CachedSender {
     ghost invariant = { λ s. AreCached s.sender.table s.cells.items };
 }
 
-/// The output of a cell, or an empty cell, as a byte.
-fn byte_of(output: Option<OutputId>) -> u8
-    requires { IfSome output (λ o. o < 128) }
-    ensures { result ≡ cached output }
-{
-    match output {
-        Some(output) => output.number() as u8 + 2,
-        None => 1,
-    }
-}
-
-/// The output whose byte this is, if it is one's.
+/// The output whose byte this is; `None`: the byte of an empty cell.
 #[inline(always)]
 fn output_of(byte: u8) -> Option<OutputId>
-    requires { 1 ≤ byte }
     ensures { cached result ≡ byte }
 {
-    if byte == 1 {
+    if byte == EMPTY {
         None
     } else {
-        Some(OutputId::new(byte as usize - 2))
+        Some(OutputId::new(byte as usize - 1))
     }
 }
 
-/// The output in a cell of a slot table, which is looked up if it was not looked up before.
+/// The output in a cell of a slot table, whose cells are known.
 #[tactic(auto, using(crate::proofs::Cells::cell_known))]
 #[inline(always)]
-fn look_up(cells: &mut Vec<u8>, plan: &GroupPlan<OUTPUTS>, bus: u32, slot: u64) -> Option<OutputId>
-    requires { AreCached plan.now cells.old.items }
+fn look_up(cells: &Vec<u8>, plan: &GroupPlan<OUTPUTS>, bus: u32, slot: u64) -> Option<OutputId>
+    requires { AreCached plan.now cells.now.items }
     ensures cell { result ≡ cell_at plan.now bus slot }
     ensures known { IfSome result (λ output. output < length (outputs_of plan.now)) }
-    ensures cells { AreCached plan.now cells.new.items }
 {
-    if bus >= 16 || slot >= (cells.len() / 16) as u64 {
+    if bus >= 16 || slot >= u64::from(plan.frame()) {
         return plan.at(bus, slot);
     }
-    let place = slot as usize * 16 + bus as usize;
-    let mut byte = cells[place];
-    // the usual cell, by one test
-    if byte >= 2 {
-        return output_of(byte);
-    }
-    if byte == 0 {
-        prove!(plan.outputs() <= OUTPUTS);
-        byte = byte_of(plan.at(bus, slot));
-        cells[place] = byte;
-    }
-    output_of(byte)
+    output_of(cells[slot as usize * 16 + bus as usize])
 }
 
-/// This number of cells, of which nothing is known. Error: an allocation failed.
-#[tactic(auto, using(crate::proofs::Columns::zeros))]
-fn empty_cells(alloc: Global, many: usize) -> Result<Vec<u8>, AllocError>
-    ensures { IfOk result (λ cells. IsForgotten cells.items) }
+/// Makes the cells of these slots empty.
+fn clear(cells: &mut Vec<u8>, slots: usize)
+    requires many { length cells.old.items ≡ 131072 }
+    requires few { slots ≤ 8192 }
+    ensures many { length cells.new.items ≡ 131072 }
+    ensures empty { (i : ℕ) → i / 16 < slots → get_or cells.new.items i 0 ≡ 0 }
 {
-    vec![in alloc; 0; many]
+    for cell in 0..slots * 16 {
+        cells[cell] = EMPTY;
+    }
 }
 
-/// Forgets what is known of each cell.
-fn forget(cells: &mut Vec<u8>)
-    ensures { IsForgotten cells.new.items }
+/// Gives these cells a byte: those of one place, in this number of slots.
+fn mark(cells: &mut Vec<u8>, place: SlotPlace, slots: usize, byte: u8)
+    requires many { length cells.old.items ≡ 131072 }
+    requires few { slots ≤ 8192 }
+    requires bus { place.bus < 16 }
+    requires offset { place.offset < 2 ^ place.period }
+    requires period { 2 ^ place.period ≤ 8192 }
+    ensures many { length cells.new.items ≡ 131072 }
+    ensures marked { (i : ℕ) → i / 16 < slots → IsCellOf place (i % 16) (i / 16) → get_or cells.new.items i 0 ≡ byte }
+    ensures others { (i : ℕ) → (IsCellOf place (i % 16) (i / 16) → ⊥) → get_or cells.new.items i 0 ≡ get_or cells.old.items i 0 }
 {
-    for place in 0..cells.len() {
-        cells[place] = 0;
+    let period = place.period.slots() as usize;
+    let mut slot = place.offset as usize;
+    while slot < slots {
+        cells[slot * 16 + place.bus as usize] = byte;
+        slot += period;
     }
+}
+
+/// Writes the output of each cell of a slot table.
+fn fill(cells: &mut Vec<u8>, plan: &GroupPlan<OUTPUTS>)
+    requires many { length cells.old.items ≡ 131072 }
+    ensures { AreCached plan.now cells.new.items }
+{
+    let slots = plan.frame() as usize;
+    clear(cells, slots);
+    prove!(plan.buses() <= 16);
+    for number in 0..plan.outputs() {
+        mark(cells, plan.place(OutputId::new(number)), slots, number as u8 + 1);
+    }
+}
+
+/// Whether a frame by another table has the same outputs in the same cells.
+fn has_same_frame(plan: &GroupPlan<OUTPUTS>, newest: &GroupPlan<OUTPUTS>) -> bool
+    ensures { (cells : List ℕ) → result ≡ true → AreCached plan.now cells → AreCached newest.now cells }
+{
+    plan.frame() == newest.frame() && plan.has_cells_of(newest)
+}
+
+/// The cells of the largest frame, all empty. Error: an allocation failed.
+fn empty_cells(alloc: Global) -> Result<Vec<u8>, AllocError>
+    ensures { IfOk result (λ cells. length cells.items ≡ 131072) }
+{
+    vec![in alloc; EMPTY; CELLS]
 }
 
 impl CachedSender {
@@ -112,10 +132,25 @@ impl CachedSender {
         requires { first + frame_of plan < 2 ^ 64 }
         ensures { IfOk result (λ sender. sender ≡ begun first plan) }
     {
+        let mut cells = empty_cells(alloc)?;
+        fill(&mut cells, &plan);
         Ok(CachedSender {
             sender: Sender::open(plan, first),
-            cells: empty_cells(alloc, CELLS)?,
+            cells,
         })
+    }
+
+    /// Puts the group before the first cell of a frame that begins at this slot, by this plan. The call allocates no memory.
+    pub fn restart(&mut self, plan: &GroupPlan<OUTPUTS>, first: u64)
+        requires { first + frame_of plan.now < 2 ^ 64 }
+        ensures { self.new ≡ begun first plan.now }
+    {
+        let CachedSender { sender, cells } = self;
+        let same = has_same_frame(sender.plan(), plan);
+        *sender = Sender::open(*plan, first);
+        if !same {
+            fill(cells, plan);
+        }
     }
 
     /// How many cells a frame has: its slots on each bus, at most 16 times 8192.
@@ -142,14 +177,12 @@ impl CachedSender {
 
     /// The output of a bus in a slot of the frame; `None`: an empty cell.
     #[inline(always)]
-    pub fn output_in(&mut self, bus: u32, slot: u64) -> Option<Due>
-        ensures output { result ≡ option_map due_of (output_in self.old.table bus slot) }
+    pub fn output_in(&self, bus: u32, slot: u64) -> Option<Due>
+        ensures output { result ≡ option_map due_of (output_in self.now.table bus slot) }
         ensures some { IfSome result (λ due. 1 ≤ due.limits.spacing) }
-        ensures same { self.new ≡ self.old }
     {
-        let CachedSender { sender, cells } = self;
-        let output = look_up(cells, sender.plan(), bus, slot)?;
-        Some(sender.due(output))
+        let output = look_up(&self.cells, self.sender.plan(), bus, slot)?;
+        Some(self.sender.due(output))
     }
 
     /// The bus and the slot in the frame of the next cell, which then counts as sent; `None` if all cells of the frame
@@ -170,10 +203,10 @@ impl CachedSender {
         ensures after { self.new ≡ turned self.old newest.now }
     {
         let CachedSender { sender, cells } = self;
-        let same = sender.plan().has_cells_of(newest);
+        let same = has_same_frame(sender.plan(), newest);
         let turned = sender.turn(newest);
         if turned && !same {
-            forget(cells);
+            fill(cells, newest);
         }
         turned
     }

@@ -11,8 +11,8 @@ open-requires c = fits_at c.args.first (groups_of c.args.plan.now) c.loop-group.
 pub loop-group-preserved : goal.loop-group-preserved
 loop-group-preserved c =
     c.in_ok-push.ensures.items
-    ∙ (ap (λ (ss : List FrameState). ss ++ c.open.result ∷ []) c.loop-group.invariant
-    ∙ (ap (λ (s : FrameState). map (begun c.args.first) (take c.loop-group.group (groups_of c.args.plan.now)) ++ s ∷ []) c.open.ensures
+    ∙ (ap (λ (ss : List FrameState). ss ++ c.in_ok-sender.sender ∷ []) c.loop-group.invariant
+    ∙ (ap (λ (s : FrameState). map (begun c.args.first) (take c.loop-group.group (groups_of c.args.plan.now)) ++ s ∷ []) c.in_ok-sender.ensures
     ∙ sym (map_next c.args.first (groups_of c.args.plan.now) c.loop-group.group c.group.result.now c.group.ensures)))
 
 pub returns : goal.returns

@@ -41,8 +41,8 @@ invariant_of-self g c =
     ap (same_station old.equipment) (sym c.equipment-station.ensures.equipment) ∙ (sym c.same_station.ensures ∙ c.if-not-same_station.false) in
     let (limit, sources, tables, groups) = c.self.invariant in
     let many : length old.groups.items ≡ length q.station.groups = groups ∙ same_count old.equipment q.station agrees in
-    let renumbered : groups_of c.numbered.result ≡ groups_of q.plan =
-    ap (λ (p : PlanTable). groups_of p) c.numbered.ensures ∙ ap (λ (p : PlanTable). groups_of p) (c.deref-2.ensures ∙ c.into_parts-newest.ensures.plan) in
+    let renumbered : groups_of c.renumber.new.self ≡ groups_of q.plan =
+    ap (λ (p : PlanTable). groups_of p) c.renumber.ensures ∙ ap (λ (p : PlanTable). groups_of p) (c.deref_mut.ensures.value ∙ c.into_parts-newest.ensures.plan) in
     (limit, sources, many ∙ (sym own.count ∙ sym (ap length renumbered)), groups)
 
 pub returns-then-not-same_station-clause-answer : goal.returns-then-not-same_station-clause-answer
@@ -84,8 +84,8 @@ returns-clause-after g c =
     let more : c.self.inside.newest.value.number < 2 ^ 64 - 1 = omega (arith, number, c.if-last.false) in
     let is = when_same c.args.self.now _ c.args.proposal c.equipment-station.result.now c.self.view_is c.equipment-station.ensures.equipment (sym c.same_station.ensures ∙ c.if-not-same_station.false) more in
     let here = c.self.inside in
-    let plan : c.numbered.result ≡ record c.args.proposal.plan { number = here.newest.value.number + 1 } =
-    c.numbered.ensures ∙ ap (λ (p : PlanTable). record p { number = c.number-last.result + 1 }) (c.deref-2.ensures ∙ c.into_parts-newest.ensures.plan) ∙ ap (λ (n : ℕ). record c.args.proposal.plan { number = n + 1 }) number in
+    let plan : c.renumber.new.self ≡ record c.args.proposal.plan { number = here.newest.value.number + 1 } =
+    c.renumber.ensures ∙ ap (λ (p : PlanTable). record p { number = c.number-last.result + 1 }) (c.deref_mut.ensures.value ∙ c.into_parts-newest.ensures.plan) ∙ ap (λ (n : ℕ). record c.args.proposal.plan { number = n + 1 }) number in
     ap (λ (p : PlanTable). record { station = here.equipment; sources = here.sources.items; groups = here.groups.items; sends = here.sends.items; newest = p }) plan ∙ sym (ap (λ (p : Answer × MachineState). p.1) is)
 
 pub returns-clause-whole : goal.returns-clause-whole

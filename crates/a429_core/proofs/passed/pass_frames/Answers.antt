@@ -6,7 +6,7 @@ use Rattle.std.proofs.lemmas.Nat.{mod_below, mul-le}
 use Rattle.a429_slots.specs.FrameStates.{FrameState, after_cell}
 use Rattle.a429_slots.specs.Tables.{SlotTable, buses_of, cells_of, frame_of}
 use Rattle.a429_core.specs.Passed.{after_slots}
-use Rattle.a429_core.proofs.passed.sender_after.Goals as goal
+use Rattle.a429_core.proofs.passed.pass_frames.Goals as goal
 
 -- while cells are left, one more is sent
 one_more : (t : SlotTable) (first n : ℕ) (s u : FrameState) → s ≡ record { table = t; first = first; sent = n } → u ≡ after_cell s → n < cells_of t → u ≡ record { table = t; first = first; sent = n + 1 }

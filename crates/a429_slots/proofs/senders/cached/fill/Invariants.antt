@@ -1,0 +1,5 @@
+use Rattle.a429_slots.proofs.MarkedCells.{AreCachedBelow}
+use Rattle.a429_slots.proofs.senders.cached.fill.Given as goal
+
+abbrev pub invariant-loop-number : goal.invariant-loop-number
+invariant-loop-number l = AreCachedBelow l.fn.plan l.number l.cells.items
