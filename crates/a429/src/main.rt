@@ -22,7 +22,7 @@ fn main(rt: HostRuntime) -> ExitCode {
     let mut err = CountedWriter::new(rt.stderr());
     let disk = DiskFiles::new(&rt);
     let status = if is_shown {
-        let line = ProgressLine::new(rt.alloc(), rt.stderr());
+        let line = ProgressLine::new(rt.alloc(), &rt, rt.stderr());
         let mut files = ShownFiles::new(rt.alloc(), disk, &rt, rt.stderr());
         run_program(&rt, &rt, &HintLines, &mut files, &mut out, &mut err, &line)
     } else {

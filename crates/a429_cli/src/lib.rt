@@ -10,7 +10,7 @@
 //! let mut err = CountedWriter::new(rt.stderr());
 //! let disk = DiskFiles::new(&rt);
 //! ..
-//! let line = ProgressLine::new(rt.alloc(), rt.stderr());
+//! let line = ProgressLine::new(rt.alloc(), &rt, rt.stderr());
 //! let mut files = ShownFiles::new(rt.alloc(), disk, &rt, rt.stderr());
 //! run_program(&rt, &rt, &HintLines, &mut files, &mut out, &mut err, &line)
 //! ..

@@ -1,4 +1,4 @@
--- The line on a terminal that shows how much of what was read is done (profile: docs/FORMATS.md, Hints).
+-- The line on a terminal that shows how far the work is (profile: docs/FORMATS.md, Hints).
 use Rattle.std.specs.Prelude.{ℕ, ◌-◌, ◌*◌, ◌/◌, ◌==◌, ◌++◌, List, codes, if◌then◌else◌}
 use Rattle.std.specs.Fmt.{decimal}
 
@@ -10,8 +10,10 @@ share_of done all = if all == 0 then 0 else 100 * done / all
 abbrev pub left_of : ℕ → ℕ → ℕ → ℕ
 left_of done all spent = if done == 0 then 0 else spent * (all - done) / done / 1000
 
+-- the share that is done, and the time that is left
+abbrev pub rest_text : ℕ → ℕ → ℕ → List ℕ
+rest_text done all spent = decimal (share_of done all) ++ codes " %, " ++ decimal (left_of done all spent) ++ codes " s left"
+
 -- how many MiB of all are done after these milliseconds
 abbrev pub done_line : ℕ → ℕ → ℕ → List ℕ
-done_line done all spent =
-    decimal (done / 1048576) ++ codes " of " ++ decimal (all / 1048576) ++ codes " MiB, " ++ decimal (share_of done all) ++ codes " %, "
-    ++ decimal (left_of done all spent) ++ codes " s left"
+done_line done all spent = decimal (done / 1048576) ++ codes " of " ++ decimal (all / 1048576) ++ codes " MiB, " ++ rest_text done all spent

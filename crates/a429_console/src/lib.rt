@@ -3,7 +3,8 @@
 //! `replies` answers arguments that ask for no command. `files` gives the bytes of files, from the disk or from memory
 //! (`FileReader`). `output` takes bytes and counts what failed. `planning` reads
 //! and plans tables. `refusals` has the line of each refusal, and a refusal with what was read before (`Refused`). `answered`
-//! has what a command answered, and `reply` puts what one prints that has its whole answer first. `hints` writes lines on standard error. It is for commands: a program that embeds the
+//! has what a command answered, and `reply` puts what one prints that has its whole answer first. `hints` writes lines on
+//! standard error, and `terminal` one line that shows how far the work is. It is for commands: a program that embeds the
 //! libraries does not need it.
 //!
 //! ```text
@@ -19,3 +20,4 @@ pub mod planning;
 pub mod refusals;
 pub mod replies;
 pub mod reply;
+pub mod terminal;

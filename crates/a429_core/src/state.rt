@@ -80,7 +80,11 @@ fn frames_fit(plan: &Plan<OUTPUTS>, first: u64) -> bool
 }
 
 /// The groups before their first cells.
-fn senders_of(alloc: Global, plan: &Plan<OUTPUTS>, first: u64) -> Result<Vec<CachedSender>, AllocError>
+fn senders_of(
+    alloc: Global,
+    plan: &Plan<OUTPUTS>,
+    first: u64,
+) -> Result<Vec<CachedSender>, AllocError>
     requires { IsTrue (all_fit first (groups_of plan.now)) }
     ensures { IfOk result (λ senders. senders.items ≡ map (begun first) (groups_of plan.now)) }
 {

@@ -10,7 +10,7 @@ use Rattle.a429_equipment.specs.declared.rows.GroupRow.{GroupRow}
 use Rattle.a429_equipment.specs.declared.rows.OutputRow.{OutputRow}
 use Rattle.a429_equipment.specs.TableRecord.{TableRecord}
 use Rattle.a429_equipment.specs.Arrivals.{SourcesAreApart}
-use Rattle.a429_equipment.specs.Limits.{most_sends}
+use Rattle.a429_equipment.specs.Limits.{longest_interval, most_sends}
 use Rattle.a429_equipment.specs.NameForm.{is_name}
 
 -- 100000 bit/s, or 12000 to 14500 (ARINC 429 Part 1: low speed and high speed)
@@ -23,7 +23,7 @@ HasOneRate t = (rate : ℕ) × (t.rate ≡ Some rate) × AllByRecursion (λ g. g
 
 -- in microseconds
 abbrev pub IsInterval : OutputRow → Type 0
-IsInterval o = (1 ≤ o.min_us) × (o.min_us ≤ o.max_us) × (o.max_us ≤ 30000000)
+IsInterval o = (1 ≤ o.min_us) × (o.min_us ≤ o.max_us) × (o.max_us ≤ longest_interval)
 
 -- 1 to a million, if there is a hold (profile: equipment table, version 2)
 abbrev pub IsHold : OutputRow → Type 0

@@ -40,7 +40,9 @@ mod version;
 
 pub use arrivals::ArrivalRefusal;
 pub use equipment::Equipment;
-pub use limits::{COUNT_BITS, FRAMES, GROUPS, HOLD, OUTPUTS, RECEIVERS, SOURCES, WORDS};
+pub use limits::{
+    COUNT_BITS, FRAMES, GROUPS, HOLD, LONGEST_INTERVAL, OUTPUTS, RECEIVERS, SOURCES, WORDS,
+};
 pub use loads::Load;
 pub use names::Name;
 pub use rows::{GroupRow, OutputRow, ReceiverRow, SourceRow, StationRows};

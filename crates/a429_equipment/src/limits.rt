@@ -22,5 +22,8 @@ pub const WORDS: u64 = 1000000;
 /// The maximum number of frames that a group sends in one run on threads.
 pub const FRAMES: u32 = 1000000;
 
+/// The longest interval of an output, in microseconds.
+pub const LONGEST_INTERVAL: u32 = 30000000;
+
 /// The maximum value of `hold`, the number of times that one accepted word may be sent.
 pub const HOLD: u32 = 1000000;

@@ -7,7 +7,7 @@ use crate::nearest::Nearest;
 use crate::rows::{TableRow, rows_at, say_found, say_row, short_text, text_at};
 use crate::twins::twin_of;
 use crate::words::say_meant_filter;
-use a429_equipment::TableVersion;
+use a429_equipment::{LONGEST_INTERVAL, TableVersion};
 use a429_filter::Filter;
 use a429_table::{
     Column, FaultKind, RefusedTable, Shape, TablePlace, columns_of, places_of, version_of,
@@ -149,7 +149,7 @@ fn tell_interval(row: &TableRow, hint: &HintText) {
             min_us,
         );
     }
-    if max_us > 30000000 {
+    if max_us > i64::from(LONGEST_INTERVAL) {
         begin_row(row, hint);
         hint.end_one(
             ": `max_us` is {}; it must be an integer from min_us to 30000000 (microseconds)",

@@ -4,7 +4,7 @@ use crate::column_forms::form_in;
 use crate::faults::SAME_SOURCE;
 use crate::file_rows::{FileField, FileRows, tell_field};
 use crate::hint::HintText;
-use a429_equipment::{GROUPS, OUTPUTS, RECEIVERS, SOURCES};
+use a429_equipment::{GROUPS, LONGEST_INTERVAL, OUTPUTS, RECEIVERS, SOURCES};
 use a429_filter::FILTERS;
 use a429_import::{CsvLine, ImportColumn};
 use a429_table::{FaultKind, TablePlace};
@@ -70,7 +70,7 @@ fn tell_interval<'a>(file: FileRows<'a>, row: &'a CsvLine, hint: &HintText) {
     if min_us < 1 {
         tell_column(file, row, ImportColumn::MinUs, hint);
     }
-    if max_us > 30000000 {
+    if max_us > LONGEST_INTERVAL {
         tell_column(file, row, ImportColumn::MaxUs, hint);
     }
     if min_us > max_us {

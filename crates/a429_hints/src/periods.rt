@@ -1,6 +1,7 @@
 //! Hints about transmit intervals without a grid period.
 
 use crate::hint::HintText;
+use a429_equipment::LONGEST_INTERVAL;
 use a429_grid::{SLOT_TIME, grid_period};
 
 /// The periods of the grid, in slots (profile).
@@ -55,7 +56,7 @@ fn tell_millis(interval: Interval, hint: &HintText) {
     } = interval;
     let (min_us, max_us) = (min_us.saturating_mul(1000), max_us.saturating_mul(1000));
     match grid_period(min_us, max_us, rate) {
-        Some(period) if max_us <= 30000000 => {
+        Some(period) if max_us <= LONGEST_INTERVAL => {
             let form = "if these are milliseconds: min_us = {}, max_us = {} would have period {}";
             hint.line_three(form, min_us, max_us, period.slots());
         }

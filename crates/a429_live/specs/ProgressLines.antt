@@ -1,7 +1,10 @@
--- The line on a terminal that shows the progress of a run (profile: docs/FORMATS.md, Output of `live`).
-use Rattle.std.specs.Prelude.{ℕ, List, ◌++◌, codes}
+-- The line on a terminal that shows the progress of a run (profile: docs/FORMATS.md, Hints).
+use Rattle.std.specs.Prelude.{ℕ, List, ◌++◌, codes, min}
 use Rattle.std.specs.Fmt.{decimal}
+use Rattle.a429_console.specs.Shown.{rest_text}
 
--- the cells that were sent, of how many, and the words that were accepted
-abbrev pub progress_line : ℕ → ℕ → ℕ → List ℕ
-progress_line cells all words = codes "cells sent " ++ decimal cells ++ codes " of " ++ decimal all ++ codes ", words accepted " ++ decimal words
+-- the cells that were sent, of how many, and the words that were accepted, after these milliseconds
+abbrev pub progress_line : ℕ → ℕ → ℕ → ℕ → List ℕ
+progress_line cells all words spent =
+    codes "cells sent " ++ decimal cells ++ codes " of " ++ decimal all ++ codes ", words accepted " ++ decimal words ++ codes ", "
+    ++ rest_text (min cells all) all spent

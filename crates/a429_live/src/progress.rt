@@ -2,19 +2,18 @@
 ghost use Rattle.a429_word.specs.Written.{Gains};
 ghost use Rattle.a429_live.specs.ProgressLines.{progress_line};
 
+use a429_console::terminal::{TerminalLine, push_rest};
 use a429_slots::{OUTPUTS, Plan};
 use a429_values::Accept;
 use a429_workers::{Gate, GateFault, Point, ReceiveTotals};
 use std::alloc::Global;
 use std::io;
 use std::io::Write;
+use std::rt::Clock;
 use std::sync::atomic::{AtomicU64, Ordering};
 
 /// The number of cells of a group, or of accepted words of a receiver, that are reported together.
 const STRIDE: u64 = 4096;
-
-/// The number of cells of all groups that are sent between two lines on a terminal.
-const SHOWN: u64 = 1 << 22;
 
 /// What gets the progress of a run from its threads. Nothing that it does changes what the run answers.
 pub trait Progress {
@@ -45,61 +44,61 @@ impl Progress for NoProgress {
     fn end(&self) {}
 }
 
-/// Shows on a terminal how many cells of all were sent, and how many words were accepted: one line, which is written
-/// again while the run goes on, and is wiped at its end. If the terminal or an allocation fails, nothing is shown.
+/// Shows on a terminal how many cells of all were sent, and how many words were accepted: one line, which comes after a
+/// second, is written again while the run goes on, and is wiped at its end. If the clock, the terminal or an allocation
+/// fails, nothing is shown.
 #[derive(Drop)]
-pub struct ProgressLine<W> {
-    alloc: Global,
-    terminal: W,
+pub struct ProgressLine<'a, C, W> {
+    line: TerminalLine<'a, C, W>,
     all: AtomicU64,
     cells: AtomicU64,
     words: AtomicU64,
 }
 
 /// Appends the line's text. Error: an allocation fails.
-fn push_line(text: &mut Vec<u8>, cells: u64, all: u64, words: u64) -> io::Result<()>
-    ensures { Gains result text.old.items text.new.items (progress_line cells all words) }
+fn push_line(text: &mut Vec<u8>, cells: u64, all: u64, words: u64, spent: u32) -> io::Result<()>
+    ensures { Gains result text.old.items text.new.items (progress_line cells all words spent) }
 {
-    write!(text, "cells sent {cells} of {all}, words accepted {words}")
+    write!(
+        text,
+        "cells sent {cells} of {all}, words accepted {words}, "
+    )?;
+    push_rest(text, cells.min(all), all, spent)
 }
 
-impl<W: Write + Copy> ProgressLine<W> {
+impl<'a, C: Clock, W: Write + Copy> ProgressLine<'a, C, W> {
     /// A progress line with all counters at 0.
-    pub fn new(alloc: Global, terminal: W) -> ProgressLine<W> {
+    pub fn new(alloc: Global, clock: &'a C, terminal: W) -> ProgressLine<'a, C, W> {
         ProgressLine {
-            alloc,
-            terminal,
+            line: TerminalLine::new(alloc, clock, terminal),
             all: AtomicU64::new(0),
             cells: AtomicU64::new(0),
             words: AtomicU64::new(0),
         }
     }
 
-    /// Writes the line over the one before, in one piece.
-    fn show(&self, cells: u64) -> io::Result<()> {
+    /// Writes the line.
+    fn show(&self, cells: u64, spent: u32) -> io::Result<()> {
         let (all, words) = (
             self.all.load(Ordering::Relaxed),
             self.words.load(Ordering::Relaxed),
         );
-        let mut text = Vec::new(self.alloc);
-        text.push(b'\r')?;
-        push_line(&mut text, cells, all, words)?;
-        let mut terminal = self.terminal;
-        terminal.write_all(&text)
+        let mut text = self.line.start()?;
+        push_line(&mut text, cells, all, words, spent)?;
+        self.line.write(text)
     }
 }
 
-impl<W: Write + Copy> Progress for ProgressLine<W> {
+impl<C: Clock, W: Write + Copy> Progress for ProgressLine<'_, C, W> {
     fn begin(&self, cells: u64) {
         self.all.store(cells, Ordering::Relaxed);
-        let _ = self.show(0);
+        self.line.begin();
     }
 
     fn tell_sent(&self, cells: u64) {
         let before = self.cells.fetch_add(cells, Ordering::Relaxed);
-        let now = before.wrapping_add(cells);
-        if before / SHOWN != now / SHOWN {
-            let _ = self.show(now);
+        if let Some(spent) = self.line.due() {
+            let _ = self.show(before.wrapping_add(cells), spent);
         }
     }
 
@@ -108,8 +107,7 @@ impl<W: Write + Copy> Progress for ProgressLine<W> {
     }
 
     fn end(&self) {
-        let mut terminal = self.terminal;
-        let _ = terminal.write_all(b"\r\x1b[K");
+        self.line.end();
     }
 }
 

@@ -36,33 +36,6 @@ impl Write for Screen<'_> {
     }
 }
 
-/// Whether the line is written when the run begins, and again when half of the cells are sent.
-fn is_written_now_and_then(line: &impl Progress, screen: &Screen<'_>) -> bool {
-    line.begin(8388608);
-    // "\rcells sent 0 of 8388608, words accepted 0"
-    let has_begun = screen.shows(1, 42);
-    line.tell_accepted(4096);
-    line.tell_sent(4194303);
-    let is_left = screen.shows(1, 42);
-    line.tell_sent(1);
-    // "\rcells sent 4194304 of 8388608, words accepted 4096"
-    has_begun && is_left && screen.shows(2, 93)
-}
-
-#[test]
-fn a_line_is_written_at_the_beginning_now_and_then_and_wiped(rt: HostRuntime) {
-    let (pieces, bytes) = (AtomicU64::new(0), AtomicU64::new(0));
-    let screen = Screen {
-        pieces: &pieces,
-        bytes: &bytes,
-    };
-    let line = ProgressLine::new(rt.alloc(), screen);
-    let is_written = is_written_now_and_then(&line, &screen);
-    line.end();
-    drop(line);
-    assert!(rt; is_written && screen.shows(3, 97));
-}
-
 /// A clock that a test sets, in milliseconds.
 #[derive(Drop)]
 struct SetClock {
@@ -77,6 +50,44 @@ impl Clock for SetClock {
     fn since_1970(&self) -> io::Result<Duration> {
         self.monotonic()
     }
+}
+
+/// Whether nothing is shown for a second, then a line, and the next one after 200 ms.
+fn is_run_shown(line: &impl Progress, clock: &SetClock, screen: &Screen<'_>) -> bool {
+    clock.millis.store(5000, Ordering::SeqCst);
+    line.begin(8192);
+    line.tell_accepted(4096);
+    clock.millis.store(5999, Ordering::SeqCst);
+    line.tell_sent(1024);
+    let is_silent = screen.shows(0, 0);
+    clock.millis.store(6000, Ordering::SeqCst);
+    line.tell_sent(1024);
+    // "\rcells sent 2048 of 8192, words accepted 4096, 25 %, 3 s left\x1b[K"
+    let is_shown = screen.shows(1, 64);
+    clock.millis.store(6199, Ordering::SeqCst);
+    line.tell_sent(2048);
+    let is_kept = screen.shows(1, 64);
+    clock.millis.store(6200, Ordering::SeqCst);
+    line.tell_sent(4096);
+    // "\rcells sent 8192 of 8192, words accepted 4096, 100 %, 0 s left\x1b[K"
+    is_silent && is_shown && is_kept && screen.shows(2, 129)
+}
+
+#[test]
+fn a_run_is_shown_after_a_second_and_wiped(rt: HostRuntime) {
+    let (pieces, bytes) = (AtomicU64::new(0), AtomicU64::new(0));
+    let screen = Screen {
+        pieces: &pieces,
+        bytes: &bytes,
+    };
+    let clock = SetClock {
+        millis: AtomicU64::new(0),
+    };
+    let line = ProgressLine::new(rt.alloc(), &clock, screen);
+    let is_shown = is_run_shown(&line, &clock, &screen);
+    line.end();
+    drop(line);
+    assert!(rt; is_shown && screen.shows(3, 133));
 }
 
 /// Whether nothing is shown for a second, then a line, and the next one after 200 ms.

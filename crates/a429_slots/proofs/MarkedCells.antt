@@ -44,8 +44,8 @@ pub all_cached : (t : SlotTable) (k : ℕ) (cells : List ℕ) → length t.outpu
 all_cached t k cells all kept = record {
   many = kept.many;
   each = λ i inside.
-    kept.each i inside
-    ∙ ap cached (all_below k (cell_at t (i % 16) (i / 16)) (λ o is. let known = cell_known t (i % 16) (i / 16) o is in omega (arith, known, all)));
+      kept.each i inside
+      ∙ ap cached (all_below k (cell_at t (i % 16) (i / 16)) (λ o is. let known = cell_known t (i % 16) (i / 16) o is in omega (arith, known, all)));
 }
 
 same_below : (k o : ℕ) → (o ≡ k → ⊥) → below k (Some o) ≡ below (k + 1) (Some o)
@@ -72,7 +72,7 @@ pub more_cached : (t : SlotTable) (k : ℕ) (p : SlotPlace) (xs ys : List ℕ) �
 more_cached t k p xs ys stands many marked others kept = record {
   many = many;
   each = λ i inside.
-    one_more k (get_or ys i 0) (get_or xs i 0) (cell_at t (i % 16) (i / 16))
+      one_more k (get_or ys i 0) (get_or xs i 0) (cell_at t (i % 16) (i / 16))
       (λ there. marked i inside ((stands.cells (i % 16) (i / 16)).0 there))
       (λ nowhere. others i (λ here. nowhere ((stands.cells (i % 16) (i / 16)).1 here)))
       (kept.each i inside);

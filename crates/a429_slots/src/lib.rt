@@ -50,7 +50,7 @@ pub use outputs::OutputId;
 pub use planner::{PlanFault, demands_of, plan};
 pub use plans::Plan;
 pub use proposals::{NoProposal, Proposal};
-pub use senders::cached::CachedSender;
 pub use senders::Due;
+pub use senders::cached::CachedSender;
 pub use sends::LastSend;
 pub use times::{latency_us, slots_us};

@@ -17,7 +17,7 @@ use Rattle.a429_table.specs.Columns.{Column, columns}
 use Rattle.a429_table.specs.Tree.{elements, keys_of, is_table, text_of, text_at, integer_at, get_integer, rows_at}
 use Rattle.a429_table.specs.Version.{version_of}
 use Rattle.a429_table.specs.Walk.{Stop, walk, earlier}
-use Rattle.a429_equipment.specs.Limits.{most_sends}
+use Rattle.a429_equipment.specs.Limits.{longest_interval, most_sends}
 use Rattle.a429_equipment.specs.NameForm.{is_name}
 use Rattle.a429_word.specs.Texts.{label_value}
 use Rattle.a429_filter.specs.FilterTexts.{is_filter}
@@ -123,9 +123,9 @@ unfoldable pub has_bad_sdi : TablePlace → Data → Bool
 has_bad_sdi (Source i) d = not (is_sdi (get (codes "sdi") d))
 has_bad_sdi _ d = false
 
--- both within 1 to 30000000, and the minimum not above the maximum
+-- both within 1 to the longest interval, and the minimum not above the maximum
 abbrev pub is_interval : ℤ → ℤ → Bool
-is_interval least most = (is_within 1 30000000 least && is_within 1 30000000 most) && int_le least most
+is_interval least most = (is_within 1 longest_interval least && is_within 1 longest_interval most) && int_le least most
 
 unfoldable pub has_bad_interval : TablePlace → Data → Bool
 has_bad_interval (Output i j) d = not (is_interval (integer_at (codes "min_us") d) (integer_at (codes "max_us") d))

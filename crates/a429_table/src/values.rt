@@ -12,7 +12,7 @@ ghost use Rattle.a429_table.specs.Faults.{is_sdi, is_within, is_rate, is_interva
 use crate::fault::TablePlace;
 use crate::tree::{get_integer, integer_at, rows_at, text_at, text_of};
 use crate::walk::Stop;
-use a429_equipment::{GROUPS, HOLD, OUTPUTS, RECEIVERS, SOURCES, TableVersion};
+use a429_equipment::{GROUPS, HOLD, LONGEST_INTERVAL, OUTPUTS, RECEIVERS, SOURCES, TableVersion};
 use a429_filter::{FILTERS, Filter};
 use a429_word::Label;
 use toml::Value;
@@ -145,7 +145,7 @@ pub fn has_bad_sdi(stop: &Stop) -> bool
 fn is_interval(least: i64, most: i64) -> bool
     ensures { result ≡ is_interval least most }
 {
-    is_within(1, 30000000, least) && is_within(1, 30000000, most) && least <= most
+    is_within(1, LONGEST_INTERVAL, least) && is_within(1, LONGEST_INTERVAL, most) && least <= most
 }
 
 /// Whether the interval of an output is wrong: a bound is not 1 to 30,000,000 µs, or its minimum is above its maximum.

@@ -103,7 +103,12 @@ fn fill(cells: &mut Vec<u8>, plan: &GroupPlan<OUTPUTS>)
     clear(cells, slots);
     prove!(plan.buses() <= 16);
     for number in 0..plan.outputs() {
-        mark(cells, plan.place(OutputId::new(number)), slots, number as u8 + 1);
+        mark(
+            cells,
+            plan.place(OutputId::new(number)),
+            slots,
+            number as u8 + 1,
+        );
     }
 }
 

@@ -15,6 +15,6 @@ loop-slot-preserved c =
       period = kept.period;
       on = ap (λ n. (slot + n) % 2 ^ p.period) kept.period ∙ next_on slot (2 ^ p.period) p.offset kept.on;
       marked = λ i before here.
-        marked_next p slot c.args.byte xs kept.on there kept.marked i (omega (arith, before, kept.period)) here;
+          marked_next p slot c.args.byte xs kept.on there kept.marked i (omega (arith, before, kept.period)) here;
       others = λ i other. others_stay p slot c.args.byte xs kept.on c.requires.bus i other ∙ kept.others i other;
     }
