@@ -186,5 +186,5 @@ fn publish(
     let Ok(tables) = slot_tables_of(alloc, proposal.plan()) else {
         return Err(TableRefusal::Call(Status::Memory));
     };
-    Ok(plan_of(machine.publish(proposal, tables)))
+    Ok(plan_of(machine.publish(&proposal, tables)))
 }

@@ -73,13 +73,13 @@ impl Machine {
     /// A newer plan is proposed, for all groups, with these slot tables.
     pub(crate) fn publish(
         &mut self,
-        proposal: Proposal<OUTPUTS>,
+        proposal: &Proposal<OUTPUTS>,
         tables: Vec<GroupPlan<OUTPUTS>>,
     ) -> Answer
-        requires { tables.items ≡ groups_of proposal.plan }
-        ensures answer { result ≡ (publish_asked self.old.state proposal).0 }
-        ensures after { self.new ≡ with_state self.old (publish_asked self.old.state proposal).1 }
-        ensures whole { HasTableForEach proposal }
+        requires { tables.items ≡ groups_of proposal.now.plan }
+        ensures answer { result ≡ (publish_asked self.old.state proposal.now).0 }
+        ensures after { self.new ≡ with_state self.old (publish_asked self.old.state proposal.now).1 }
+        ensures whole { HasTableForEach proposal.now }
     {
         let answer = self.state.publish(proposal);
         if let Answer::Published { .. } = answer {

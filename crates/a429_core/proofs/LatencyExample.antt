@@ -9,11 +9,9 @@ use Rattle.a429_word.specs.Bits.{ones_from, number_from, reversed_from}
 use Rattle.a429_equipment.specs.Arrivals.{SourcesAreApart}
 use Rattle.a429_equipment.specs.Sound.{HaveOwnSources}
 use Rattle.a429_equipment.specs.declared.rows.OutputRow.{OutputRow}
-use Rattle.a429_slots.specs.Tables.{Placed, buses_of, cell_at, demands_of, outputs_of, placed_at}
-use Rattle.a429_slots.specs.Kept.{BeginsAt, StandsJustAt}
-use Rattle.a429_grid.specs.Reversal.{reversed}
+use Rattle.a429_slots.specs.Tables.{Placed, buses_of, cell_at, outputs_of, placed_at}
+use Rattle.a429_slots.specs.Kept.{StandsJustAt}
 use Rattle.a429_pack.specs.Schedules.{RecursWithin, Schedule}
-use Rattle.a429_pack.specs.Sums.{start_of}
 use Rattle.a429_slots.specs.Planned.{AreFewestBusesFor, HasPeriod, IsPlannedFor}
 use Rattle.a429_slots.specs.Proposed.{Proposed}
 use Rattle.a429_slots.specs.Events.{Event, Arrive, Cell, Frame, Publish}

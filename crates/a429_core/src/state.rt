@@ -278,10 +278,10 @@ impl<const C: u32> State<C> {
 
     /// A newer plan is proposed, for all groups. If it is of the same station it is the newest from now on. Refusals:
     /// `StationDiffers`; `CountSpent` if the newest plan has the last number of 64 bits.
-    pub fn publish(&mut self, proposal: Proposal<OUTPUTS>) -> Answer
-        ensures answer { result ≡ (publish_asked self.old proposal).0 }
-        ensures after { self.new ≡ (publish_asked self.old proposal).1 }
-        ensures whole { HasTableForEach proposal }
+    pub fn publish(&mut self, proposal: &Proposal<OUTPUTS>) -> Answer
+        ensures answer { result ≡ (publish_asked self.old proposal.now).0 }
+        ensures after { self.new ≡ (publish_asked self.old proposal.now).1 }
+        ensures whole { HasTableForEach proposal.now }
     {
         let station = proposal.equipment();
         if !self.equipment.same_station(station) {
@@ -291,9 +291,7 @@ impl<const C: u32> State<C> {
         if last == u64::MAX {
             return Answer::Refused(Refusal::CountSpent);
         }
-        let (_, mut newest) = proposal.into_parts();
-        newest.renumber(last + 1);
-        self.newest = newest;
+        self.newest.take_tables(proposal.plan(), last + 1);
         Answer::Published { plan: last + 1 }
     }
 
@@ -306,7 +304,7 @@ impl<const C: u32> State<C> {
             Event::Arrive { receiver, raw } => self.arrive(receiver, raw),
             Event::Cell { group } => self.cell(group),
             Event::Frame { group } => self.frame(group),
-            Event::Publish { proposal } => self.publish(proposal),
+            Event::Publish { proposal } => self.publish(&proposal),
         }
     }
 

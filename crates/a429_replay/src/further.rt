@@ -16,7 +16,8 @@ use a429_console::hints::warnings::{FurtherCause, Warning};
 use a429_console::planning::propose;
 use a429_console::refusals::evidence::TableEvidence;
 use a429_console::refusals::{CommandRefusal, Refused};
-use a429_core::{Event, StationState};
+use a429_core::StationState;
+use a429_core::laws::calls_are_answered;
 use a429_equipment::Equipment;
 use a429_slots::laws::plans_are_unique;
 use a429_slots::{OUTPUTS, Proposal};
@@ -112,7 +113,7 @@ impl FurtherTable {
         ensures same { self.new ≡ self.old }
     {
         let planned = planned_or_propose(alloc, self.planned.take(), &self.bytes);
-        let played = publish_or_refuse(alloc, state, view, names, &planned, lines);
+        let played = publish_or_refuse(state, view, names, &planned, lines);
         self.planned = Some(planned);
         played
     }
@@ -140,7 +141,6 @@ impl FurtherTable {
 /// Publishes the plan of a table that has one, and appends the line of the answer; otherwise the line of the refusal. If an
 /// allocation fails, nothing is appended.
 fn publish_or_refuse(
-    alloc: Global,
     state: &mut StationState,
     view: View,
     names: &Names,
@@ -152,7 +152,7 @@ fn publish_or_refuse(
     ensures kept { OnErr result (lines.new.text.items ≡ lines.old.text.items) }
 {
     match proposal {
-        Ok(proposal) => publish_plan(alloc, state, view, names, proposal, lines),
+        Ok(proposal) => publish_plan(state, view, names, proposal, lines),
         Err(refusal) => refuse_table(view, refusal, lines),
     }
 }
@@ -172,7 +172,6 @@ fn refuse_table(view: View, refusal: &Refused, lines: &mut Pending) -> Result<()
 
 /// Publishes the plan of a proposal, and appends the line of the answer. If an allocation fails, nothing is appended.
 fn publish_plan(
-    alloc: Global,
     state: &mut StationState,
     view: View,
     names: &Names,
@@ -183,13 +182,9 @@ fn publish_plan(
         state.old state.new lines.old.text.items lines.new.text.items) }
     ensures kept { OnErr result (lines.new.text.items ≡ lines.old.text.items) }
 {
-    let Ok(proposal) = proposal.copied(alloc) else {
-        return Err(AllocError);
-    };
-    match state.step(Event::Publish { proposal }) {
-        Ok(answer) => lines.push_answer(view, names, ScriptEvent::Publish(1), answer),
-        Err(error) => Err(error),
-    }
+    calls_are_answered();
+    let answer = state.publish(proposal);
+    lines.push_answer(view, names, ScriptEvent::Publish(1), answer)
 }
 
 /// Why a station does not take the plan of a table, for a hint. `None` if the station takes it, or if an allocation fails.

@@ -106,10 +106,11 @@ impl<const N: usize> Plan<N> {
         Plan { number, ..self }
     }
 
-    /// Gives the plan this number, where it is.
-    pub fn renumber(&mut self, number: u64)
-        ensures { self.new ≡ record self.old { number = number } }
+    /// Takes the slot tables of another plan, under this number.
+    pub fn take_tables(&mut self, plan: &Plan<N>, number: u64)
+        ensures { self.new ≡ record plan.now { number = number } }
     {
+        *self = *plan;
         self.number = number;
     }
 
