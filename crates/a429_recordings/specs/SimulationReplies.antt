@@ -34,7 +34,7 @@ use Rattle.a429_recordings.specs.declared.simulate.SimulationForm.{SimulationFor
 use Rattle.a429_recordings.specs.declared.simulate.SimulationInput.{SimulationInput}
 use Rattle.a429_recordings.specs.declared.simulate.lines.LineStyle.{LineStyle}
 use Rattle.a429_recordings.specs.declared.simulate.lines.LineStyle.TheVariants as style
-use Rattle.a429_recordings.specs.declared.simulate.lines.Setting.{Setting}
+use Rattle.a429_recordings.specs.declared.simulate.lines.LineWriter.{LineWriter}
 use Rattle.a429_recordings.specs.declared.simulate.log.LogWord.{LogWord}
 use Rattle.a429_recordings.specs.declared.simulate.machine.Happening.{Happening}
 use Rattle.a429_recordings.specs.declared.simulate.moments.Moment.{Moment}
@@ -184,16 +184,16 @@ IsSimulationReading file r result =
     (OrMemory (IsUnreadFile file (named_table r) (r.second ∷ r.more)))
 
 -- a station of a table, with its names
-abbrev pub IsSettingOf : TableTexts → LineStyle → Setting → Type 0
-IsSettingOf table style s = IsGivenPlan table s.proposal × HasStationNames s.names s.proposal × (s.style ≡ style)
+abbrev pub IsWriterOf : TableTexts → LineStyle → LineWriter → Type 0
+IsWriterOf table style s = IsGivenPlan table s.proposal × HasStationNames s.names s.proposal × (s.style ≡ style)
 
 -- a beginning with the words of the logs
-abbrev pub BeginsLog : Setting → SimulationFiles → SimulationForm → Player → Type 0
+abbrev pub BeginsLog : LineWriter → SimulationFiles → SimulationForm → Player → Type 0
 BeginsLog s i form p =
     (words : List LogWord) × (log_words s.names i.view form.reading i.logs ≡ Ok words) × IsBegin s.proposal words (end_of s.proposal words form.until) p
 
 -- why there is none: the log, or that a group would send too much
-abbrev pub BeginsNoLog : Setting → SimulationFiles → SimulationForm → CommandRefusal → Type 0
+abbrev pub BeginsNoLog : LineWriter → SimulationFiles → SimulationForm → CommandRefusal → Type 0
 BeginsNoLog s i form refusal =
     IsLogFault s.names i.view form.reading i.logs refusal
     ⊎ ((words : List LogWord) × (log_words s.names i.view form.reading i.logs ≡ Ok words) × (refusal ≡ refused.TooMuch)
@@ -201,15 +201,15 @@ BeginsNoLog s i form refusal =
 
 -- it has the names of its station, and can be played
 pub record SimulationIsReady (s : Simulation) : Type 0 where
-  pub names : HasStationNames s.setting.names s.setting.proposal
-  pub playable : CanBePlayed s.setting.proposal s.player
+  pub names : HasStationNames s.writer.names s.writer.proposal
+  pub playable : CanBePlayed s.writer.proposal s.player
 
 -- what these bytes simulate, at its begin
 pub record IsPreparedFor (i : SimulationFiles) (form : SimulationForm) (s : Simulation) : Type 0 where
   pub words : List LogWord
-  pub simulated : IsSimulated i form.reading s.setting.proposal words
-  pub style : s.setting.style ≡ form.style
-  pub begin : HasPlayed s.setting.proposal words (end_of s.setting.proposal words form.until) [] s.player
+  pub simulated : IsSimulated i form.reading s.writer.proposal words
+  pub style : s.writer.style ≡ form.style
+  pub begin : HasPlayed s.writer.proposal words (end_of s.writer.proposal words form.until) [] s.player
   pub ready : SimulationIsReady s
 
 -- or why there is none
@@ -232,21 +232,21 @@ PutsLines contents q style player out out' text text' result =
 -- the lines of a simulation that begins so were put, or that an allocation failed before that
 abbrev pub HasPrintedLines : {E : Type 0} → Simulation → Option (List ℕ) → Option (List ℕ) → Result ℕ E → Type 0
 HasPrintedLines s old new result =
-    (words : List LogWord) (last : ℕ) → HasPlayed s.setting.proposal words last [] s.player
-    → IfOk result (λ status. IsPut (OrNoMemory (IsPrinting s.setting.proposal words last s.setting.style)) old new status)
+    (words : List LogWord) (last : ℕ) → HasPlayed s.writer.proposal words last [] s.player
+    → IfOk result (λ status. IsPut (OrNoMemory (IsPrinting s.writer.proposal words last s.writer.style)) old new status)
 
 -- the summary of a simulation that begins so was put in a form, or that an allocation failed before that
 abbrev pub HasPrintedSummary : {E : Type 0} → Simulation → SheetForm → Option (List ℕ) → Option (List ℕ) → Result ℕ E → Type 0
 HasPrintedSummary s form old new result =
-    (words : List LogWord) (last : ℕ) → HasPlayed s.setting.proposal words last [] s.player
-    → IfOk result (λ status. IsPut (OrNoMemory (IsSummary s.setting.proposal words last form)) old new status)
+    (words : List LogWord) (last : ℕ) → HasPlayed s.writer.proposal words last [] s.player
+    → IfOk result (λ status. IsPut (OrNoMemory (IsSummary s.writer.proposal words last form)) old new status)
 
 -- what it prints was put, or that an allocation failed before that
 abbrev pub HasPrinted : {E : Type 0} → Simulation → SimulationForm → Option (List ℕ) → Option (List ℕ) → Result ℕ E → Type 0
 HasPrinted s form old new result =
-    (words : List LogWord) (last : ℕ) → HasPlayed s.setting.proposal words last [] s.player
-    → IfOk result (λ status. IsPut (OrNoMemory (IsWritten s.setting.proposal words last form.summary form.style form.form)) old new status)
+    (words : List LogWord) (last : ℕ) → HasPlayed s.writer.proposal words last [] s.player
+    → IfOk result (λ status. IsPut (OrNoMemory (IsWritten s.writer.proposal words last form.summary form.style form.form)) old new status)
 
 -- the text is the summary of a simulation that begins so, in a form
-abbrev pub HasSummary : Setting → Player → SheetForm → List ℕ → Type 0
+abbrev pub HasSummary : LineWriter → Player → SheetForm → List ℕ → Type 0
 HasSummary s player form text = (words : List LogWord) (last : ℕ) → HasPlayed s.proposal words last [] player → IsSummary s.proposal words last form 0 text

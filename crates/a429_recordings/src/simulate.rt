@@ -10,7 +10,7 @@ ghost use Rattle.a429_given.specs.GivenTables.{table_texts};
 ghost use Rattle.a429_recordings.specs.CellLines.{IsBeginOfSlot};
 ghost use Rattle.a429_recordings.specs.CloseWords.{AreSpaced};
 ghost use Rattle.a429_recordings.specs.LogItems.{PassesNone};
-ghost use Rattle.a429_recordings.specs.SimulationReplies.{BeginsLog, BeginsNoLog, HasPrinted, HasPrintedLines, HasPrintedSummary, HasSummary, IsAskedSimulation, IsPreparing, IsSettingOf, IsSimulationReading, PassesNoAskedLine, PutsLines, SimulatesAskedSpacedWords, SimulationIsReady, files_of, line_style};
+ghost use Rattle.a429_recordings.specs.SimulationReplies.{BeginsLog, BeginsNoLog, HasPrinted, HasPrintedLines, HasPrintedSummary, HasSummary, IsAskedSimulation, IsPreparing, IsWriterOf, IsSimulationReading, PassesNoAskedLine, PutsLines, SimulatesAskedSpacedWords, SimulationIsReady, files_of, line_style};
 ghost use Rattle.a429_recordings.specs.SimulationRuns.{CanBePlayed, HasStationNames};
 
 mod close;
@@ -28,7 +28,7 @@ use crate::logs::reading_for;
 use crate::logs::views::LogView;
 use crate::simulate::close::close_receiver;
 use crate::simulate::figures::Summary;
-use crate::simulate::lines::{LineStyle, PendingLines, Setting};
+use crate::simulate::lines::{LineStyle, PendingLines, LineWriter};
 use crate::simulate::log::read_words;
 use crate::simulate::playing::Player;
 use crate::simulate::summary_rows::summary_sheet;
@@ -98,7 +98,7 @@ struct SimulationInput<'a> {
 
 /// What is simulated, before anything has happened: what the lines are written with, and a timeline on a station.
 struct Simulation {
-    setting: Setting,
+    writer: LineWriter,
     player: Player,
 }
 
@@ -106,7 +106,7 @@ struct Simulation {
 impl Drop for Simulation {
     fn drop(self) {
         let Self {
-            setting: _,
+            writer: _,
             player: _,
         } = self;
     }
@@ -130,12 +130,12 @@ fn read_input<'a, F: FileReader>(
 }
 
 /// The station of a table. Error: there is no plan.
-fn read_station(alloc: Global, table: &GivenTable, style: LineStyle) -> Result<Setting, Refused>
-    ensures { MatchResult result (IsSettingOf (table_texts table.now) style) (OrMemory (IsNoGivenPlan (table_texts table.now))) }
+fn read_station(alloc: Global, table: &GivenTable, style: LineStyle) -> Result<LineWriter, Refused>
+    ensures { MatchResult result (IsWriterOf (table_texts table.now) style) (OrMemory (IsNoGivenPlan (table_texts table.now))) }
 {
     let proposal = table.propose(alloc)?;
     let names = Names::of(alloc, proposal.equipment())?;
-    Ok(Setting {
+    Ok(LineWriter {
         proposal,
         names,
         style,
@@ -147,25 +147,25 @@ fn read_station(alloc: Global, table: &GivenTable, style: LineStyle) -> Result<S
 fn read_player<'a, F: FileReader>(
     alloc: Global,
     files: &F,
-    setting: &Setting,
+    writer: &LineWriter,
     input: &'a SimulationInput<'a>,
     form: SimulationForm<'a>,
     warnings: &mut Vec<Warning>,
 ) -> Result<Player, Refused>
     ensures silent { PassesNone form.entry.reading (files_of input.now).logs → warnings.new.items ≡ warnings.old.items }
-    ensures player { MatchResult result (BeginsLog setting.now (files_of input.now) form.entry)
-        (OrMemory (BeginsNoLog setting.now (files_of input.now) form.entry)) }
+    ensures player { MatchResult result (BeginsLog writer.now (files_of input.now) form.entry)
+        (OrMemory (BeginsNoLog writer.now (files_of input.now) form.entry)) }
 {
     let words = read_words(
         alloc,
         files,
-        &setting.names,
+        &writer.names,
         input.view,
         form.reading,
         &input.logs,
         warnings,
     )?;
-    Player::open(alloc, &setting.proposal, words, form.until)
+    Player::open(alloc, &writer.proposal, words, form.until)
 }
 
 /// What is simulated. Error: the table, its plan or the log is refused, or a group would send too much.
@@ -179,9 +179,9 @@ fn prepare<'a, F: FileReader>(
     ensures silent { PassesNone form.entry.reading (files_of input.now).logs → warnings.new.items ≡ warnings.old.items }
     ensures prepared { IsPreparing (files_of input.now) form.entry result }
 {
-    let setting = read_station(alloc, &input.table, form.style)?;
-    let player = read_player(alloc, files, &setting, input, form, warnings)?;
-    Ok(Simulation { setting, player })
+    let writer = read_station(alloc, &input.table, form.style)?;
+    let player = read_player(alloc, files, &writer, input, form, warnings)?;
+    Ok(Simulation { writer, player })
 }
 
 /// Notes a receiver, if the words of the log come to it too closely.
@@ -191,7 +191,7 @@ fn note_close_words(simulation: &Simulation, warnings: &mut Vec<Warning>)
     let Some(receiver) = close_receiver(simulation.player.words()) else {
         return;
     };
-    let receivers = simulation.setting.proposal.equipment().receivers();
+    let receivers = simulation.writer.proposal.equipment().receivers();
     if let Some(row) = receivers.get(usize::from(receiver)) {
         Warning::note_close_words(warnings, row.name);
     }
@@ -221,21 +221,21 @@ impl<F: FileReader> PlayedFiles<'_, F> {
 /// Whether memory sufficed for all.
 fn put_lines<F: FileReader, O: Output>(
     played: PlayedFiles<'_, F>,
-    setting: &Setting,
+    writer: &LineWriter,
     player: &mut Player,
     lines: &mut PendingLines,
     out: &mut O,
 ) -> Result<bool, OutputFault>
-    requires names { HasStationNames setting.now.names setting.now.proposal }
-    requires playable { CanBePlayed setting.now.proposal player.old }
-    requires begin { IsBeginOfSlot setting.now.proposal setting.now.style lines.old.begin }
-    ensures put { PutsLines O.contents setting.now.proposal setting.now.style player.old out.old out.new
+    requires names { HasStationNames writer.now.names writer.now.proposal }
+    requires playable { CanBePlayed writer.now.proposal player.old }
+    requires begin { IsBeginOfSlot writer.now.proposal writer.now.style lines.old.begin }
+    ensures put { PutsLines O.contents writer.now.proposal writer.now.style player.old out.old out.new
         lines.old.text.items lines.new.text.items result }
     ensures faults { CountsFault result (O.failures out.old) (O.failures out.new) }
 {
     let mut steps: usize = 0;
-    while let Some(happening) = player.next(&setting.proposal) {
-        let Ok(()) = setting.push(lines, happening) else {
+    while let Some(happening) = player.next(&writer.proposal) {
+        let Ok(()) = writer.push(lines, happening) else {
             return Ok(false);
         };
         put_if_full(&mut lines.text, out)?;
@@ -260,11 +260,11 @@ fn print_lines<F: FileReader, O: Output>(
     ensures flushed { OnOk result (IsTrue (O.is_flushed out.new)) }
     ensures faults { CountsFault result (O.failures out.old) (O.failures out.new) }
 {
-    let setting = &simulation.setting;
-    let Ok(mut lines) = PendingLines::open(alloc, setting.style) else {
+    let writer = &simulation.writer;
+    let Ok(mut lines) = PendingLines::open(alloc, writer.style) else {
         return refuse_memory(out);
     };
-    let sufficed = put_lines(played, setting, &mut simulation.player, &mut lines, out)?;
+    let sufficed = put_lines(played, writer, &mut simulation.player, &mut lines, out)?;
     finish(&lines.text, sufficed, out)
 }
 
@@ -272,22 +272,22 @@ fn print_lines<F: FileReader, O: Output>(
 fn summarize<F: FileReader>(
     alloc: Global,
     played: PlayedFiles<'_, F>,
-    setting: &Setting,
+    writer: &LineWriter,
     player: &mut Player,
     form: SheetForm,
 ) -> Result<Vec<u8>, AllocError>
-    requires { CanBePlayed setting.now.proposal player.old }
-    ensures { IfOk result (λ text. HasSummary setting.now player.old form text.items) }
+    requires { CanBePlayed writer.now.proposal player.old }
+    ensures { IfOk result (λ text. HasSummary writer.now player.old form text.items) }
 {
     let mut summary = Summary::open(alloc)?;
     let mut steps: usize = 0;
-    while let Some(happening) = player.next(&setting.proposal) {
-        summary.note(&setting.proposal, happening);
+    while let Some(happening) = player.next(&writer.proposal) {
+        summary.note(&writer.proposal, happening);
         steps = steps.wrapping_add(1);
         played.show(steps, player);
     }
     played.files.show_end();
-    summary_sheet(alloc, &setting.proposal, &summary).render(alloc, form)
+    summary_sheet(alloc, &writer.proposal, &summary).render(alloc, form)
 }
 
 /// Plays what is simulated, and puts the summary of that in a form.
@@ -307,7 +307,7 @@ fn print_summary<F: FileReader, O: Output>(
     match summarize(
         alloc,
         played,
-        &simulation.setting,
+        &simulation.writer,
         &mut simulation.player,
         form,
     ) {
@@ -325,7 +325,7 @@ fn print_simulation<F: FileReader, O: Output>(
     out: &mut O,
 ) -> Result<u8, OutputFault>
     requires ready { SimulationIsReady simulation.old }
-    requires style { simulation.old.setting.style ≡ form.style }
+    requires style { simulation.old.writer.style ≡ form.style }
     ensures printed { HasPrinted simulation.old form.entry (O.contents out.old) (O.contents out.new) result }
     ensures status { IfOk result (λ status. status ≤ 1) }
     ensures flushed { OnOk result (IsTrue (O.is_flushed out.new)) }

@@ -30,7 +30,7 @@ pub enum LineStyle {
 
 /// What lines are written with: the proposal of the station, its names, and how they are written.
 #[derive(Drop)]
-pub struct Setting {
+pub struct LineWriter {
     pub proposal: Proposal<OUTPUTS>,
     pub names: Names,
     pub style: LineStyle,
@@ -117,7 +117,7 @@ fn put_end(room: &mut [u8], end: usize, style: LineStyle) -> usize
     }
 }
 
-impl Setting {
+impl LineWriter {
     /// The name of a group; nothing if there is none. It has few bytes.
     #[tactic(auto, using(crate::proofs::ShortNames::group_short))]
     fn group_name(&self, group: usize) -> &[u8]

@@ -12,8 +12,8 @@ returns-in_default-clause-printed g c = λ words last B.
 
 pub returns-clause-printed : goal.returns-clause-printed
 returns-clause-printed g c = λ words last B.
-    let q = c.args.simulation.now.setting.proposal in
-    let style = c.args.simulation.now.setting.style in
+    let q = c.args.simulation.now.writer.proposal in
+    let style = c.args.simulation.now.writer.style in
     let all = c.in_ok-sufficed.sufficed in
     let (bytes, printed, put) = c.in_ok-sufficed.ensures.put words last B in
     let whole = (heading style ++ bytes) ++ ending all in

@@ -6,7 +6,7 @@ use Rattle.a429_recordings.proofs.simulate.print_summary.Goals as goal
 
 pub returns-in-Ok-clause-printed : goal.returns-in-Ok-clause-printed
 returns-in-Ok-clause-printed g c = λ words last B.
-    let s = c.args.simulation.now.setting in
+    let s = c.args.simulation.now.writer in
     let text = c.in-Ok.text.items in
     both_ok c.finish.result _ _ (λ status is put. (
       text,

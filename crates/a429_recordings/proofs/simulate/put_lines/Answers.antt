@@ -8,8 +8,8 @@ use Rattle.a429_recordings.proofs.simulate.put_lines.Goals as goal
 
 pub returns-in_default-push-clause-put : goal.returns-in_default-push-clause-put
 returns-in_default-push-clause-put g c = λ words last B.
-    let q = c.args.setting.now.proposal in
-    let style = c.args.setting.now.style in
+    let q = c.args.writer.now.proposal in
+    let style = c.args.writer.now.style in
     let (told, H, put) = c.loop-happening.invariant.put words last B in
     let (M, n, begun, first) = played_part q words last told c.in-Some.happening c.next.new.self (c.in-Some.ensures.told words last told H) in (
       text_of q style told,
@@ -20,8 +20,8 @@ returns-in_default-push-clause-put g c = λ words last B.
 pub loop-happening-preserved : goal.loop-happening-preserved
 loop-happening-preserved g c = record {
   put = λ words last B.
-      let q = c.args.setting.now.proposal in
-      let style = c.args.setting.now.style in
+      let q = c.args.writer.now.proposal in
+      let style = c.args.writer.now.style in
       let h = c.in-Some.happening in
       let (told, H, put) = c.loop-happening.invariant.put words last B in
       let line = line_of q style h in
@@ -46,4 +46,4 @@ loop-happening-preserved g c = record {
 pub returns-clause-put : goal.returns-clause-put
 returns-clause-put g c = λ words last B.
     let (told, H, put) = c.loop-happening.invariant.put words last B in
-    (text_of c.args.setting.now.proposal c.args.setting.now.style told, (told, c.in_default.ensures.told words last told H, refl), put)
+    (text_of c.args.writer.now.proposal c.args.writer.now.style told, (told, c.in_default.ensures.told words last told H, refl), put)

@@ -9,12 +9,12 @@ use Rattle.a429_recordings.proofs.simulate.put_lines.Given as goal
 
 abbrev pub invariant-loop-happening : goal.invariant-loop-happening
 invariant-loop-happening g l = record {
-  put : (words : List LogWord) (last : ℕ) → HasPlayed l.setting.proposal words last [] l.initial.player
-      → (told : List Happening) × HasPlayed l.setting.proposal words last told l.player
+  put : (words : List LogWord) (last : ℕ) → HasPlayed l.writer.proposal words last [] l.initial.player
+      → (told : List Happening) × HasPlayed l.writer.proposal words last told l.player
       × Appends (append_known (g.O.Output.contents l.initial.out) l.initial.lines.text.items) (append_known (g.O.Output.contents l.out) l.lines.text.items)
-      (text_of l.setting.proposal l.setting.style told);
-  playable : CanBePlayed l.setting.proposal l.player;
-  begin : IsBeginOfSlot l.setting.proposal l.setting.style l.lines.begin;
+      (text_of l.writer.proposal l.writer.style told);
+  playable : CanBePlayed l.writer.proposal l.player;
+  begin : IsBeginOfSlot l.writer.proposal l.writer.style l.lines.begin;
   kept : g.O.Output.failures l.out ≡ g.O.Output.failures l.initial.out;
 }
 

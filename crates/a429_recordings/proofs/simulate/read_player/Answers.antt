@@ -14,7 +14,7 @@ use Rattle.a429_recordings.proofs.simulate.read_player.Goals as goal
 
 pub returns-in_err-words-clause-player : goal.returns-in_err-words-clause-player
 returns-in_err-words-clause-player g c =
-    let s = c.args.setting.now in
+    let s = c.args.writer.now in
     let i = files_of c.args.input.now in
     let reading = c.args.form.reading in
     let e = c.in_err-words.field-0.0 in
@@ -25,7 +25,7 @@ returns-in_err-words-clause-player g c =
 
 pub returns-clause-player : goal.returns-clause-player
 returns-clause-player g c =
-    let s = c.args.setting.now in
+    let s = c.args.writer.now in
     let i = files_of c.args.input.now in
     let form = c.args.form in
     let words = c.in_ok-words.words.items in

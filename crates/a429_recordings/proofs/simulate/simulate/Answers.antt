@@ -23,7 +23,7 @@ returns-in-Err-clause-simulated g c = read_weaker c.in-Err.ensures (λ file bad.
 pub returns-in-Ok-prepare-clause-simulated : goal.returns-in-Ok-prepare-clause-simulated
 returns-in-Ok-prepare-clause-simulated g c =
     let P = c.in-Ok-prepare.ensures.prepared in
-    let q = c.in-Ok-prepare.simulation.setting.proposal in
+    let q = c.in-Ok-prepare.simulation.writer.proposal in
     let r = asked_of c.args.asked.now in
     let form = c.of-form.result in
     let i = files_of c.in-Ok.input in
@@ -49,7 +49,7 @@ returns-in-Err-clause-silent g c = read_weaker c.in-Err.ensures (λ file bad pla
 pub returns-in-Ok-prepare-clause-silent : goal.returns-in-Ok-prepare-clause-silent
 returns-in-Ok-prepare-clause-silent g c =
     let P = c.in-Ok-prepare.ensures.prepared in
-    let q = c.in-Ok-prepare.simulation.setting.proposal in
+    let q = c.in-Ok-prepare.simulation.writer.proposal in
     read_weaker c.in-Ok.ensures (λ file read plain spaced.
     let words : AreSpaced P.words = spaced c.of-form.result c.of-form.ensures (files_of c.in-Ok.input) q P.words read P.simulated in
     c.note_close_words.ensures (subst AreSpaced (sym P.begin.timeline.words_are) words) ∙ c.in-Ok-prepare.ensures.silent (plain c.of-form.result.reading c.of-form.ensures.reading (files_of c.in-Ok.input).logs read.1))

@@ -11,7 +11,7 @@ use Rattle.a429_recordings.proofs.simulate.summarize.Goals as goal
 pub loop-happening-preserved : goal.loop-happening-preserved
 loop-happening-preserved g c = record {
   noted = λ words last B.
-      let q = c.args.setting.now.proposal in
+      let q = c.args.writer.now.proposal in
       let h = c.in-Some.happening in
       let (told, H, F) = c.loop-happening.invariant.noted words last B in
       let next = c.in-Some.ensures.told words last told H in
@@ -22,7 +22,7 @@ loop-happening-preserved g c = record {
 pub returns : goal.returns
 returns g c =
     IfOk-weaker c.render.result _ _ (λ text is words last B.
-    let q = c.args.setting.now.proposal in
+    let q = c.args.writer.now.proposal in
     let form = c.args.form in
     let (told, H, F) = c.loop-happening.invariant.noted words last B in
     let (M, timeline, all) = c.in_default.ensures.told words last told H in

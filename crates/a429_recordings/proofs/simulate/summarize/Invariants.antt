@@ -7,9 +7,9 @@ use Rattle.a429_recordings.proofs.simulate.summarize.Given as goal
 
 abbrev pub invariant-loop-happening : goal.invariant-loop-happening
 invariant-loop-happening g l = record {
-  noted : (words : List LogWord) (last : ℕ) → HasPlayed l.setting.proposal words last [] l.initial.player
-      → (told : List Happening) × HasPlayed l.setting.proposal words last told l.player × HasFigures l.setting.proposal told l.summary.figures.items;
-  playable : CanBePlayed l.setting.proposal l.player;
+  noted : (words : List LogWord) (last : ℕ) → HasPlayed l.writer.proposal words last [] l.initial.player
+      → (told : List Happening) × HasPlayed l.writer.proposal words last told l.player × HasFigures l.writer.proposal told l.summary.figures.items;
+  playable : CanBePlayed l.writer.proposal l.player;
 }
 
 abbrev pub decreases-loop-happening : goal.decreases-loop-happening

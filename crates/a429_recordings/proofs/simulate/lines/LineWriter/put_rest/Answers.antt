@@ -3,7 +3,7 @@ use Rattle.std.specs.Fmt.{decimal}
 use Rattle.a429_word.specs.Hexadecimal.{hex}
 use Rattle.a429_recordings.specs.CellLines.{rest_of, word_end}
 use Rattle.a429_recordings.specs.Simulating.{separator}
-use Rattle.a429_recordings.proofs.simulate.lines.Setting.put_rest.Goals as goal
+use Rattle.a429_recordings.proofs.simulate.lines.LineWriter.put_rest.Goals as goal
 
 pub returns-clause-written : goal.returns-clause-written
 returns-clause-written c =

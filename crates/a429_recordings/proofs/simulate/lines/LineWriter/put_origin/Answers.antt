@@ -2,7 +2,7 @@ use Rattle.std.proofs.Common.{◌≡◌, ◌∙◌, ◌++◌, ℕ, List, ap, ap�
 use Rattle.std.specs.Fmt.{decimal}
 use Rattle.a429_console.specs.Names.{name_at, naming_of}
 use Rattle.a429_recordings.specs.Simulating.{sent_end, separator}
-use Rattle.a429_recordings.proofs.simulate.lines.Setting.put_origin.Goals as goal
+use Rattle.a429_recordings.proofs.simulate.lines.LineWriter.put_origin.Goals as goal
 
 pub returns-clause-written : goal.returns-clause-written
 returns-clause-written c =

@@ -9,7 +9,7 @@ use Rattle.a429_recordings.specs.Timeline.{rate_of}
 use Rattle.a429_recordings.specs.declared.simulate.lines.LineStyle.{LineStyle}
 use Rattle.a429_recordings.specs.declared.simulate.lines.LineStyle.TheVariants as style
 use Rattle.a429_recordings.specs.declared.simulate.machine.SentWord.{SentWord}
-use Rattle.a429_recordings.proofs.simulate.lines.Setting.push_rest.Goals as goal
+use Rattle.a429_recordings.proofs.simulate.lines.LineWriter.push_rest.Goals as goal
 
 -- the line of a word that is sent, by its two parts
 parts_are : (q : Proposed) (style : LineStyle) (s : SentWord)

@@ -5,7 +5,7 @@ use Rattle.a429_console.specs.Names.{name_at, naming_of}
 use Rattle.a429_recordings.specs.CellLines.{begin_of, bus_separator}
 use Rattle.a429_recordings.specs.Simulating.{separator}
 use Rattle.a429_recordings.specs.Timeline.{rate_of}
-use Rattle.a429_recordings.proofs.simulate.lines.Setting.slot_begin.Goals as goal
+use Rattle.a429_recordings.proofs.simulate.lines.LineWriter.slot_begin.Goals as goal
 
 pub returns : goal.returns
 returns c =
