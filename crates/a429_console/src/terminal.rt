@@ -84,7 +84,7 @@ impl<'a, C: Clock, W: Write + Copy> TerminalLine<'a, C, W> {
         }
     }
 
-    /// For how many milliseconds the work has gone on, if the line is to be written now. Then it counts as written.
+    /// For how many milliseconds the work has gone on, if the line is due. Then it counts as written.
     pub fn due(&self) -> Option<u32> {
         self.begin();
         let now = self.now();

@@ -28,7 +28,7 @@ use crate::logs::reading_for;
 use crate::logs::views::LogView;
 use crate::simulate::close::close_receiver;
 use crate::simulate::figures::Summary;
-use crate::simulate::lines::{LineStyle, PendingLines, LineWriter};
+use crate::simulate::lines::{LineStyle, LineWriter, PendingLines};
 use crate::simulate::log::read_words;
 use crate::simulate::playing::Player;
 use crate::simulate::summary_rows::summary_sheet;
