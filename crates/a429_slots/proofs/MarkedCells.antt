@@ -4,10 +4,10 @@ use Rattle.std.specs.Prelude.{Option, Some, None, if◌then◌else◌, nat_lt}
 use Rattle.std.proofs.Math.ListN.{set}
 use Rattle.std.proofs.lemmas.Bool.{cases_eq, cases_lt, lt-ltb, le-ltb}
 use Rattle.std.proofs.lemmas.List.{get_or-set_same, get_or-set_other}
-use Rattle.std.proofs.lemmas.Nat.{mod-mul-add, div-mul-add}
+use Rattle.std.proofs.lemmas.Nat.{div_below, mod-mul-add, div-mul-add}
 use Rattle.std.proofs.lemmas.Option.{none-some, same_Some}
 use native.Mathlib.Nat.{add-mul-mod_self_right}
-use Rattle.a429_slots.specs.Tables.{SlotTable, cell_at, frame_of}
+use Rattle.a429_slots.specs.Tables.{SlotTable, cell_at}
 use Rattle.a429_slots.specs.Kept.{StandsJustAt}
 use Rattle.a429_slots.specs.Cached.{AreCached, IsCellOf, cached}
 use Rattle.a429_slots.specs.declared.group_plan.SlotPlace.{SlotPlace}
@@ -20,20 +20,16 @@ abbrev pub below : ℕ → Option ℕ → Option ℕ
 below k None = None
 below k (Some o) = if nat_lt o k then Some o else None
 
--- each number of the frame states that
-pub record AreCachedBelow (t : SlotTable) (k : ℕ) (cells : List ℕ) : Type 0 where
-  pub many : length cells ≡ 131072
-  pub each : (i : ℕ) → i / 16 < frame_of t → get_or cells i 0 ≡ cached (below k (cell_at t (i % 16) (i / 16)))
+-- each number states that
+abbrev pub AreCachedBelow : SlotTable → ℕ → List ℕ → Type 0
+AreCachedBelow t k cells = (i : ℕ) → i < length cells → get_or cells i 0 ≡ cached (below k (cell_at t (i % 16) (i / 16)))
 
 none_below : (c : Option ℕ) → below 0 c ≡ None
 none_below None = refl
 none_below (Some o) = rw (le-ltb o 0 (omega arith)) refl
 
-pub empty_cached : (t : SlotTable) (cells : List ℕ) → length cells ≡ 131072 → ((i : ℕ) → i / 16 < frame_of t → get_or cells i 0 ≡ 0) → AreCachedBelow t 0 cells
-empty_cached t cells many empty = record {
-  many = many;
-  each = λ i inside. empty i inside ∙ sym (ap cached (none_below (cell_at t (i % 16) (i / 16))));
-}
+pub empty_cached : (t : SlotTable) (cells : List ℕ) → ((i : ℕ) → get_or cells i 0 ≡ 0) → AreCachedBelow t 0 cells
+empty_cached t cells empty i inside = empty i ∙ sym (ap cached (none_below (cell_at t (i % 16) (i / 16))))
 
 all_below : (n : ℕ) (c : Option ℕ) → ((o : ℕ) → c ≡ Some o → o < n) → below n c ≡ c
 all_below n None known = refl
@@ -41,12 +37,9 @@ all_below n (Some o) known = rw (lt-ltb o n (known o refl)) refl
 
 -- if all outputs are there, the numbers are those of the frame
 pub all_cached : (t : SlotTable) (k : ℕ) (cells : List ℕ) → length t.outputs ≤ k → AreCachedBelow t k cells → AreCached t cells
-all_cached t k cells all kept = record {
-  many = kept.many;
-  each = λ i inside.
-      kept.each i inside
-      ∙ ap cached (all_below k (cell_at t (i % 16) (i / 16)) (λ o is. let known = cell_known t (i % 16) (i / 16) o is in omega (arith, known, all)));
-}
+all_cached t k cells all kept i inside =
+    kept i inside
+    ∙ ap cached (all_below k (cell_at t (i % 16) (i / 16)) (λ o is. let known = cell_known t (i % 16) (i / 16) o is in omega (arith, known, all)))
 
 same_below : (k o : ℕ) → (o ≡ k → ⊥) → below k (Some o) ≡ below (k + 1) (Some o)
 same_below k o other = elim (cases_lt o k) [
@@ -65,25 +58,17 @@ one_more k number old (Some o) its others is = elim (cases_eq o k) [
 ]
 
 -- the cells of one output more are marked
-pub more_cached : (t : SlotTable) (k : ℕ) (p : SlotPlace) (xs ys : List ℕ) → StandsJustAt t k p.bus p.offset (2 ^ p.period) → length ys ≡ 131072
-    → ((i : ℕ) → i / 16 < frame_of t → IsCellOf p (i % 16) (i / 16) → get_or ys i 0 ≡ k + 1)
+pub more_cached : (t : SlotTable) (k slots : ℕ) (p : SlotPlace) (xs ys : List ℕ) → StandsJustAt t k p.bus p.offset (2 ^ p.period)
+    → length xs ≡ slots * 16 → length ys ≡ slots * 16
+    → ((i : ℕ) → i / 16 < slots → IsCellOf p (i % 16) (i / 16) → get_or ys i 0 ≡ k + 1)
     → ((i : ℕ) → (IsCellOf p (i % 16) (i / 16) → ⊥) → get_or ys i 0 ≡ get_or xs i 0)
     → AreCachedBelow t k xs → AreCachedBelow t (k + 1) ys
-more_cached t k p xs ys stands many marked others kept = record {
-  many = many;
-  each = λ i inside.
-      one_more k (get_or ys i 0) (get_or xs i 0) (cell_at t (i % 16) (i / 16))
-      (λ there. marked i inside ((stands.cells (i % 16) (i / 16)).0 there))
-      (λ nowhere. others i (λ here. nowhere ((stands.cells (i % 16) (i / 16)).1 here)))
-      (kept.each i inside);
-}
-
--- what is kept of one table is kept of another, whose frame has its outputs in the same cells
-pub cached_alike : (t u : SlotTable) (cells : List ℕ) → frame_of t ≡ frame_of u → ((bus slot : ℕ) → cell_at t bus slot ≡ cell_at u bus slot) → AreCached t cells → AreCached u cells
-cached_alike t u cells long same kept = record {
-  many = kept.many;
-  each = λ i inside. kept.each i (omega (arith, inside, long)) ∙ ap cached (same (i % 16) (i / 16));
-}
+more_cached t k slots p xs ys stands before after marked others kept i inside =
+    let slot : i / 16 < slots = div_below i 16 slots (omega arith) (omega (arith, inside, after)) in
+    one_more k (get_or ys i 0) (get_or xs i 0) (cell_at t (i % 16) (i / 16))
+    (λ there. marked i slot ((stands.cells (i % 16) (i / 16)).0 there))
+    (λ nowhere. others i (λ here. nowhere ((stands.cells (i % 16) (i / 16)).1 here)))
+    (kept i (omega (arith, inside, before, after)))
 
 -- ---- the cells of one place
 

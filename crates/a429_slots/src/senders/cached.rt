@@ -1,5 +1,5 @@
 //! A group in its frame, with the output of each cell at hand.
-ghost use Rattle.std.specs.Prelude.{◌≡◌, ◌≤◌, ◌+◌, ◌<◌, ◌^◌, ◌/◌, ◌%◌, ℕ, List, IfOk, IfSome, MatchOption, ⊤, length, get_or, nat_lt, option_map, true};
+ghost use Rattle.std.specs.Prelude.{◌≡◌, ◌≤◌, ◌+◌, ◌<◌, ◌*◌, ◌^◌, ◌/◌, ◌%◌, ℕ, List, IfOk, IfSome, MatchOption, ⊤, length, get_or, nat_lt, option_map, [], true, false};
 ghost use Rattle.a429_slots.specs.Tables.{cell_at, cells_of, frame_of, outputs_of, output_in};
 ghost use Rattle.a429_slots.specs.FrameStates.{begun, next_cell, after_cell, fits_next, turned, due_of};
 ghost use Rattle.a429_slots.specs.Cached.{AreCached, IsCellOf, cached};
@@ -19,7 +19,8 @@ const EMPTY: u8 = 0;
 
 /// A `Sender`, and the output of each cell of its frame. Each cell has a byte: 0 if it is empty, otherwise the output's
 /// number plus one. A plan with the same outputs in the same cells keeps these bytes; for any other plan they are
-/// written when its first frame begins. So a cell takes one read, however many outputs there are.
+/// written when its first frame begins. So a cell takes one read, however many outputs there are. There is room for the
+/// cells of the largest frame, so no memory is allocated later.
 #[derive(Drop)]
 pub struct CachedSender {
     sender: Sender,
@@ -49,7 +50,7 @@ fn output_of(byte: u8) -> Option<OutputId>
     }
 }
 
-/// The output in a cell of a slot table, whose cells are known.
+/// The output in a cell of a slot table, by what is known of its cells.
 #[tactic(auto, using(crate::proofs::Cells::cell_known))]
 #[inline(always)]
 fn look_up(cells: &Vec<u8>, plan: &GroupPlan<OUTPUTS>, bus: u32, slot: u64) -> Option<OutputId>
@@ -57,32 +58,30 @@ fn look_up(cells: &Vec<u8>, plan: &GroupPlan<OUTPUTS>, bus: u32, slot: u64) -> O
     ensures cell { result ≡ cell_at plan.now bus slot }
     ensures known { IfSome result (λ output. output < length (outputs_of plan.now)) }
 {
-    if bus >= 16 || slot >= u64::from(plan.frame()) {
+    if bus >= 16 || slot >= (cells.len() / 16) as u64 {
         return plan.at(bus, slot);
     }
     output_of(cells[slot as usize * 16 + bus as usize])
 }
 
-/// Makes the cells of these slots empty.
-fn clear(cells: &mut Vec<u8>, slots: usize)
-    requires many { length cells.old.items ≡ 131072 }
-    requires few { slots ≤ 8192 }
-    ensures many { length cells.new.items ≡ 131072 }
-    ensures empty { (i : ℕ) → i / 16 < slots → get_or cells.new.items i 0 ≡ 0 }
+/// Makes this number of empty cells. `false`: an allocation failed, and there are none.
+fn clear(cells: &mut Vec<u8>, many: usize) -> bool
+    ensures many { result ≡ true → length cells.new.items ≡ many }
+    ensures empty { (i : ℕ) → get_or cells.new.items i 0 ≡ 0 }
+    ensures none { result ≡ false → cells.new.items ≡ [] }
 {
-    for cell in 0..slots * 16 {
-        cells[cell] = EMPTY;
-    }
+    cells.clear();
+    cells.resize(many, EMPTY).is_ok()
 }
 
 /// Gives these cells a byte: those of one place, in this number of slots.
 fn mark(cells: &mut Vec<u8>, place: SlotPlace, slots: usize, byte: u8)
-    requires many { length cells.old.items ≡ 131072 }
+    requires many { length cells.old.items ≡ slots * 16 }
     requires few { slots ≤ 8192 }
     requires bus { place.bus < 16 }
     requires offset { place.offset < 2 ^ place.period }
     requires period { 2 ^ place.period ≤ 8192 }
-    ensures many { length cells.new.items ≡ 131072 }
+    ensures many { length cells.new.items ≡ slots * 16 }
     ensures marked { (i : ℕ) → i / 16 < slots → IsCellOf place (i % 16) (i / 16) → get_or cells.new.items i 0 ≡ byte }
     ensures others { (i : ℕ) → (IsCellOf place (i % 16) (i / 16) → ⊥) → get_or cells.new.items i 0 ≡ get_or cells.old.items i 0 }
 {
@@ -94,13 +93,14 @@ fn mark(cells: &mut Vec<u8>, place: SlotPlace, slots: usize, byte: u8)
     }
 }
 
-/// Writes the output of each cell of a slot table.
+/// Writes the output of each cell of a slot table. If the room for its cells is too small and cannot grow, nothing is known of any.
 fn fill(cells: &mut Vec<u8>, plan: &GroupPlan<OUTPUTS>)
-    requires many { length cells.old.items ≡ 131072 }
     ensures { AreCached plan.now cells.new.items }
 {
     let slots = plan.frame() as usize;
-    clear(cells, slots);
+    if !clear(cells, slots * 16) {
+        return;
+    }
     prove!(plan.buses() <= 16);
     for number in 0..plan.outputs() {
         mark(
@@ -119,13 +119,6 @@ fn has_same_frame(plan: &GroupPlan<OUTPUTS>, newest: &GroupPlan<OUTPUTS>) -> boo
     plan.frame() == newest.frame() && plan.has_cells_of(newest)
 }
 
-/// The cells of the largest frame, all empty. Error: an allocation failed.
-fn empty_cells(alloc: Global) -> Result<Vec<u8>, AllocError>
-    ensures { IfOk result (λ cells. length cells.items ≡ 131072) }
-{
-    vec![in alloc; EMPTY; CELLS]
-}
-
 impl CachedSender {
     /// A group before its first cell, by the opening plan. All the memory that is ever needed is allocated here. Error:
     /// an allocation failed.
@@ -137,7 +130,7 @@ impl CachedSender {
         requires { first + frame_of plan < 2 ^ 64 }
         ensures { IfOk result (λ sender. sender ≡ begun first plan) }
     {
-        let mut cells = empty_cells(alloc)?;
+        let mut cells = Vec::with_capacity(alloc, CELLS)?;
         fill(&mut cells, &plan);
         Ok(CachedSender {
             sender: Sender::open(plan, first),
