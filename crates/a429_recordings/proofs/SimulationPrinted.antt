@@ -1,10 +1,14 @@
 -- What a simulation prints, with its end.
-use Rattle.std.proofs.Common.{◌∙◌, ◌++◌, ◌∷◌, [], ℕ, Bool, true, false, List, ap, inl, inr, refl, sym, append-nil, append_assoc}
-use Rattle.std.specs.Prelude.{Option}
+use Rattle.std.proofs.Common.{◌∙◌, ◌++◌, ◌∷◌, [], ◌≡◌, ⊎_elim, subst, ℕ, Bool, true, false, List, ap, inl, inr, refl, sym, append-nil, append_assoc}
+use Rattle.std.specs.Prelude.{Option, Result, Ok, Err, MatchResult}
 use Rattle.std.specs.Io.KnownBytes.{Appends, append_known}
 use Rattle.a429_slots.specs.Proposed.{Proposed}
 use Rattle.a429_console.specs.Outputs.{OrNoMemory, ending, memory_refused, status_of}
+use Rattle.a429_console.specs.RefusalText.{refusal_line}
+use Rattle.a429_console.specs.WholeReplies.{IsReplyPut}
+use Rattle.a429_console.specs.declared.refusals.CommandRefusal.{CommandRefusal}
 use Rattle.a429_console.specs.declared.refusals.CommandRefusal.TheVariants as refused
+use Rattle.a429_console.specs.declared.reply.Reply.{Reply}
 use Rattle.a429_given.specs.GivenTables.{TableTexts}
 use Rattle.a429_recordings.specs.LogViews.{View}
 use Rattle.a429_recordings.specs.SimulationReplies.{ArePrinted, AreSimulationFiles, IsPrinting, IsSimulated, IsSimulation, IsWritten, SimulationFiles, heading}
@@ -22,6 +26,16 @@ printed_ended q words last style true bytes (told, (moments, timeline, all), tex
     inl ((moments, timeline, append-nil (heading style ++ bytes) ∙ ap (λ (bs : List ℕ). heading style ++ bs) (text ∙ ap (text_of q style) all)), refl)
 printed_ended q words last style false bytes (moments, n, begun, text) =
     inr (heading style ++ bytes, (moments, n, begun, ap (λ (bs : List ℕ). heading style ++ bs) text), refl, sym (append_assoc (heading style ++ bytes) memory_refused (10 ∷ [])))
+
+-- what is put of a reply that is no refusal but `refused memory`
+pub reply_or_memory : (Says : ℕ → List ℕ → Type 0) (result : Result Reply CommandRefusal) (status : ℕ) (bytes : List ℕ)
+    → MatchResult result (λ reply. Says reply.status reply.bytes.items) (λ refusal. refusal ≡ refused.Memory)
+    → IsReplyPut 1 result status bytes → OrNoMemory Says status bytes
+reply_or_memory Says (Ok reply) status bytes says (is, same) =
+    inl (subst (λ (n : ℕ). Says n bytes) (sym is) (subst (λ (t : List ℕ). Says reply.status t) (sym same) says))
+reply_or_memory Says (Err refusal) status bytes why (told, is, one, line) =
+    let memory : told ≡ refused.Memory = ⊎_elim (λ same. same ∙ why) (λ none. none) is in
+    inr (one, line ∙ ap (λ (e : CommandRefusal). refusal_line e ++ 10 ∷ []) memory)
 
 -- they were put out
 pub heading_first : (old mid new : Option (List ℕ)) (head text bytes end : List ℕ) → Appends (append_known old head) (append_known mid text) bytes → Appends mid new (text ++ end)

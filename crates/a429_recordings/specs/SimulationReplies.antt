@@ -21,6 +21,7 @@ use Rattle.a429_given.specs.GivenPlans.{IsGivenPlan, IsNoGivenPlan}
 use Rattle.a429_given.specs.GivenTables.{IsTableRead, IsTableUnread, TableTexts, named_table, table_texts}
 use Rattle.a429_console.specs.declared.refusals.CommandRefusal.{CommandRefusal}
 use Rattle.a429_console.specs.declared.refusals.CommandRefusal.TheVariants as refused
+use Rattle.a429_console.specs.declared.reply.Reply.{Reply}
 use Rattle.a429_recordings.specs.CloseWords.{AreSpaced}
 use Rattle.a429_recordings.specs.LogItems.{PassesNoLine}
 use Rattle.a429_recordings.specs.LogViews.{View, view_of, whole_view}
@@ -235,11 +236,11 @@ HasPrintedLines s old new result =
     (words : List LogWord) (last : ℕ) → HasPlayed s.writer.proposal words last [] s.player
     → IfOk result (λ status. IsPut (OrNoMemory (IsPrinting s.writer.proposal words last s.writer.style)) old new status)
 
--- the summary of a simulation that begins so was put in a form, or that an allocation failed before that
-abbrev pub HasPrintedSummary : {E : Type 0} → Simulation → SheetForm → Option (List ℕ) → Option (List ℕ) → Result ℕ E → Type 0
-HasPrintedSummary s form old new result =
+-- the reply is the summary of a simulation that begins so, in a form; or an allocation failed
+abbrev pub RepliesSummary : Simulation → SheetForm → Result Reply CommandRefusal → Type 0
+RepliesSummary s form result =
     (words : List LogWord) (last : ℕ) → HasPlayed s.writer.proposal words last [] s.player
-    → IfOk result (λ status. IsPut (OrNoMemory (IsSummary s.writer.proposal words last form)) old new status)
+    → MatchResult result (λ reply. IsSummary s.writer.proposal words last form reply.status reply.bytes.items) (λ refusal. refusal ≡ refused.Memory)
 
 -- what it prints was put, or that an allocation failed before that
 abbrev pub HasPrinted : {E : Type 0} → Simulation → SimulationForm → Option (List ℕ) → Option (List ℕ) → Result ℕ E → Type 0

@@ -10,7 +10,7 @@ ghost use Rattle.a429_given.specs.GivenTables.{table_texts};
 ghost use Rattle.a429_recordings.specs.CellLines.{IsBeginOfSlot};
 ghost use Rattle.a429_recordings.specs.CloseWords.{AreSpaced};
 ghost use Rattle.a429_recordings.specs.LogItems.{PassesNone};
-ghost use Rattle.a429_recordings.specs.SimulationReplies.{BeginsLog, BeginsNoLog, HasPrinted, HasPrintedLines, HasPrintedSummary, HasSummary, IsAskedSimulation, IsPreparing, IsWriterOf, IsSimulationReading, PassesNoAskedLine, PutsLines, SimulatesAskedSpacedWords, SimulationIsReady, files_of, line_style};
+ghost use Rattle.a429_recordings.specs.SimulationReplies.{BeginsLog, BeginsNoLog, HasPrinted, HasPrintedLines, HasSummary, IsAskedSimulation, IsPreparing, IsWriterOf, IsSimulationReading, PassesNoAskedLine, PutsLines, RepliesSummary, SimulatesAskedSpacedWords, SimulationIsReady, files_of, line_style};
 ghost use Rattle.a429_recordings.specs.SimulationRuns.{CanBePlayed, HasStationNames};
 
 mod close;
@@ -41,6 +41,7 @@ use a429_console::hints::warnings::Warning;
 use a429_console::output::endings::{finish, refuse_memory};
 use a429_console::output::{Output, OutputFault};
 use a429_console::refusals::{Refused, refuse};
+use a429_console::reply::{Reply, put_reply};
 use a429_given::{GivenTable, TableNames};
 use a429_logs::Reading;
 use a429_replay::{Names, put_if_full};
@@ -290,30 +291,19 @@ fn summarize<F: FileReader>(
     summary_sheet(alloc, &writer.proposal, &summary).render(alloc, form)
 }
 
-/// Plays what is simulated, and puts the summary of that in a form.
-fn print_summary<F: FileReader, O: Output>(
+/// Plays what is simulated to its end: the reply is the summary of that in a form. Error: an allocation failed.
+fn summary_reply<F: FileReader>(
     alloc: Global,
     played: PlayedFiles<'_, F>,
     simulation: &mut Simulation,
     form: SheetForm,
-    out: &mut O,
-) -> Result<u8, OutputFault>
+) -> Result<Reply, Refused>
     requires { SimulationIsReady simulation.old }
-    ensures printed { HasPrintedSummary simulation.old form (O.contents out.old) (O.contents out.new) result }
-    ensures status { IfOk result (λ status. status ≤ 1) }
-    ensures flushed { OnOk result (IsTrue (O.is_flushed out.new)) }
-    ensures faults { CountsFault result (O.failures out.old) (O.failures out.new) }
+    ensures { RepliesSummary simulation.old form result }
 {
-    match summarize(
-        alloc,
-        played,
-        &simulation.writer,
-        &mut simulation.player,
-        form,
-    ) {
-        Ok(text) => finish(&text, true, out),
-        Err(_) => refuse_memory(out),
-    }
+    let Simulation { writer, player } = simulation;
+    let text = summarize(alloc, played, writer, player, form)?;
+    Ok(Reply::done(text))
 }
 
 /// Plays what is simulated, and puts the summary of that, or its lines.
@@ -323,7 +313,7 @@ fn print_simulation<F: FileReader, O: Output>(
     simulation: &mut Simulation,
     form: SimulationForm<'_>,
     out: &mut O,
-) -> Result<u8, OutputFault>
+) -> Result<Answered, OutputFault>
     requires ready { SimulationIsReady simulation.old }
     requires style { simulation.old.writer.style ≡ form.style }
     ensures printed { HasPrinted simulation.old form.entry (O.contents out.old) (O.contents out.new) result }
@@ -332,9 +322,10 @@ fn print_simulation<F: FileReader, O: Output>(
     ensures faults { CountsFault result (O.failures out.old) (O.failures out.new) }
 {
     if form.summary {
-        print_summary(alloc, played, simulation, form.form, out)
+        let reply = summary_reply(alloc, played, simulation, form.form);
+        put_reply(alloc, reply, 1, out)
     } else {
-        print_lines(alloc, played, simulation, out)
+        plain_answer(print_lines(alloc, played, simulation, out))
     }
 }
 
@@ -368,7 +359,7 @@ pub fn simulate<F: FileReader, O: Output>(
             note_close_words(&simulation, warnings);
             let bytes = bytes_in(&input.logs);
             let played = PlayedFiles { files, bytes };
-            plain_answer(print_simulation(alloc, played, &mut simulation, form, out))
+            print_simulation(alloc, played, &mut simulation, form, out)
         }
         Err(refusal) => refuse(alloc, refusal, out),
     }

@@ -27,7 +27,7 @@ returns-in-Ok-prepare-clause-simulated g c =
     let r = asked_of c.args.asked.now in
     let form = c.of-form.result in
     let i = files_of c.in-Ok.input in
-    rw c.plain_answer.ensures (read_weaker c.in-Ok.ensures (λ file read. IfOk-weaker c.print_simulation.result _ _ (λ status put. (
+    (read_weaker c.in-Ok.ensures (λ file read. IfOk-weaker c.print_simulation.result _ _ (λ status put. (
       put.0,
       (form, c.of-form.ensures, simulated_reply file (named_table r) (r.second ∷ r.more) (whole_view r.given) form i q P.words read P.simulated status put.0 put.1),
       put.2,
