@@ -14,11 +14,12 @@ ghost use Rattle.a429_arguments.specs.Usage.{is_run, is_whole, kinds_of_words, t
 
 use crate::calls::{asked_here, ended};
 use crate::checks::check_reply;
+use crate::diff::diff_reply;
 use crate::encode::{FieldOptions, encode_reply};
-use crate::findings::{diff_reply, lint_reply};
 use crate::import::import_reply;
 use crate::keeping::kept_reply;
 use crate::lines::tell_lines;
+use crate::lint::lint_reply;
 use crate::plans::plan_reply;
 use crate::word::word_reply;
 use a429_arguments::forms::Verb;

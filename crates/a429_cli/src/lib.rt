@@ -21,13 +21,15 @@
 mod calls;
 mod checks;
 mod commands;
+mod diff;
 mod drawings;
 mod encode;
-mod findings;
+mod found;
 mod import;
 mod keeping;
 pub mod laws;
 mod lines;
+mod lint;
 mod live;
 mod loads;
 mod plan_rows;

@@ -10,7 +10,7 @@ use Rattle.a429_console.specs.Tables.{IsTableFault}
 use Rattle.a429_console.specs.declared.refusals.CommandRefusal.TheVariants as refused
 use Rattle.a429_console.proofs.Refused.{failed, or_memory_weaker}
 use Rattle.a429_cli.specs.Findings.{IsNoLint}
-use Rattle.a429_cli.proofs.findings.lint_reply.Goals as goal
+use Rattle.a429_cli.proofs.lint.lint_reply.Goals as goal
 
 pub returns-in_err-table : goal.returns-in_err-table
 returns-in_err-table g c =

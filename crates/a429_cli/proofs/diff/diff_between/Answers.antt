@@ -7,7 +7,7 @@ use Rattle.a429_given.specs.GivenTables.{table_texts}
 use Rattle.a429_console.specs.declared.refusals.CommandRefusal.TheVariants as refused
 use Rattle.a429_console.proofs.Refused.{failed, or_memory_weaker}
 use Rattle.a429_cli.specs.Findings.{IsNoDiffBetween}
-use Rattle.a429_cli.proofs.findings.diff_between.Goals as goal
+use Rattle.a429_cli.proofs.diff.diff_between.Goals as goal
 
 pub returns-in_err-first : goal.returns-in_err-first
 returns-in_err-first c =

@@ -6,7 +6,7 @@ use Rattle.a429_console.specs.RefusalText.{OrMemory}
 use Rattle.a429_console.specs.declared.refusals.CommandRefusal.TheVariants as refused
 use Rattle.a429_given.specs.GivenTables.{table_texts}
 use Rattle.a429_cli.specs.Findings.{IsNoDiffBetween}
-use Rattle.a429_cli.proofs.findings.stamped_diff.Goals as goal
+use Rattle.a429_cli.proofs.diff.stamped_diff.Goals as goal
 
 pub returns-in_err-reply : goal.returns-in_err-reply
 returns-in_err-reply c =

@@ -10,7 +10,7 @@ use Rattle.a429_console.proofs.Refused.{failed, matched_both, or_memory_weaker}
 use Rattle.a429_given.specs.GivenTables.{IsTableRead, IsTableUnread, TableTexts, named_table, table_texts}
 use Rattle.a429_cli.specs.Findings.{AreTablesRead, IsDiffBetween, IsDiffOf, IsNoDiff, IsNoDiffBetween, other_table}
 use Rattle.a429_cli.specs.Stamping.{IsStamped, stamp_line}
-use Rattle.a429_cli.proofs.findings.diff_reply.Goals as goal
+use Rattle.a429_cli.proofs.diff.diff_reply.Goals as goal
 
 pub returns-in_err-table : goal.returns-in_err-table
 returns-in_err-table g c =

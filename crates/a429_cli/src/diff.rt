@@ -1,5 +1,5 @@
-//! The commands that look for something in tables, `lint` and `diff`: the status says whether they found it.
-ghost use Rattle.std.specs.Prelude.{◌≡◌, ◌≤◌, ◌++◌, IfOk, MatchResult};
+//! The command `diff`.
+ghost use Rattle.std.specs.Prelude.{◌≡◌, ◌++◌, IfOk, MatchResult};
 ghost use Rattle.a429_arguments.specs.Given.{form_of, has_given};
 ghost use Rattle.a429_arguments.specs.Requests.{asked_of};
 ghost use Rattle.a429_arguments.specs.declared.options.OptionName.TheVariants as option;
@@ -8,89 +8,23 @@ ghost use Rattle.a429_console.specs.RefusalText.{OrMemory};
 ghost use Rattle.a429_given.specs.GivenPlans.{IsGivenPlan, IsNoGivenPlan};
 ghost use Rattle.a429_given.specs.GivenTables.{table_names, table_texts};
 ghost use Rattle.a429_documents.specs.Diff.{diff_columns, diff_rows};
-ghost use Rattle.a429_cli.specs.Findings.{AnswersDiff, IsDiffBetween, IsFound, IsLint, IsLinted, IsNoDiffBetween, IsNoLint, found_status, names_of, other_table};
+ghost use Rattle.a429_cli.specs.Findings.{AnswersDiff, IsDiffBetween, IsFound, IsNoDiffBetween, other_table};
 ghost use Rattle.a429_cli.specs.Stamping.{IsStamped, stamp_line};
 ghost use Rattle.a429_console.specs.WholeReplies.{Replies};
 
-use crate::stamping::{stamped, stamped_both};
+use crate::found::found_reply;
+use crate::stamping::stamped_both;
 use a429_arguments::options::OptionName;
 use a429_arguments::requests::Asked;
 use a429_console::answered::Found;
 use a429_console::files::FileReader;
-use a429_console::files::reading::read_file;
-use a429_console::planning::read_table;
 use a429_console::refusals::Refused;
 use a429_console::reply::Reply;
-use a429_documents::{TableFile, diff_sheet, lint_sheet};
-use a429_equipment::Equipment;
+use a429_documents::{TableFile, diff_sheet};
 use a429_given::{GivenTable, TableNames};
 use a429_slots::{OUTPUTS, Proposal};
-use a429_text::{Rows, Sheet, SheetForm};
+use a429_text::SheetForm;
 use std::alloc::{AllocError, Global};
-
-/// The status that belongs to rows: 0 if there is none, otherwise 1. Error: an allocation for a row failed.
-fn found_status(rows: &Rows) -> Result<u8, AllocError>
-    ensures due { IfOk result (λ status. status ≡ found_status rows.now) }
-    ensures few { IfOk result (λ status. status ≤ 1) }
-{
-    let rows = rows.as_slice()?;
-    Ok(if rows.is_empty() { 0 } else { 1 })
-}
-
-/// Rows that were found, in a form. Error: an allocation failed.
-fn found_reply(alloc: Global, sheet: &Sheet, form: SheetForm) -> Result<Reply, AllocError>
-    ensures { IfOk result (λ reply. IsFound form (names_of sheet.now) sheet.now.rows reply.status reply.bytes.items) }
-{
-    let status = found_status(&sheet.rows)?;
-    let bytes = sheet.render(alloc, form)?;
-    Ok(Reply {
-        bytes,
-        status,
-        found: Found::Nothing,
-    })
-}
-
-/// The likely mistakes in an equipment. Its rows are left for a hint.
-fn lint(alloc: Global, equipment: &Equipment, form: SheetForm) -> Result<Reply, AllocError>
-    ensures { IfOk result (λ reply. IsLint form equipment.now reply.status reply.bytes.items) }
-{
-    let sheet = lint_sheet(alloc, equipment)?;
-    let reply = found_reply(alloc, &sheet, form)?;
-    Ok(reply.with(Found::Rows(sheet)))
-}
-
-/// The likely mistakes in the equipment of a table, as asked for.
-fn stamped_lint(
-    alloc: Global,
-    asked: &Asked,
-    table: &[u8],
-    equipment: &Equipment,
-) -> Result<Reply, AllocError>
-    ensures { IfOk result (λ reply. IsStamped (asked_of asked.now).given (stamp_line (asked_of asked.now).first table.now)
-        (IsLint (form_of (asked_of asked.now).given) equipment.now) reply.status reply.bytes.items) }
-{
-    let reply = lint(alloc, equipment, asked.form())?;
-    let file = TableFile {
-        name: asked.first,
-        bytes: table,
-    };
-    stamped(alloc, asked, file, reply)
-}
-
-/// The likely mistakes in the table in a file, a row for each finding. The status is 0 if there is none, otherwise 1.
-/// Errors, in this order: the file is refused, or the table has a fault. `Memory` if an allocation fails.
-pub fn lint_reply<F: FileReader>(
-    alloc: Global,
-    files: &mut F,
-    asked: &Asked,
-) -> Result<Reply, Refused>
-    ensures { HasRead F.answers (λ file. Replies (IsLinted file (asked_of asked.now))
-        (IsNoLint file (asked_of asked.now).first) result) files.old files.new }
-{
-    let table = read_file(alloc, files, asked.first)?;
-    let equipment = read_table(alloc, &table)?;
-    Ok(stamped_lint(alloc, asked, &table, &equipment)?)
-}
 
 /// The plan of the second of two tables. Error: there is none.
 fn propose_second(alloc: Global, table: &GivenTable) -> Result<Proposal<OUTPUTS>, Refused>
@@ -134,7 +68,7 @@ fn diff_between(
     Ok(diff_of(alloc, &first, &second, all, form)?)
 }
 
-/// The same, as asked for.
+/// What changes from one plan to another, as asked for.
 fn stamped_diff(
     alloc: Global,
     asked: &Asked,
