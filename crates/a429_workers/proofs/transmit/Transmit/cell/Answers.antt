@@ -31,7 +31,7 @@ returns-clause-stands c = λ b made S known.
     let rs = c.word_for.new.sends in
     let bus = c.in-Some.bus in
     let slot = c.in-Some.in_frame in
-    let w : Transmitting = record { transmitter = t; watcher = inside.watcher; frame = c.output_in-due.new.self; number = inside.number; sends = rs } in
+    let w : Transmitting = record { transmitter = t; watcher = inside.watcher; frame = c.cell.new.self; number = inside.number; sends = rs } in
     let table : c.cell.new.self.table ≡ v.frame.table = ap (λ (f : FrameState). f.table) c.cell.ensures.after ∙ same_table v.frame in
     let due : c.output_in-due.result ≡ option_map due_of (output_in v.frame.table bus slot) =
     c.output_in-due.ensures.output ∙ ap (λ (p : SlotTable). option_map due_of (output_in p bus slot)) table in
@@ -40,5 +40,5 @@ returns-clause-stands c = λ b made S known.
     (subst (λ (d : Option Due). IsDone v.transmitter v.sends (c.first-first.result + slot) d c.word_for.result t rs) due c.word_for.ensures.done) in
     let made_it = cell_made law b made v (bus, slot) c.word_for.result t rs c.self.invariant.0 (sym c.cell.ensures.due ∙ c.in-Some.is) c.word_for.ensures.hub c.word_for.ensures.group done old in
     subst (λ (x : Transmitting). HasMade b (made ++ cell_call (Ok (record { bus = bus; slot = c.first-first.result + slot; word = c.word_for.result })) (loads_since x w) ∷ []) w) c.self.view_is
-    (subst (λ (f : FrameState). HasMade b (made ++ cell_call (Ok (record { bus = bus; slot = c.first-first.result + slot; word = c.word_for.result })) (loads_since v (record w { frame = f })) ∷ []) (record w { frame = f })) (sym (c.output_in-due.ensures.same ∙ c.cell.ensures.after))
+    (subst (λ (f : FrameState). HasMade b (made ++ cell_call (Ok (record { bus = bus; slot = c.first-first.result + slot; word = c.word_for.result })) (loads_since v (record w { frame = f })) ∷ []) (record w { frame = f })) (sym c.cell.ensures.after)
     (subst (λ (n : ℕ). HasMade b (made ++ cell_call (Ok (record { bus = bus; slot = n + slot; word = c.word_for.result })) (loads_since v (moved v t rs)) ∷ []) (moved v t rs)) (sym c.first-first.ensures) made_it))
