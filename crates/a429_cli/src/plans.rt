@@ -26,7 +26,7 @@ use a429_console::files::FileReader;
 use a429_console::planning::with_plan;
 use a429_console::refusals::{CommandRefusal, Refused};
 use a429_console::reply::Reply;
-use a429_documents::{SOURCE, TableFile, buses_sheet, icd_sheet, margin_sheet, render_kept};
+use a429_documents::{PlanSheet, SOURCE, TableFile, margin_sheet, plan_sheet, render_kept};
 use a429_given::{GivenTable, TableNames};
 use a429_slots::{OUTPUTS, Proposal};
 use a429_text::SheetForm;
@@ -53,7 +53,7 @@ fn icd_of(
     ensures { IfOk result (λ reply. (reply.bytes.items ≡ kept_sheet form (kept_texts table.now) icd_columns 2
         (icd_rows keeps_zeros proposal.now.station proposal.now.plan)) × (reply.status ≡ 0)) }
 {
-    let sheet = icd_sheet(alloc, proposal, keeps_zeros);
+    let sheet = plan_sheet(alloc, proposal, PlanSheet::Icd(keeps_zeros), None);
     Ok(Reply::done(render_kept(alloc, form, table, &sheet, SOURCE)?))
 }
 
@@ -79,7 +79,7 @@ fn buses_of(
     ensures { IfOk result (λ reply. (reply.bytes.items ≡ sheet_text form buses_columns
         (buses_rows proposal.now.station proposal.now.plan)) × (reply.status ≡ 0)) }
 {
-    let text = buses_sheet(alloc, proposal).render(alloc, form)?;
+    let text = plan_sheet(alloc, proposal, PlanSheet::Buses, None).render(alloc, form)?;
     Ok(Reply::done(text))
 }
 

@@ -3,7 +3,8 @@ pub mod Margins
 pub mod Drawings
 pub mod MarkedCells
 pub mod MarginGroups
-pub mod DocumentRows
+pub mod PlannedGroups
+pub mod IcdRows
 pub mod Findings
 pub mod Changes
 pub mod NoRows

@@ -31,7 +31,7 @@ use Rattle.a429_cert.specs.PlanText.{listing_of, placed_listing, source_name, st
 use Rattle.a429_cert.specs.Spelling.{Listing}
 use Rattle.a429_documents.specs.declared.diff.sides.Compared.{Compared}
 use Rattle.a429_documents.specs.Diff.{Both, Sent, both_rows, change_row, change_rows, compared_at, compared_change, each_of, only_rows, has_moved, is_moved, kept_rows, kept_subject, moved_in, name_at, no_gap, number_named, of_group, of_output, other_of, output_named, outputs_rows, size_change, size_rows, with_number}
-use Rattle.a429_documents.proofs.DocumentRows.{served_length}
+use Rattle.a429_documents.proofs.PlannedGroups.{served_length}
 use Rattle.a429_documents.proofs.Findings.{paired}
 use Rattle.a429_documents.proofs.Losses.{found_or_not}
 use Rattle.a429_documents.proofs.NoRows.{compared_is, none_counted, none_each, none_number, none_parts, one_none, row_none}

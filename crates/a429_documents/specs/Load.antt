@@ -10,6 +10,7 @@ use Rattle.a429_equipment.specs.declared.rows.SourceRow.{SourceRow}
 use Rattle.a429_slots.specs.Planned.{IsPlannedFor}
 use Rattle.a429_slots.specs.Tables.{SlotTable, PlanTable, cell_at, frame_of, buses_of, groups_of, outputs_of}
 use Rattle.a429_documents.specs.Limits.{AreNeeded, needed_buses}
+use Rattle.a429_documents.specs.PlannedGroups.{PlannedGroup, of_groups}
 use Rattle.a429_documents.specs.declared.load.row.Buses.{Buses}
 use Rattle.a429_documents.specs.declared.load.row.Buses.TheVariants.{One, All}
 
@@ -132,18 +133,12 @@ abbrev pub total_rows : Option ℕ → GroupRow → SlotTable → List (List Fie
 total_rows limit g t = bus_rows_of g t All (needed_field limit t)
 
 -- the rows of each bus of a group, and then those of all its buses
-abbrev pub group_rows : Option ℕ → GroupRow → SlotTable → List (List Field)
-group_rows limit g t = flat_map (bus_rows g t) (range_with_len 0 (buses_of t)) ++ total_rows limit g t
-
--- the rows of each group, in table order
-unfoldable pub groups_rows : Option ℕ → List GroupRow → List SlotTable → List (List Field)
-groups_rows limit [] ts = []
-groups_rows limit (g ∷ gs) [] = []
-groups_rows limit (g ∷ gs) (t ∷ ts) = group_rows limit g t ++ groups_rows limit gs ts
+abbrev pub group_rows : Option ℕ → PlannedGroup → List (List Field)
+group_rows limit g = flat_map (bus_rows g.row g.table) (range_with_len 0 (buses_of g.table)) ++ total_rows limit g.row g.table
 
 -- the rows of a plan
 abbrev pub load_rows : Option ℕ → TableRecord → PlanTable → List (List Field)
-load_rows limit e p = groups_rows limit e.groups (groups_of p)
+load_rows limit e p = of_groups (group_rows limit) e p None
 
 -- some bus of the plan is above the limit
 abbrev pub any_above : Option ℕ → PlanTable → Bool

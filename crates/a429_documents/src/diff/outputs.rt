@@ -264,7 +264,7 @@ fn is_moved(group: &Both<'_>, output: OutputId) -> bool
 }
 
 /// How many outputs of a group have moved.
-#[tactic(auto, using(crate::proofs::Changes::sums_more))]
+#[tactic(auto, using(crate::proofs::Drawings::summed_more))]
 fn moved_in(group: &Both<'_>) -> u64
     ensures count { result ≡ moved_in group.now }
     ensures few { result ≤ 128 }
@@ -291,7 +291,7 @@ fn moved_of(a: &Proposal<OUTPUTS>, b: &Proposal<OUTPUTS>, group: usize) -> u64
 }
 
 /// How many outputs of all groups have moved.
-#[tactic(auto, using(crate::proofs::Changes::sums_more))]
+#[tactic(auto, using(crate::proofs::Drawings::summed_more))]
 fn moved_count(a: &Proposal<OUTPUTS>, b: &Proposal<OUTPUTS>) -> u64
     ensures { result ≡ moved_count a.now b.now }
 {
