@@ -30,7 +30,6 @@ pub mod laws;
 mod lines;
 mod live;
 mod loads;
-mod plan_rows;
 mod plans;
 mod program;
 mod slots;

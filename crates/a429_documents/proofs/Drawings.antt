@@ -1,5 +1,5 @@
 -- Sums and lists over a range of numbers, such as the height and the marks of an image; and pieces of a text.
-use Rattle.std.proofs.Common.{◌≡◌, ℕ, suc, ◌+◌, List, [], ◌∷◌, ◌++◌, ap, sym, arith, ◌∙◌, append_assoc}
+use Rattle.std.proofs.Common.{◌≡◌, ℕ, suc, ◌+◌, List, [], ◌∷◌, ◌++◌, ap, sym, refl, arith, ◌∙◌, append_assoc}
 use Rattle.std.specs.List.{flat_map, range_with_len, sum_by}
 use Rattle.std.proofs.lemmas.List.{flat_map_more}
 use Rattle.std.proofs.lemmas.List.Sums.{sum_by_push}
@@ -29,3 +29,10 @@ gathered_from f old now new first k so more =
 
 pub gathered_more : {X : Type 0} (f : ℕ → List X) (old now new : List X) (k : ℕ) → now ≡ old ++ flat_map f (range_with_len 0 k) → new ≡ now ++ f k → new ≡ old ++ flat_map f (range_with_len 0 (k + 1))
 gathered_more f old now new k so more = let same : k ≡ 0 + k = omega arith in gathered_from f old now new 0 k so (more ∙ ap (λ j. now ++ f j) same)
+
+-- the same as an equation, for loops that add what each number gives
+pub flat_from : {X : Type 0} (old : List X) (f : ℕ → List X) (first k : ℕ) → old ++ flat_map f (range_with_len first (k + 1)) ≡ (old ++ flat_map f (range_with_len first k)) ++ f (first + k)
+flat_from old f first k = sym (gathered_from f old _ _ first k refl refl)
+
+pub flat_more : {X : Type 0} (old : List X) (f : ℕ → List X) (k : ℕ) → old ++ flat_map f (range_with_len 0 (k + 1)) ≡ (old ++ flat_map f (range_with_len 0 k)) ++ f k
+flat_more old f k = sym (gathered_more f old _ _ k refl refl)

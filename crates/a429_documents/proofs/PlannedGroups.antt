@@ -2,12 +2,14 @@
 use Rattle.std.proofs.Common.{◌≡◌, ◌∙◌, ℕ, zero, suc, ◌<◌, ◌≤◌, List, [], ◌∷◌, arith, ap, get_or, length, map, refl, subst, sym}
 use Rattle.std.specs.List.{AllByRecursion, AllZip, zip}
 use Rattle.std.specs.Prelude.{Some, option_map, slice_get}
-use Rattle.std.proofs.lemmas.Option.{same_Some, slice_get-get_or}
+use Rattle.std.proofs.lemmas.List.{get_or_default}
+use Rattle.std.proofs.lemmas.Option.{get_or_from_slice_get, same_Some, slice_get-get_or}
 use Rattle.a429_word.proofs.Lists.{all_at}
 use Rattle.a429_equipment.specs.Sound.{IsGroupRow, IsInterval, IsSound}
 use Rattle.a429_equipment.specs.TableRecord.{TableRecord, outputs_in}
 use Rattle.a429_equipment.specs.declared.rows.GroupRow.{GroupRow}
 use Rattle.a429_equipment.specs.declared.rows.OutputRow.{OutputRow}
+use Rattle.a429_equipment.specs.declared.rows.ReceiverRow.{ReceiverRow}
 use Rattle.a429_equipment.specs.declared.rows.SourceRow.{SourceRow}
 use Rattle.a429_slots.specs.declared.group_plan.SendLimits.{SendLimits}
 use Rattle.a429_slots.specs.declared.group_plan.SlotPlace.{SlotPlace}
@@ -15,7 +17,7 @@ use Rattle.a429_slots.specs.Planned.{IsPlanOf, IsPlannedAt, IsPlannedFor, IsServ
 use Rattle.a429_slots.specs.Tables.{Placed, SlotTable, PlanTable, groups_of, limits_of, no_table, outputs_of, place_of, placed_at, source_of}
 use Rattle.a429_slots.proofs.Cells.{output_is}
 use Rattle.a429_slots.proofs.Known.{served_known}
-use Rattle.a429_documents.specs.PlannedGroups.{IsPlannedGroup, PlannedGroup, group_at, no_group}
+use Rattle.a429_documents.specs.PlannedGroups.{IsPlannedGroup, PlannedGroup, group_at, no_group, no_output, no_source, output_at}
 
 -- as many outputs in the table as rows
 pub served_length : (rate : ℕ) (rows : List OutputRow) (placed : List Placed) → AllZip (IsServed rate) rows placed → length rows ≡ length placed
@@ -56,6 +58,17 @@ module _ (e : TableRecord) (p : PlanTable) (n : ℕ) (sound : IsSound e) (planne
         planned = for_it;
       }
 
+-- a group that is put together of what a proposal gives
+pub group_is : (e own : TableRecord) (p plan : PlanTable) (n : ℕ) (groups : List GroupRow) (row : GroupRow) (rows : List OutputRow) (t : SlotTable) → own ≡ e → plan ≡ p → groups ≡ own.groups
+    → n < length groups → row ≡ get_or groups n row → slice_get own.outputs n ≡ Some rows → slice_get (groups_of plan) n ≡ Some t
+    → record { station = own; row = row; rows = rows; table = t } ≡ group_at e p n
+unfolding group_at
+group_is e own p plan n groups row rows t same same_plan of below is listed there =
+    let named : row ≡ get_or groups n no_group = is ∙ get_or_default groups n row no_group below in
+    let outputs : get_or own.outputs n [] ≡ rows = get_or_from_slice_get own.outputs n rows [] listed in
+    let table : get_or (groups_of plan) n no_table ≡ t = get_or_from_slice_get (groups_of plan) n t no_table there in
+    cc
+
 -- ---- what a slot table says of an output
 
 module _ (t : SlotTable) (o : ℕ) (below : o < length (outputs_of t)) where
@@ -70,3 +83,18 @@ module _ (t : SlotTable) (o : ℕ) (below : o < length (outputs_of t)) where
 
   pub limited_there : (limits : SendLimits) → limits_of t o ≡ Some limits → limits ≡ (placed_at t o).limits
   limited_there limits told = part_is (λ p. p.limits) limits told
+
+-- an output that is put together of what a slot table gives
+pub output_is_there : (g : PlannedGroup) (n o number : ℕ) (receivers : List ReceiverRow) (sources : List SourceRow) (source : SourceRow) (place : SlotPlace) (limits : SendLimits)
+    → n < length (outputs_of g.table) → AllByRecursion (λ o. o.source < length g.station.sources) (outputs_of g.table) → o ≡ n → receivers ≡ g.station.receivers → sources ≡ g.station.sources
+    → source_of g.table o ≡ Some number → source ≡ get_or sources number source → place_of g.table o ≡ Some place → limits_of g.table o ≡ Some limits
+    → record { receivers = receivers; group = g.row; source = source; row = get_or g.rows n no_output; place = place; limits = limits } ≡ output_at g n
+unfolding output_at
+output_is_there g n o number receivers sources source place limits below known same of_receivers of_sources sent is at limited =
+    let sent_is : number ≡ (placed_at g.table n).source = sent_there g.table n below number (subst (λ (o : ℕ). source_of g.table o ≡ Some number) same sent) in
+    let at_is : place ≡ (placed_at g.table n).place = placed_there g.table n below place (subst (λ (o : ℕ). place_of g.table o ≡ Some place) same at) in
+    let limited_is : limits ≡ (placed_at g.table n).limits = limited_there g.table n below limits (subst (λ (o : ℕ). limits_of g.table o ≡ Some limits) same limited) in
+    let inside : (placed_at g.table n).source < length g.station.sources = all_at (λ o. o.source < length g.station.sources) (outputs_of g.table) n (placed_at g.table n) known (output_is g.table n below) in
+    let listed : number < length sources = omega (arith, sent_is, inside, ap length of_sources) in
+    let named : source ≡ get_or sources number no_source = is ∙ get_or_default sources number source no_source listed in
+    cc

@@ -15,5 +15,6 @@ pub mod SlotBoard
 pub mod SlotNames
 pub mod SlotColumns
 pub mod KeptColumns
+pub mod PlanRows
 pub mod PlanSheets
 pub mod Stamps

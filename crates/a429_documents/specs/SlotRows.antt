@@ -1,6 +1,6 @@
 -- The slot tables of a plan as rows: the names of the columns, and a row for each cell that has an output
 -- (profile: docs/FORMATS.md, Output of `slots`).
-use Rattle.std.specs.Prelude.{◌≡◌, ◌<◌, ◌↔◌, ◌^◌, ℕ, Bool, false, List, [], ◌∷◌, ◌++◌, Option, Some, codes, if◌then◌else◌}
+use Rattle.std.specs.Prelude.{◌≡◌, ◌<◌, ◌↔◌, ◌^◌, ℕ, Bool, false, List, [], ◌∷◌, ◌++◌, Option, Some, codes, if◌then◌else◌, length}
 use Rattle.std.specs.List.{IsAmong, flat_map, range_with_len}
 use Rattle.std.specs.Option.{option_map_or}
 use Rattle.a429_text.specs.Fields.{Field, Text, Number}

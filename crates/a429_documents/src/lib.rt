@@ -12,7 +12,7 @@
 //! Errors: each call fails if an allocation fails. `Drawing::of` also fails if the image is too high.
 //!
 //! ```text
-//! let sheet = plan_sheet(alloc, proposal, PlanSheet::Buses, None);
+//! let sheet = plan_sheet(alloc, proposal, PlanSheet::Icd(keeps_zeros), None);
 //! ..
 //! let text = margin_sheet(alloc, proposal)?.render(alloc, form)?;
 //! ```
@@ -28,6 +28,7 @@ mod lint;
 mod load;
 mod margin;
 mod page;
+mod plan;
 mod planned;
 mod sheets;
 mod slots;

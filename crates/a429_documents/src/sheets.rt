@@ -7,7 +7,7 @@ ghost use Rattle.a429_documents.specs.PlannedGroups.{of_groups};
 use crate::drawing::group_range;
 use crate::planned::PlannedGroup;
 use crate::slots::board;
-use crate::{buses, document, load, slots};
+use crate::{buses, document, load, plan, slots};
 use a429_equipment::Equipment;
 use a429_slots::{OUTPUTS, Proposal};
 use a429_text::{Rows, Sheet};
@@ -17,6 +17,10 @@ use std::alloc::Global;
 /// frame; a slot lasts 36 bit times. A bit rate is in bit/s. Times are in whole microseconds, rounded up.
 #[derive(Clone, Copy)]
 pub enum PlanSheet {
+    /// The plan itself: a row for each output, the outputs of a group in layout order. Each row has the version of the table.
+    /// Of the group it has the bit rate, the frame in slots, the number of buses, and how many cells of a frame the outputs
+    /// fill.
+    Plan,
     /// The interface control document: a row for each output, in table order. A period is in slots, and in microseconds. The
     /// latency is the longest time, within one plan, from the acceptance of a word until it, or a later word of its source,
     /// was sent completely: a period and one slot. A label is in octal; with `true` as a formula, such as `="003"`, so that a
@@ -48,6 +52,7 @@ fn columns_of(sheet: PlanSheet) -> &'static [&'static str]
     ensures { map (λ name. name.now) result.now ≡ sheet_columns sheet }
 {
     match sheet {
+        PlanSheet::Plan => plan::COLUMNS,
         PlanSheet::Icd(_) => document::COLUMNS,
         PlanSheet::Load(_) => load::COLUMNS,
         PlanSheet::Slots(_) => slots::COLUMNS,
@@ -71,6 +76,7 @@ fn add_group(rows: &mut Rows, sheet: PlanSheet, group: &PlannedGroup<'_>)
     ensures { rows.new ≡ rows.old ++ group_rows sheet group.now }
 {
     match sheet {
+        PlanSheet::Plan => plan::add_outputs(rows, group),
         PlanSheet::Icd(keeps_zeros) => document::add_outputs(rows, keeps_zeros, group),
         PlanSheet::Load(limit) => load::add_group(rows, limit, group),
         PlanSheet::Slots(all) => slots::add_frame(rows, all, group),
@@ -80,6 +86,7 @@ fn add_group(rows: &mut Rows, sheet: PlanSheet, group: &PlannedGroup<'_>)
 }
 
 /// Adds the rows of one group of a plan, or of all in table order.
+#[tactic(auto, using(crate::proofs::Drawings::flat_from))]
 fn add_groups(rows: &mut Rows, sheet: PlanSheet, proposal: &Proposal<OUTPUTS>, group: Option<usize>)
     requires limit { HasLimit sheet }
     requires known { IfSome group (λ group. group < length (groups_of proposal.now.plan)) }

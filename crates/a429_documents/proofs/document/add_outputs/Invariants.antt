@@ -1,4 +1,4 @@
-use Rattle.std.proofs.Common.{◌≡◌, ◌++◌}
+use Rattle.std.proofs.Common.{◌≡◌, ◌++◌, ◌∷◌, []}
 use Rattle.std.specs.List.{flat_map, range_with_len}
 use Rattle.a429_documents.specs.Document.{output_row}
 use Rattle.a429_documents.specs.PlannedGroups.{output_at}

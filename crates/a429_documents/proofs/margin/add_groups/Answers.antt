@@ -1,6 +1,6 @@
 use Rattle.std.proofs.Common.{◌≡◌, ◌+◌, ◌++◌, ◌∙◌, [], ℕ, suc, List, ap, append-nil, append_assoc, arith, length, refl, subst, sym}
 use Rattle.a429_text.specs.Fields.{Field}
-use Rattle.a429_slots.specs.Tables.{groups_of}
+use Rattle.a429_slots.specs.Tables.{PlanTable, groups_of}
 use Rattle.a429_documents.specs.Margins.{AreMargins, IsGroupMargin}
 use Rattle.a429_documents.specs.PlannedGroups.{PlannedGroup}
 use Rattle.a429_documents.proofs.margin.add_groups.Goals as goal
@@ -22,5 +22,5 @@ loop-number-preserved c =
 pub returns : goal.returns
 returns c =
     let (part, are, so) = c.loop-number.invariant in
-    let all : c.loop-number.number ≡ length (groups_of c.args.proposal.now.plan) = ? in
+    let all : c.loop-number.number ≡ length (groups_of c.args.proposal.now.plan) = omega (arith, c.loop-number-test.false, c.loop-number.auto.number-end, c.groups-number-end.ensures.value, ap (λ (p : PlanTable). length (groups_of p)) c.plan.ensures.plan) in
     (part, subst (λ (n : ℕ). AreMargins c.args.proposal.now.station c.args.proposal.now.plan n part) all are, so)
