@@ -19,7 +19,7 @@ use Rattle.a429_slots.specs.Tables.{SlotTable, buses_of, cell_at, frame_of}
 use Rattle.a429_documents.specs.Limits.{demand_from, if_from}
 use Rattle.a429_documents.specs.Load.{bus_rows, group_rows, total_rows}
 use Rattle.a429_documents.specs.PlannedGroups.{PlannedGroup}
-use Rattle.a429_documents.proofs.Drawings.{range_more}
+use Rattle.a429_documents.proofs.Ranges.{range_more}
 
 -- ---- one more of a list
 

@@ -1,6 +1,6 @@
 pub mod Wider
 pub mod Margins
-pub mod Drawings
+pub mod Ranges
 pub mod MarkedCells
 pub mod MarginGroups
 pub mod PlannedGroups

@@ -85,7 +85,7 @@ fn add_output(rows: &mut Rows, bus: u32, output: &PlannedOutput<'_>)
 }
 
 /// Adds the rows of the words that a group sends on a bus, in table order.
-#[tactic(auto, using(crate::proofs::Drawings::flat_more))]
+#[tactic(auto, using(crate::proofs::Ranges::flat_more))]
 fn add_bus(rows: &mut Rows, group: &PlannedGroup<'_>, bus: u32)
     ensures { rows.new ≡ rows.old ++ sent_rows group.now bus }
 {
@@ -95,7 +95,7 @@ fn add_bus(rows: &mut Rows, group: &PlannedGroup<'_>, bus: u32)
 }
 
 /// Adds the rows of the words that a group sends, bus by bus.
-#[tactic(auto, using(crate::proofs::Drawings::flat_more))]
+#[tactic(auto, using(crate::proofs::Ranges::flat_more))]
 pub fn add_buses(rows: &mut Rows, group: &PlannedGroup<'_>)
     ensures { rows.new ≡ rows.old ++ group_rows group.now }
 {

@@ -117,7 +117,7 @@ fn add_row(rows: &mut Rows, keeps_zeros: bool, output: &PlannedOutput<'_>)
 }
 
 /// Adds a row for each output of a group, in table order.
-#[tactic(auto, using(crate::proofs::Drawings::flat_more))]
+#[tactic(auto, using(crate::proofs::Ranges::flat_more))]
 pub fn add_outputs(rows: &mut Rows, keeps_zeros: bool, group: &PlannedGroup<'_>)
     ensures { rows.new ≡ rows.old ++ group_rows keeps_zeros group.now }
 {

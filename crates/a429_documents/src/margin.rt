@@ -130,7 +130,7 @@ fn add_output(rows: &mut Rows, frame: u32, chosen: bool, output: &PlannedOutput<
 }
 
 /// Adds the rows of a group's outputs, in table order.
-#[tactic(auto, using(crate::proofs::Drawings::flat_more))]
+#[tactic(auto, using(crate::proofs::Ranges::flat_more))]
 fn add_outputs(rows: &mut Rows, group: &PlannedGroup<'_>, chosen: Option<&[bool]>)
     ensures { rows.new ≡ rows.old ++ outputs_margin group.now (option_copied chosen.entry) }
 {

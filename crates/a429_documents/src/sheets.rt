@@ -86,7 +86,7 @@ fn add_group(rows: &mut Rows, sheet: PlanSheet, group: &PlannedGroup<'_>)
 }
 
 /// Adds the rows of one group of a plan, or of all in table order.
-#[tactic(auto, using(crate::proofs::Drawings::flat_from))]
+#[tactic(auto, using(crate::proofs::Ranges::flat_from))]
 fn add_groups(rows: &mut Rows, sheet: PlanSheet, proposal: &Proposal<OUTPUTS>, group: Option<usize>)
     requires limit { HasLimit sheet }
     requires known { IfSome group (λ group. group < length (groups_of proposal.now.plan)) }

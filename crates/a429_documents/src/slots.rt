@@ -88,7 +88,7 @@ fn add_cell(rows: &mut Rows, all: bool, group: &PlannedGroup<'_>, slot: u32, bus
 }
 
 /// Adds the rows of a slot, bus by bus.
-#[tactic(auto, using(crate::proofs::Drawings::flat_more))]
+#[tactic(auto, using(crate::proofs::Ranges::flat_more))]
 fn add_slot(rows: &mut Rows, all: bool, group: &PlannedGroup<'_>, slot: u32)
     ensures { rows.new ≡ rows.old ++ rows_in_slot all group.now slot }
 {
@@ -98,7 +98,7 @@ fn add_slot(rows: &mut Rows, all: bool, group: &PlannedGroup<'_>, slot: u32)
 }
 
 /// Adds the rows of a group, slot by slot.
-#[tactic(auto, using(crate::proofs::Drawings::flat_more))]
+#[tactic(auto, using(crate::proofs::Ranges::flat_more))]
 pub fn add_frame(rows: &mut Rows, all: bool, group: &PlannedGroup<'_>)
     ensures { rows.new ≡ rows.old ++ rows_in_frame all group.now }
 {

@@ -92,7 +92,7 @@ fn add_unfit(
 }
 
 /// Adds the outputs that have no grid period.
-#[tactic(auto, using(crate::proofs::Drawings::flat_more))]
+#[tactic(auto, using(crate::proofs::Ranges::flat_more))]
 fn add_unfits(
     found: &mut Rows,
     sources: &[SourceRow],
@@ -189,7 +189,7 @@ fn add_alike(
 }
 
 /// Adds an output with each later one that a display cannot distinguish from it.
-#[tactic(auto, using(crate::proofs::Drawings::flat_more))]
+#[tactic(auto, using(crate::proofs::Ranges::flat_more))]
 fn add_alikes_of(
     found: &mut Rows,
     sources: &[SourceRow],
@@ -209,7 +209,7 @@ fn add_alikes_of(
 }
 
 /// Adds the outputs that a display cannot distinguish.
-#[tactic(auto, using(crate::proofs::Drawings::flat_more))]
+#[tactic(auto, using(crate::proofs::Ranges::flat_more))]
 fn add_alikes(
     found: &mut Rows,
     sources: &[SourceRow],

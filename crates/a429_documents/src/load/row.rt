@@ -162,7 +162,7 @@ pub fn add_rows(
 }
 
 /// Adds the rows of each bus of a group, from 0.
-#[tactic(auto, using(crate::proofs::Drawings::flat_more))]
+#[tactic(auto, using(crate::proofs::Ranges::flat_more))]
 pub fn add_buses(rows: &mut Rows, group: &GroupRow, table: &GroupPlan<OUTPUTS>, loads: &[u32])
     requires rate { group.now.rate ≤ 100000 }
     requires loads { loads.now ≡ loads_of table.now }

@@ -55,7 +55,7 @@ fn add_cell(rows: &mut Rows, group: &PlannedGroup<'_>, bus: u32, slot: u32)
 }
 
 /// Adds the rows of a bus, slot by slot.
-#[tactic(auto, using(crate::proofs::Drawings::flat_more))]
+#[tactic(auto, using(crate::proofs::Ranges::flat_more))]
 fn add_bus(rows: &mut Rows, group: &PlannedGroup<'_>, bus: u32)
     ensures { rows.new ≡ rows.old ++ board_bus group.now bus }
 {
@@ -65,7 +65,7 @@ fn add_bus(rows: &mut Rows, group: &PlannedGroup<'_>, bus: u32)
 }
 
 /// Adds the rows of a group, bus by bus.
-#[tactic(auto, using(crate::proofs::Drawings::flat_more))]
+#[tactic(auto, using(crate::proofs::Ranges::flat_more))]
 pub fn add_buses(rows: &mut Rows, group: &PlannedGroup<'_>)
     ensures { rows.new ≡ rows.old ++ board_group group.now }
 {

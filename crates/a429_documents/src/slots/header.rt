@@ -64,7 +64,7 @@ fn put_line(text: &mut Text, number: usize, output: &PlannedOutput<'_>)
 }
 
 /// Writes a line for each output, in table order.
-#[tactic(auto, using(crate::proofs::Drawings::flat_more))]
+#[tactic(auto, using(crate::proofs::Ranges::flat_more))]
 fn put_outputs(text: &mut Text, group: &PlannedGroup<'_>)
     ensures { text.new ≡ text.old ++ output_lines group.now }
 {
@@ -140,7 +140,7 @@ fn put_element(text: &mut Text, table: &GroupPlan<OUTPUTS>, bus: u32, slot: u32)
 }
 
 /// Writes the elements of a bus, slot by slot.
-#[tactic(auto, using(crate::proofs::Drawings::flat_more))]
+#[tactic(auto, using(crate::proofs::Ranges::flat_more))]
 fn put_bus(text: &mut Text, table: &GroupPlan<OUTPUTS>, bus: u32)
     ensures { text.new ≡ text.old ++ bus_elements table.now bus }
 {
@@ -150,7 +150,7 @@ fn put_bus(text: &mut Text, table: &GroupPlan<OUTPUTS>, bus: u32)
 }
 
 /// Writes the elements of a group, bus by bus.
-#[tactic(auto, using(crate::proofs::Drawings::flat_more))]
+#[tactic(auto, using(crate::proofs::Ranges::flat_more))]
 fn put_elements(text: &mut Text, table: &GroupPlan<OUTPUTS>)
     ensures { text.new ≡ text.old ++ group_elements table.now }
 {
@@ -195,7 +195,7 @@ fn put_part(text: &mut Text, group: &PlannedGroup<'_>)
 }
 
 /// Writes one group of a proposal, or all in table order.
-#[tactic(auto, using(crate::proofs::Drawings::flat_from))]
+#[tactic(auto, using(crate::proofs::Ranges::flat_from))]
 fn put_parts(text: &mut Text, proposal: &Proposal<OUTPUTS>, group: Option<usize>)
     requires { IfSome group (λ group. group < length (groups_of proposal.now.plan)) }
     ensures { text.new ≡ text.old ++ of_groups group_part proposal.now.station proposal.now.plan group }

@@ -195,7 +195,7 @@ fn put_value_line(text: &mut Text, column: Column, output: &PlannedOutput<'_>)
 }
 
 /// Writes a line for each output, in table order.
-#[tactic(auto, using(crate::proofs::Drawings::flat_more))]
+#[tactic(auto, using(crate::proofs::Ranges::flat_more))]
 fn put_values(text: &mut Text, column: Column, group: &PlannedGroup<'_>)
     ensures { text.new ≡ text.old ++ value_lines column group.now }
 {

@@ -3,7 +3,7 @@ use Rattle.a429_text.specs.Fields.{Field}
 use Rattle.a429_pack.specs.Demands.{exponents_of, greatest}
 use Rattle.a429_documents.specs.Lint.{crowded_rows}
 use Rattle.a429_documents.proofs.Findings.{crowded_is}
-use Rattle.a429_documents.proofs.Drawings.{gathered_more}
+use Rattle.a429_documents.proofs.Ranges.{gathered_more}
 use Rattle.a429_documents.proofs.lint.groups.add_buses.Goals as goal
 
 pub loop-bus-preserved : goal.loop-bus-preserved

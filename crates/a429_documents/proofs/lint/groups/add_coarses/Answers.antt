@@ -5,7 +5,7 @@ use Rattle.a429_text.specs.Fields.{Field}
 use Rattle.a429_pack.specs.Demands.{demand_at}
 use Rattle.a429_pack.specs.declared.demands.Demand.{Demand}
 use Rattle.a429_documents.specs.Lint.{coarse_row, coarse_rows, max_of, output_name}
-use Rattle.a429_documents.proofs.Drawings.{gathered_more}
+use Rattle.a429_documents.proofs.Ranges.{gathered_more}
 use Rattle.a429_documents.proofs.lint.groups.add_coarses.Goals as goal
 
 pub loop-output-preserved : goal.loop-output-preserved

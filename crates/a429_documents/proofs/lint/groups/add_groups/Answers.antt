@@ -11,7 +11,7 @@ use Rattle.a429_pack.specs.declared.demands.Demand.{Demand}
 use Rattle.a429_slots.specs.Planned.{HaveSources}
 use Rattle.a429_documents.specs.Lint.{group_finding, group_rows}
 use Rattle.a429_documents.proofs.Findings.{GroupAt, asked_below, asked_each, group_is, kept_at}
-use Rattle.a429_documents.proofs.Drawings.{gathered_more}
+use Rattle.a429_documents.proofs.Ranges.{gathered_more}
 use Rattle.a429_documents.proofs.lint.groups.add_groups.Goals as goal
 
 pub bounds-asked-number : goal.bounds-asked-number

@@ -5,7 +5,7 @@ use Rattle.a429_text.specs.Fields.{Field}
 use Rattle.a429_word.proofs.Lists.{read_is}
 use Rattle.a429_equipment.specs.declared.rows.ReceiverRow.{ReceiverRow}
 use Rattle.a429_documents.specs.Lint.{twin_row, twin_rows}
-use Rattle.a429_documents.proofs.Drawings.{gathered_more}
+use Rattle.a429_documents.proofs.Ranges.{gathered_more}
 use Rattle.a429_documents.proofs.lint.receivers.add_twins.Goals as goal
 
 pub loop-later-preserved : goal.loop-later-preserved

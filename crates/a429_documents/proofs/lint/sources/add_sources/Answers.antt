@@ -6,7 +6,7 @@ use Rattle.a429_word.proofs.Lists.{read_is}
 use Rattle.a429_equipment.specs.TableRecord.{TableRecord}
 use Rattle.a429_equipment.specs.declared.rows.SourceRow.{SourceRow}
 use Rattle.a429_documents.specs.Lint.{source_finding, source_rows}
-use Rattle.a429_documents.proofs.Drawings.{gathered_more}
+use Rattle.a429_documents.proofs.Ranges.{gathered_more}
 use Rattle.a429_documents.proofs.lint.sources.add_sources.Goals as goal
 
 pub loop-number-preserved : goal.loop-number-preserved

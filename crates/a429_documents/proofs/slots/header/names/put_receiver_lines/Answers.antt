@@ -4,7 +4,7 @@ use Rattle.std.specs.Option.{option_map_or}
 use Rattle.a429_word.proofs.Lists.{read_is}
 use Rattle.a429_equipment.specs.declared.rows.ReceiverRow.{ReceiverRow}
 use Rattle.a429_documents.specs.SlotNames.{constant_line, receiver_line}
-use Rattle.a429_documents.proofs.Drawings.{gathered_more}
+use Rattle.a429_documents.proofs.Ranges.{gathered_more}
 use Rattle.a429_documents.proofs.slots.header.names.put_receiver_lines.Goals as goal
 
 pub loop-number-preserved : goal.loop-number-preserved

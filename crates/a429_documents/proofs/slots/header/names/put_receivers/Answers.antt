@@ -1,5 +1,5 @@
 use Rattle.a429_documents.specs.SlotNames.{receiver_enum}
-use Rattle.a429_documents.proofs.Drawings.{three}
+use Rattle.a429_documents.proofs.Ranges.{three}
 use Rattle.a429_documents.proofs.slots.header.names.put_receivers.Goals as goal
 
 pub returns : goal.returns

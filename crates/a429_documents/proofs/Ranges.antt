@@ -1,4 +1,4 @@
--- Sums and lists over a range of numbers, such as the height and the marks of an image; and pieces of a text.
+-- Sums and lists over a range of numbers, as loops make them; and pieces of a text.
 use Rattle.std.proofs.Common.{◌≡◌, ℕ, suc, ◌+◌, List, [], ◌∷◌, ◌++◌, ap, sym, refl, arith, ◌∙◌, append_assoc}
 use Rattle.std.specs.List.{flat_map, range_with_len, sum_by}
 use Rattle.std.proofs.lemmas.List.{flat_map_more}
