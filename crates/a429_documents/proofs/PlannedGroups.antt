@@ -59,12 +59,14 @@ module _ (e : TableRecord) (p : PlanTable) (n : ℕ) (sound : IsSound e) (planne
       }
 
 -- a group that is put together of what a proposal gives
-pub group_is : (e own : TableRecord) (p plan : PlanTable) (n : ℕ) (groups : List GroupRow) (row : GroupRow) (rows : List OutputRow) (t : SlotTable) → own ≡ e → plan ≡ p → groups ≡ own.groups
-    → n < length groups → row ≡ get_or groups n row → slice_get own.outputs n ≡ Some rows → slice_get (groups_of plan) n ≡ Some t
+pub group_is : (e own : TableRecord) (p plan : PlanTable) (n : ℕ) (groups : List GroupRow) (row : GroupRow) (rows : List OutputRow) (t : SlotTable)
+    → own ≡ e → plan ≡ p → groups ≡ own.groups → n < length (groups_of p) → length (groups_of p) ≡ length e.groups
+    → row ≡ get_or groups n row → slice_get own.outputs n ≡ Some rows → slice_get (groups_of plan) n ≡ Some t
     → record { station = own; row = row; rows = rows; table = t } ≡ group_at e p n
 unfolding group_at
-group_is e own p plan n groups row rows t same same_plan of below is listed there =
-    let named : row ≡ get_or groups n no_group = is ∙ get_or_default groups n row no_group below in
+group_is e own p plan n groups row rows t same same_plan of below count is listed there =
+    let inside : n < length groups = omega (arith, below, count, ap length of, ap (λ (e : TableRecord). length e.groups) same) in
+    let named : row ≡ get_or groups n no_group = is ∙ get_or_default groups n row no_group inside in
     let outputs : get_or own.outputs n [] ≡ rows = get_or_from_slice_get own.outputs n rows [] listed in
     let table : get_or (groups_of plan) n no_table ≡ t = get_or_from_slice_get (groups_of plan) n t no_table there in
     cc

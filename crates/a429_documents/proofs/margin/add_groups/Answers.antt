@@ -22,5 +22,7 @@ loop-number-preserved c =
 pub returns : goal.returns
 returns c =
     let (part, are, so) = c.loop-number.invariant in
-    let all : c.loop-number.number ≡ length (groups_of c.args.proposal.now.plan) = omega (arith, c.loop-number-test.false, c.loop-number.auto.number-end, c.groups-number-end.ensures.value, ap (λ (p : PlanTable). length (groups_of p)) c.plan.ensures.plan) in
+    let count = ap (λ (p : PlanTable). length (groups_of p)) c.plan.ensures.plan in
+    let all : c.loop-number.number ≡ length (groups_of c.args.proposal.now.plan) =
+    omega (arith, c.loop-number-test.false, c.loop-number.auto.number-end, c.groups-number-end.ensures.value, count) in
     (part, subst (λ (n : ℕ). AreMargins c.args.proposal.now.station c.args.proposal.now.plan n part) all are, so)
