@@ -157,8 +157,8 @@ bus_load f n i xs is below = let same : 0 + i ≡ i = omega arith in ap (λ (l :
 
 -- those of each bus, and those of all of them
 pub group_is : (limit : Option ℕ) (g : PlannedGroup) (old rows new : List (List Field))
-    → rows ≡ old ++ flat_map (bus_rows g.row g.table) (range_with_len 0 (buses_of g.table)) → new ≡ rows ++ total_rows limit g.row g.table
+    → rows ≡ old ++ flat_map (bus_rows g) (range_with_len 0 (buses_of g.table)) → new ≡ rows ++ total_rows limit g
     → new ≡ old ++ group_rows limit g
 group_is limit g old rows new so now =
-    now ∙ ap (λ (l : List (List Field)). l ++ total_rows limit g.row g.table) so
-    ∙ append_assoc old (flat_map (bus_rows g.row g.table) (range_with_len 0 (buses_of g.table))) (total_rows limit g.row g.table)
+    now ∙ ap (λ (l : List (List Field)). l ++ total_rows limit g) so
+    ∙ append_assoc old (flat_map (bus_rows g) (range_with_len 0 (buses_of g.table))) (total_rows limit g)

@@ -1,8 +1,6 @@
 //! What each bus of a plan carries, and what it has room for.
 ghost use Rattle.std.specs.Prelude.{◌≡◌, ◌≤◌, ◌++◌, IfSome};
-ghost use Rattle.a429_slots.specs.Tables.{buses_of};
-ghost use Rattle.a429_documents.specs.Limits.{AreShares};
-ghost use Rattle.a429_documents.specs.Load.{any_above, group_rows, has_above, loads_of, shares_of, total_rows};
+ghost use Rattle.a429_documents.specs.Load.{any_above, group_rows, has_above};
 
 mod cells;
 mod limit;
@@ -12,7 +10,6 @@ use crate::load::cells::loads;
 use crate::load::limit::{is_above, needed_cell};
 use crate::load::row::{Buses, add_buses, add_rows};
 use crate::planned::PlannedGroup;
-use a429_equipment::GroupRow;
 use a429_pack::laws::fewest_by_demand;
 use a429_slots::{GroupPlan, OUTPUTS, Plan};
 use a429_text::Rows;
@@ -32,26 +29,6 @@ pub const COLUMNS: &[&str] = &[
     "room",
 ];
 
-/// Adds the rows of all buses of a group together.
-fn add_total(
-    rows: &mut Rows,
-    limit: Option<u32>,
-    group: &GroupRow,
-    table: &GroupPlan<OUTPUTS>,
-    loads: &[u32],
-)
-    requires limit { IfSome limit (λ limit. limit ≤ 100) }
-    requires rate { group.now.rate ≤ 100000 }
-    requires shares { AreShares (shares_of table.now) }
-    requires some { 1 ≤ buses_of table.now }
-    requires few { buses_of table.now ≤ 16 }
-    requires loads { loads.now ≡ loads_of table.now }
-    ensures { rows.new ≡ rows.old ++ total_rows limit group.now table.now }
-{
-    let needed = needed_cell(limit, table, loads);
-    add_rows(rows, group, table, Buses::All, loads, needed);
-}
-
 /// Adds the rows of a group: those of each bus, and then those of all its buses together.
 pub fn add_group(rows: &mut Rows, limit: Option<u32>, group: &PlannedGroup<'_>)
     requires { IfSome limit (λ limit. limit ≤ 100) }
@@ -61,8 +38,9 @@ pub fn add_group(rows: &mut Rows, limit: Option<u32>, group: &PlannedGroup<'_>)
     let table = group.table;
     let all = loads(table);
     let loads = &all[..table.buses() as usize];
-    add_buses(rows, group.row, table, loads);
-    add_total(rows, limit, group.row, table, loads);
+    add_buses(rows, group, loads);
+    let needed = needed_cell(limit, table, loads);
+    add_rows(rows, group, Buses::All, loads, needed);
 }
 
 /// Whether a bus of a group has a greater load than a limit, in per cent of the slots of a frame. `false` if there is no
