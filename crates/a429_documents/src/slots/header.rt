@@ -2,7 +2,7 @@
 ghost use Rattle.std.specs.Prelude.{◌≡◌, ◌<◌, ◌++◌, IfSome, length};
 ghost use Rattle.a429_slots.specs.Tables.{groups_of};
 ghost use Rattle.a429_documents.specs.PlannedGroups.{of_groups};
-ghost use Rattle.a429_documents.specs.SlotHeader.{bus_elements, cell_number, element, element_start, group_comment, group_elements, group_part, header_start, header_text, number_macro, output_line, output_lines, sdi_text, sending_text, size_macros, slots_array, slots_check, table_enums, words_text};
+ghost use Rattle.a429_documents.specs.SlotHeader.{bus_elements, cell_number, element, element_start, group_comment, group_elements, group_part, header_start, header_text, number_macro, output_line, output_lines, sdi_text, sending_text, size_macros, slots_array, slots_check, words_text};
 
 mod columns;
 mod names;
@@ -12,8 +12,8 @@ use crate::planned::{PlannedGroup, PlannedOutput};
 use crate::slots::header::columns::{
     put_array_start, put_check_end, put_check_start, put_columns, put_group_macro,
 };
-use crate::slots::header::names::{put_receivers, put_sources};
-use a429_equipment::{Equipment, GroupRow, SourceRow};
+use crate::slots::header::names::put_enums;
+use a429_equipment::{GroupRow, SourceRow};
 use a429_slots::{GroupPlan, OUTPUTS, OutputId, Proposal};
 use a429_text::Text;
 use a429_word::Sdi;
@@ -219,15 +219,6 @@ fn put_head(text: &mut Text)
     text.put(
         "#ifndef A429_SLOTS_H\n#define A429_SLOTS_H\n\n#include <stdint.h>\n\n#define A429_EMPTY 0xFFFF\n#define A429_ANY_SDI 0xFF\n\n",
     );
-}
-
-/// Writes the receivers and the sources of a table.
-#[tactic(auto, unfolding(crate::specs::SlotHeader::table_enums))]
-fn put_enums(text: &mut Text, equipment: &Equipment)
-    ensures { text.new ≡ text.old ++ table_enums equipment.now }
-{
-    put_receivers(text, equipment.receivers());
-    put_sources(text, equipment.sources());
 }
 
 /// The slot tables of a proposal's plan as a header of C (C99, C++17), of one group or of all in table order. Enumerations
