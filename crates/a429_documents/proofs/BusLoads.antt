@@ -15,7 +15,7 @@ use Rattle.std.proofs.lemmas.Option.{same_Some}
 use Rattle.a429_word.proofs.Lists.{take_next}
 use Rattle.a429_text.specs.Fields.{Field}
 use Rattle.a429_pack.specs.Demands.{greatest}
-use Rattle.a429_slots.specs.Tables.{SlotTable, buses_of, cell_at, frame_of}
+use Rattle.a429_slots.specs.Tables.{SlotTable, buses_of, cell_at}
 use Rattle.a429_documents.specs.Limits.{demand_from, if_from}
 use Rattle.a429_documents.specs.Load.{bus_rows, group_rows, total_rows}
 use Rattle.a429_documents.specs.PlannedGroups.{PlannedGroup}

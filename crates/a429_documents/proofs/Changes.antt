@@ -1,5 +1,5 @@
 -- What the rows of `diff` are made of.
-use Rattle.std.proofs.Common.{◌≡◌, ℕ, zero, suc, ◌+◌, Bool, true, false, List, [], ◌∷◌, length, take, Some, None, ◌≤◌, ap, inl, inr, refl, sym, arith, ◌∙◌}
+use Rattle.std.proofs.Common.{◌≡◌, ℕ, zero, suc, ◌+◌, Bool, true, false, List, [], ◌∷◌, length, take, Some, None, ◌≤◌, ap, inl, inr, refl, arith, ◌∙◌}
 use Rattle.std.specs.Prelude.{Option, option_and_then, option_map, position, slice_get}
 use Rattle.std.specs.Option.{option_map_or}
 use Rattle.std.specs.List.{AllByRecursion, position_or_len}

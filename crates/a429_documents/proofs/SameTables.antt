@@ -1,5 +1,5 @@
 -- Two slot tables of which `diff` has no row state the same.
-use Rattle.std.proofs.Common.{◌≡◌, ℕ, ◌+◌, ◌-◌, ◌/◌, ◌^◌, ◌<◌, ◌≤◌, Bool, true, false, List, [], ◌∷◌, ◌++◌, length, map, take, Option, Some, ap, ap₂, sym, subst, refl, arith, inl, inr, ◌⊎◌, ◌∙◌}
+use Rattle.std.proofs.Common.{◌≡◌, ℕ, ◌-◌, ◌/◌, ◌^◌, ◌<◌, ◌≤◌, Bool, true, false, List, [], ◌∷◌, ◌++◌, length, map, Option, Some, ap, ap₂, sym, subst, refl, arith, inl, inr, ◌⊎◌, ◌∙◌}
 use Rattle.std.specs.Prelude.{codes, is_some, option_map, slice_get, slice_index, sum}
 use Rattle.std.specs.List.{AllZip}
 use Rattle.std.specs.Option.{option_map_or}
@@ -19,7 +19,6 @@ use Rattle.a429_equipment.specs.declared.rows.OutputRow.{OutputRow}
 use Rattle.a429_equipment.specs.declared.rows.SourceRow.{SourceRow}
 use Rattle.a429_pack.specs.Demands.{demand_at, exponent_of}
 use Rattle.a429_pack.specs.Orders.{NamesEachOnce}
-use Rattle.a429_pack.specs.Sums.{start_of}
 use Rattle.a429_pack.specs.declared.demands.Demand.{Demand}
 use Rattle.a429_pack.proofs.Entries.{below_frame}
 use Rattle.a429_pack.proofs.Orders.{names_each_once}

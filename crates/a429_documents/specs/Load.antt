@@ -1,5 +1,5 @@
 -- What each bus carries and has room for: the rows of `load` (profile: docs/FORMATS.md, Output of `load`).
-use Rattle.std.specs.Prelude.{ℕ, ◌+◌, ◌-◌, ◌*◌, ◌/◌, ◌^◌, ◌≡◌, ◌≤◌, List, [], ◌∷◌, ◌++◌, Bool, false, Option, None, Some, codes, count_by, if◌then◌else◌, is_none, is_some, length, map, nat_le, nat_lt, replicate, sum}
+use Rattle.std.specs.Prelude.{ℕ, ◌+◌, ◌-◌, ◌*◌, ◌/◌, ◌^◌, List, [], ◌∷◌, ◌++◌, Bool, false, Option, None, Some, codes, count_by, if◌then◌else◌, is_none, is_some, length, map, nat_le, nat_lt, replicate, sum}
 use Rattle.std.specs.Int.{div_ceil}
 use Rattle.std.specs.List.{flat_map, list_all, list_any, range_with_len}
 use Rattle.a429_text.specs.Fields.{Field, Text, Number, Tenths, Absent}

@@ -1,5 +1,5 @@
 -- The sheets on a plan: their columns, and their rows group by group.
-use Rattle.std.specs.Prelude.{⊤, ◌≤◌, ℕ, Bool, List, [], ◌++◌, IfSome, Option}
+use Rattle.std.specs.Prelude.{⊤, ◌≤◌, ℕ, List, [], ◌++◌, IfSome, Option}
 use Rattle.a429_text.specs.Fields.{Field}
 use Rattle.a429_equipment.specs.TableRecord.{TableRecord}
 use Rattle.a429_slots.specs.Tables.{PlanTable}

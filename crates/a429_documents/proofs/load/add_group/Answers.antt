@@ -1,4 +1,4 @@
-use Rattle.std.proofs.Common.{◌≡◌, ◌≤◌, ◌++◌, ◌∙◌, ap, arith, length, subst, take, ℕ}
+use Rattle.std.proofs.Common.{◌≤◌, ◌++◌, ◌∙◌, ap, arith, take, ℕ}
 use Rattle.a429_text.specs.Fields.{Field}
 use Rattle.a429_slots.specs.Tables.{buses_of}
 use Rattle.a429_documents.specs.Load.{bus_rows_of, cells_on, loads_of, needed_field}

@@ -1,5 +1,4 @@
-use Rattle.std.proofs.Common.{◌≡◌, ◌++◌, ◌∙◌, [], ap, sym, ℕ, List}
-use Rattle.std.specs.Prelude.{Some, slice_get}
+use Rattle.std.proofs.Common.{◌++◌, ◌∙◌, [], ap, sym, ℕ, List}
 use Rattle.std.specs.Option.{option_map_or}
 use Rattle.a429_word.proofs.Lists.{read_is}
 use Rattle.a429_documents.specs.SlotNames.{constant_line, row_line}
