@@ -4,7 +4,6 @@ pub mod Ran
 pub mod AnsweredCalls
 pub mod WholeAnswers
 pub mod PlanReplies
-pub mod PlannedRows
 pub mod Imported
 pub mod LiveAnswers
 pub mod DataBits

@@ -5,8 +5,7 @@ use Rattle.a429_arguments.specs.Requests.{AskedBytes}
 use Rattle.a429_arguments.specs.declared.options.OptionName.TheVariants as option
 use Rattle.a429_arguments.specs.declared.forms.Verb.TheVariants as verb
 use Rattle.a429_given.specs.GivenPlans.{keep_refusal, plan_kind}
-use Rattle.a429_cli.specs.PlanRows.{told_plan}
-use Rattle.a429_cli.specs.Plans.{IsNoPlanReply, IsPlanReply}
+use Rattle.a429_cli.specs.Plans.{IsNoPlanReply, IsPlanReply, told_plan}
 use Rattle.a429_console.specs.FileReadings.{AreRead, IsFirstUnread}
 use Rattle.a429_console.specs.Tables.{IsProposedBy, IsTableRefusal}
 use Rattle.a429_console.specs.declared.refusals.CommandRefusal.{CommandRefusal}

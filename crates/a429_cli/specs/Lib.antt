@@ -3,7 +3,6 @@ pub mod WordLines
 pub mod Encoding
 pub mod LineReports
 pub mod LineReplies
-pub mod PlanRows
 pub mod Checks
 pub mod Drawings
 pub mod SlotReplies

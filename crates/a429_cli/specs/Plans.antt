@@ -1,5 +1,5 @@
 -- The commands on the plan of one table: what they write, their status, and when they are refused (profile: output).
-use Rattle.std.specs.Prelude.{◌≡◌, ◌⊎◌, ℕ, List, Bool, true, false, Option, Result, Ok, Err}
+use Rattle.std.specs.Prelude.{◌≡◌, ◌⊎◌, ℕ, List, Bool, true, false, Option, None, Result, Ok, Err}
 use Rattle.std.specs.declared.alloc.AllocError.{AllocError}
 use Rattle.a429_arguments.specs.Given.{Given, form_of, has_given, number_given, text_given}
 use Rattle.a429_arguments.specs.Requests.{AskedBytes}
@@ -8,21 +8,37 @@ use Rattle.a429_arguments.specs.declared.forms.Verb.{Verb}
 use Rattle.a429_arguments.specs.declared.forms.Verb.TheVariants as verb
 use Rattle.a429_console.specs.declared.refusals.CommandRefusal.{CommandRefusal}
 use Rattle.a429_console.specs.declared.refusals.CommandRefusal.TheVariants as refused
-use Rattle.a429_documents.specs.Buses.{buses_columns, buses_rows}
 use Rattle.a429_documents.specs.Document.{icd_columns, icd_rows}
 use Rattle.a429_documents.specs.KeptColumns.{kept_sheet, kept_texts}
 use Rattle.a429_documents.specs.Margins.{IsMargin, margin_columns}
+use Rattle.a429_documents.specs.PlanRows.{plan_columns, plan_rows}
+use Rattle.a429_documents.specs.PlanSheets.{sheet_columns, sheet_rows}
+use Rattle.a429_documents.specs.declared.sheets.PlanSheet.{PlanSheet}
+use Rattle.a429_documents.specs.declared.sheets.PlanSheet.TheVariants as sheet
+use Rattle.a429_cert.specs.PlanText.{plan_text_of}
+use Rattle.a429_equipment.specs.TableRecord.{TableRecord}
+use Rattle.a429_slots.specs.Tables.{PlanTable}
 use Rattle.a429_slots.specs.Proposed.{Proposed}
 use Rattle.a429_text.specs.Fields.{Field}
 use Rattle.a429_text.specs.Sheets.{sheet_text}
+use Rattle.a429_text.specs.declared.sheets.SheetForm.{SheetForm}
+use Rattle.a429_text.specs.declared.sheets.SheetForm.TheVariants.{Columns}
 use Rattle.a429_cli.specs.Drawings.{HasImage, IsNoGroup, IsUndrawn, picture_of}
 use Rattle.a429_given.specs.GivenPlans.{IsGivenPlan, IsNoGivenPlan}
 use Rattle.a429_given.specs.GivenTables.{IsTableRead, IsTableUnread, TableTexts, named_table}
 use Rattle.a429_cli.specs.Loads.{IsLoad, limit_of}
-use Rattle.a429_cli.specs.PlanRows.{told_plan}
 use Rattle.a429_cli.specs.SlotReplies.{HasSlots, slots_form}
 use Rattle.a429_cli.specs.Stamping.{IsStamped, stamp_line}
 use Rattle.a429_console.specs.declared.reply.Reply.{Reply}
+
+-- the plan text, or with `--csv` or `--json` the sheet
+abbrev pub told_plan : SheetForm → TableRecord → PlanTable → List ℕ
+told_plan Columns e p = plan_text_of e p
+told_plan form e p = sheet_text form plan_columns (plan_rows e p)
+
+-- a sheet on the plan of a proposal, in a form
+abbrev pub IsSheet : PlanSheet → SheetForm → Proposed → ℕ → List ℕ → Type 0
+IsSheet s form q status text = (text ≡ sheet_text form (sheet_columns s) (sheet_rows s q.station q.plan None)) × (status ≡ 0)
 
 -- its status, and the bytes about a proposal of a table
 abbrev pub IsReplyOnPlan : Verb → Given → List ℕ → Proposed → ℕ → List ℕ → Type 0
@@ -32,7 +48,7 @@ IsReplyOnPlan verb.Margin given table q status text =
     ((rows : List (List Field)) × IsMargin q.station q.plan rows × (text ≡ sheet_text (form_of given) margin_columns rows)) × (status ≡ 0)
 IsReplyOnPlan verb.Load given table q status text = IsLoad q (limit_of (number_given given option.Limit)) (form_of given) status text
 IsReplyOnPlan verb.Slots given table q status text = HasSlots (slots_form given) table q (text_given given option.Group) status text
-IsReplyOnPlan verb.Buses given table q status text = (text ≡ sheet_text (form_of given) buses_columns (buses_rows q.station q.plan)) × (status ≡ 0)
+IsReplyOnPlan verb.Buses given table q status text = IsSheet sheet.Buses (form_of given) q status text
 IsReplyOnPlan verb.Draw given table q status text = HasImage q (text_given given option.Group) (picture_of given) × (status ≡ 0)
 IsReplyOnPlan _ given table q status text = ⊥
 

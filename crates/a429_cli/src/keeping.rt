@@ -5,7 +5,7 @@ ghost use Rattle.a429_console.specs.Readings.{HasRead};
 ghost use Rattle.a429_cli.specs.Keeping.{IsKeptOf, IsKeptPlan, IsNoKept, IsNoKeptPlan, IsToldPlan};
 ghost use Rattle.a429_console.specs.WholeReplies.{Replies};
 
-use crate::plan_rows::plan_of;
+use crate::plans::plan_of;
 use a429_cert::laws::own_text_is_fewest;
 use a429_cert::plan_text;
 use a429_console::files::FileReader;

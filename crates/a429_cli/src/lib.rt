@@ -32,7 +32,6 @@ mod lines;
 mod lint;
 mod live;
 mod loads;
-mod plan_rows;
 mod plans;
 mod program;
 mod slots;

@@ -4,7 +4,7 @@ ghost use Rattle.a429_cli.specs.Loads.{IsLoad, limit_of};
 
 use a429_console::answered::Found;
 use a429_console::reply::{Reply, finding_status};
-use a429_documents::load_sheet;
+use a429_documents::{PlanSheet, is_any_above, plan_sheet};
 use a429_slots::{OUTPUTS, Proposal};
 use a429_text::SheetForm;
 use std::alloc::{AllocError, Global};
@@ -30,11 +30,11 @@ pub fn load_of(
 ) -> Result<Reply, AllocError>
     ensures { IfOk result (λ reply. IsLoad proposal.now (limit_of limit) form reply.status reply.bytes.items) }
 {
-    let load = load_sheet(alloc, proposal, limit_of(limit));
-    let bytes = load.sheet.render(alloc, form)?;
+    let limit = limit_of(limit);
+    let bytes = plan_sheet(alloc, proposal, PlanSheet::Load(limit), None).render(alloc, form)?;
     Ok(Reply {
         bytes,
-        status: finding_status(load.above),
+        status: finding_status(is_any_above(limit, proposal.plan())),
         found: Found::Nothing,
     })
 }

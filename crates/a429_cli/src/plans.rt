@@ -3,30 +3,30 @@ ghost use Rattle.std.specs.Prelude.{◌≡◌, List, true, IfOk};
 ghost use Rattle.a429_console.specs.Readings.{HasRead};
 ghost use Rattle.a429_arguments.specs.Requests.{asked_of};
 ghost use Rattle.a429_arguments.specs.Usage.{is_on_plan};
-ghost use Rattle.a429_documents.specs.Buses.{buses_columns, buses_rows};
 ghost use Rattle.a429_documents.specs.Document.{icd_columns, icd_rows};
 ghost use Rattle.a429_documents.specs.KeptColumns.{kept_sheet, kept_texts};
 ghost use Rattle.a429_documents.specs.Margins.{IsMargin, margin_columns};
+ghost use Rattle.a429_documents.specs.PlanSheets.{HasLimit};
 ghost use Rattle.a429_text.specs.Fields.{Field};
 ghost use Rattle.a429_text.specs.Sheets.{sheet_text};
 ghost use Rattle.a429_given.specs.GivenTables.{table_texts};
-ghost use Rattle.a429_cli.specs.Plans.{IsNoPlanReply, IsNoReplyOnPlan, IsNoReplyToTable, IsPlanReply, IsReplyOnPlan, IsReplyToTable, or_no_memory};
+ghost use Rattle.a429_cli.specs.Plans.{IsNoPlanReply, IsNoReplyOnPlan, IsNoReplyToTable, IsPlanReply, IsReplyOnPlan, IsReplyToTable, IsSheet, or_no_memory, told_plan};
 ghost use Rattle.a429_cli.specs.Stamping.{IsStamped, stamp_line};
 ghost use Rattle.a429_console.specs.WholeReplies.{Replies};
 
 use crate::drawings::{Picture, image_of};
 use crate::loads::load_of;
-use crate::plan_rows::plan_of;
 use crate::slots::{SlotsForm, slots_of};
 use crate::stamping::stamped;
 use a429_arguments::forms::Verb;
 use a429_arguments::options::OptionName;
 use a429_arguments::requests::Asked;
+use a429_cert::plan_text;
 use a429_console::files::FileReader;
 use a429_console::planning::with_plan;
 use a429_console::refusals::{CommandRefusal, Refused};
 use a429_console::reply::Reply;
-use a429_documents::{SOURCE, TableFile, buses_sheet, icd_sheet, margin_sheet, render_kept};
+use a429_documents::{PlanSheet, SOURCE, TableFile, margin_sheet, plan_sheet, render_kept};
 use a429_given::{GivenTable, TableNames};
 use a429_slots::{OUTPUTS, Proposal};
 use a429_text::SheetForm;
@@ -53,7 +53,7 @@ fn icd_of(
     ensures { IfOk result (λ reply. (reply.bytes.items ≡ kept_sheet form (kept_texts table.now) icd_columns 2
         (icd_rows keeps_zeros proposal.now.station proposal.now.plan)) × (reply.status ≡ 0)) }
 {
-    let sheet = icd_sheet(alloc, proposal, keeps_zeros);
+    let sheet = plan_sheet(alloc, proposal, PlanSheet::Icd(keeps_zeros), None);
     Ok(Reply::done(render_kept(alloc, form, table, &sheet, SOURCE)?))
 }
 
@@ -70,17 +70,46 @@ fn margin_of(
     Ok(Reply::done(text))
 }
 
-/// Which words each bus carries.
-fn buses_of(
+/// A sheet on a proposal's plan that has no columns of comments.
+fn sheet_of(
+    alloc: Global,
+    proposal: &Proposal<OUTPUTS>,
+    sheet: PlanSheet,
+    form: SheetForm,
+) -> Result<Reply, AllocError>
+    requires { HasLimit sheet }
+    ensures { IfOk result (λ reply. IsSheet sheet form proposal.now reply.status reply.bytes.items) }
+{
+    let text = plan_sheet(alloc, proposal, sheet, None).render(alloc, form)?;
+    Ok(Reply::done(text))
+}
+
+/// The plan itself, with its bounds: its text, or its sheet with `--csv` or `--json`. Error: an allocation failed.
+fn told_plan(
+    alloc: Global,
+    proposal: &Proposal<OUTPUTS>,
+    form: SheetForm,
+) -> Result<Vec<u8>, AllocError>
+    ensures { IfOk result (λ text. text.items ≡ told_plan form proposal.now.station proposal.now.plan) }
+{
+    match form {
+        SheetForm::Columns => plan_text(alloc, proposal),
+        SheetForm::Csv | SheetForm::Json => {
+            plan_sheet(alloc, proposal, PlanSheet::Plan, None).render(alloc, form)
+        }
+    }
+}
+
+/// The plan itself, with status 0.
+pub fn plan_of(
     alloc: Global,
     proposal: &Proposal<OUTPUTS>,
     form: SheetForm,
 ) -> Result<Reply, AllocError>
-    ensures { IfOk result (λ reply. (reply.bytes.items ≡ sheet_text form buses_columns
-        (buses_rows proposal.now.station proposal.now.plan)) × (reply.status ≡ 0)) }
+    ensures { IfOk result (λ reply. (reply.bytes.items ≡ told_plan form proposal.now.station proposal.now.plan)
+        × (reply.status ≡ 0)) }
 {
-    let text = buses_sheet(alloc, proposal).render(alloc, form)?;
-    Ok(Reply::done(text))
+    Ok(Reply::done(told_plan(alloc, proposal, form)?))
 }
 
 /// What a command writes about a proposal, and its status.
@@ -113,7 +142,7 @@ fn reply_on_plan(
             asked.text(OptionName::Group),
             SlotsForm::of(asked),
         ),
-        Verb::Buses => or_no_memory(buses_of(alloc, proposal, form)),
+        Verb::Buses => or_no_memory(sheet_of(alloc, proposal, PlanSheet::Buses, form)),
         Verb::Draw => image_of(
             alloc,
             file,
@@ -141,7 +170,7 @@ fn reply_to_table(alloc: Global, asked: &Asked, table: &GivenTable) -> Result<Re
     with_plan(reply, proposal)
 }
 
-/// The same, with the line of the table's file above it if stamps are asked for.
+/// What a command answers about a table, with the line of its file above it if stamps are asked for.
 fn stamped_reply(alloc: Global, asked: &Asked, table: &GivenTable) -> Result<Reply, Refused>
     requires { is_on_plan asked.now.verb ≡ true }
     ensures { Replies (IsStamped (asked_of asked.now).given (stamp_line (asked_of asked.now).first (table_texts table.now).table)

@@ -9,7 +9,7 @@ use a429_arguments::options::OptionName;
 use a429_arguments::requests::Asked;
 use a429_console::refusals::Refused;
 use a429_console::reply::Reply;
-use a429_documents::{SLOT_SOURCE, render_kept, slot_board, slot_header, slot_sheet};
+use a429_documents::{PlanSheet, SLOT_SOURCE, plan_sheet, render_kept, slot_header};
 use a429_slots::{OUTPUTS, Proposal};
 use a429_text::SheetForm;
 use std::alloc::{AllocError, Global};
@@ -59,9 +59,9 @@ fn slots_text(
     if form.code {
         slot_header(alloc, proposal, group).into_bytes()
     } else if form.board {
-        slot_board(alloc, proposal, group).render(alloc, form.rows)
+        plan_sheet(alloc, proposal, PlanSheet::Board, group).render(alloc, form.rows)
     } else {
-        let sheet = slot_sheet(alloc, proposal, group, form.all);
+        let sheet = plan_sheet(alloc, proposal, PlanSheet::Slots(form.all), group);
         render_kept(alloc, form.rows, table, &sheet, SLOT_SOURCE)
     }
 }

@@ -61,7 +61,7 @@ pub fn stamped(
     below(lines, reply)
 }
 
-/// The same of two files.
+/// A reply with the lines of two files above it, if stamps are asked for. Error: an allocation failed.
 pub fn stamped_both(
     alloc: Global,
     asked: &Asked,

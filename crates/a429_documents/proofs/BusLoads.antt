@@ -1,5 +1,5 @@
 -- What the rows of `load` are made of.
-use Rattle.std.proofs.Common.{◌≡◌, ℕ, zero, suc, ◌+◌, ◌<◌, ◌≤◌, Bool, true, false, cond, List, [], ◌∷◌, ◌++◌, length, map, get_or, take, drop, set, sum, refl, inl, inr, sym, ap, ap₂, arith, ◌∙◌, append_assoc, append-nil}
+use Rattle.std.proofs.Common.{◌≡◌, ℕ, zero, suc, ◌+◌, ◌<◌, ◌≤◌, Bool, true, false, cond, List, [], ◌∷◌, ◌++◌, length, map, get_or, take, set, sum, refl, inl, inr, sym, ap, ap₂, arith, ◌∙◌, append_assoc}
 use Rattle.std.specs.Prelude.{◌&&◌, ◌||◌, Option, Some, slice_get, is_some, max, count_by}
 use Rattle.std.specs.List.{flat_map, list_all, list_any, range_with_len, sum_by}
 use Rattle.std.specs.Cmp.{nat_cmp_is}
@@ -7,27 +7,21 @@ use Rattle.std.specs.Ordering.{nat_cmp, is_lt, ord_max}
 use Rattle.std.specs.declared.cmp.Ordering.TheVariants.{Less, Equal, Greater}
 use Rattle.std.proofs.lemmas.Bool.{cases_lt}
 use mir.Val.{bool_byte}
-use Rattle.std.proofs.lemmas.List.{drop_all, map-append, take_more_set}
+use Rattle.std.proofs.lemmas.List.{map-append, take_more_set}
 use Rattle.std.proofs.lemmas.List.Folds.{list_any-append}
 use Rattle.std.proofs.lemmas.List.FromFn.{map-range_with_len_more}
 use Rattle.std.proofs.lemmas.List.Sums.{sum_by-append}
 use Rattle.std.proofs.lemmas.Option.{same_Some}
-use Rattle.a429_word.proofs.Lists.{drop_at, range_next, take_next}
+use Rattle.a429_word.proofs.Lists.{take_next}
 use Rattle.a429_text.specs.Fields.{Field}
-use Rattle.a429_equipment.specs.declared.rows.GroupRow.{GroupRow}
 use Rattle.a429_pack.specs.Demands.{greatest}
-use Rattle.a429_slots.specs.Tables.{SlotTable, buses_of, cell_at, frame_of}
+use Rattle.a429_slots.specs.Tables.{SlotTable, buses_of, cell_at}
 use Rattle.a429_documents.specs.Limits.{demand_from, if_from}
-use Rattle.a429_documents.proofs.Changes.{rows_more}
-use Rattle.a429_documents.specs.Load.{bus_rows, group_rows, groups_rows, total_rows}
+use Rattle.a429_documents.specs.Load.{bus_rows, group_rows, total_rows}
+use Rattle.a429_documents.specs.PlannedGroups.{PlannedGroup}
+use Rattle.a429_documents.proofs.Ranges.{range_more}
 
 -- ---- one more of a list
-
-range_more : (n : ℕ) → range_with_len 0 (n + 1) ≡ range_with_len 0 n ++ n ∷ []
-range_more n =
-    let e : n + 1 ≡ suc n = omega arith in
-    let f : 0 + n ≡ n = omega arith in
-    ap (range_with_len 0) e ∙ range_next 0 n ∙ ap (λ (x : ℕ). range_with_len 0 n ++ x ∷ []) f
 
 -- one more number is counted
 pub count_more : (p : ℕ → Bool) (n : ℕ) → count_by p (range_with_len 0 (n + 1)) ≡ count_by p (range_with_len 0 n) + cond (p n) 1 0
@@ -161,32 +155,10 @@ bus_load f n i xs is below = let same : 0 + i ≡ i = omega arith in ap (λ (l :
 
 -- ---- the rows of a group
 
--- the rows of one more bus
-pub bus_more : (g : GroupRow) (t : SlotTable) (bus : ℕ) (old rows new : List (List Field)) → rows ≡ old ++ flat_map (bus_rows g t) (range_with_len 0 bus) → new ≡ rows ++ bus_rows g t bus
-    → new ≡ old ++ flat_map (bus_rows g t) (range_with_len 0 (bus + 1))
-bus_more g t bus old rows new so now = rows_more (bus_rows g t) rows new old bus so now
-
 -- those of each bus, and those of all of them
-pub group_is : (limit : Option ℕ) (g : GroupRow) (t : SlotTable) (old rows new : List (List Field))
-    → rows ≡ old ++ flat_map (bus_rows g t) (range_with_len 0 (buses_of t)) → new ≡ rows ++ total_rows limit g t
-    → new ≡ old ++ group_rows limit g t
-group_is limit g t old rows new so now =
-    now ∙ ap (λ (l : List (List Field)). l ++ total_rows limit g t) so
-    ∙ append_assoc old (flat_map (bus_rows g t) (range_with_len 0 (buses_of t))) (total_rows limit g t)
-
--- ---- the rows of one more group
-
-pub groups_more : (limit : Option ℕ) (gs : List GroupRow) (ts : List SlotTable) (i : ℕ) (g : GroupRow) (t : SlotTable) (old new whole : List (List Field)) → slice_get gs i ≡ Some g → slice_get ts i ≡ Some t
-    → old ++ groups_rows limit (drop i gs) (drop i ts) ≡ whole → new ≡ old ++ group_rows limit g t → new ++ groups_rows limit (drop (i + 1) gs) (drop (i + 1) ts) ≡ whole
-unfolding groups_rows
-groups_more limit gs ts i g t old new whole here there so now =
-    let rest : List (List Field) = groups_rows limit (drop (i + 1) gs) (drop (i + 1) ts) in
-    ap (λ (l : List (List Field)). l ++ rest) now ∙ append_assoc old (group_rows limit g t) rest
-    ∙ sym (ap (λ (l : List GroupRow). old ++ groups_rows limit l (drop i ts)) (drop_at gs i g here) ∙ ap (λ (l : List SlotTable). old ++ groups_rows limit (g ∷ drop (i + 1) gs) l) (drop_at ts i t there))
-    ∙ so
-
-pub groups_whole : (limit : Option ℕ) (gs : List GroupRow) (ts : List SlotTable) (i : ℕ) (old whole : List (List Field)) → length gs ≤ i
-    → old ++ groups_rows limit (drop i gs) (drop i ts) ≡ whole → old ≡ whole
-unfolding groups_rows
-groups_whole limit gs ts i old whole past so =
-    sym (append-nil old) ∙ sym (ap (λ (l : List GroupRow). old ++ groups_rows limit l (drop i ts)) (drop_all i gs past)) ∙ so
+pub group_is : (limit : Option ℕ) (g : PlannedGroup) (old rows new : List (List Field))
+    → rows ≡ old ++ flat_map (bus_rows g) (range_with_len 0 (buses_of g.table)) → new ≡ rows ++ total_rows limit g
+    → new ≡ old ++ group_rows limit g
+group_is limit g old rows new so now =
+    now ∙ ap (λ (l : List (List Field)). l ++ total_rows limit g) so
+    ∙ append_assoc old (flat_map (bus_rows g) (range_with_len 0 (buses_of g.table))) (total_rows limit g)

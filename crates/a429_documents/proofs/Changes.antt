@@ -1,13 +1,10 @@
 -- What the rows of `diff` are made of.
-use Rattle.std.proofs.Common.{◌≡◌, ℕ, zero, suc, ◌+◌, Bool, true, false, List, [], ◌∷◌, ◌++◌, length, take, Some, None, ◌≤◌, ap, inl, inr, refl, sym, arith, ◌∙◌}
+use Rattle.std.proofs.Common.{◌≡◌, ℕ, zero, suc, ◌+◌, Bool, true, false, List, [], ◌∷◌, length, take, Some, None, ◌≤◌, ap, inl, inr, refl, arith, ◌∙◌}
 use Rattle.std.specs.Prelude.{Option, option_and_then, option_map, position, slice_get}
 use Rattle.std.specs.Option.{option_map_or}
-use Rattle.std.specs.List.{AllByRecursion, flat_map, position_or_len, range_with_len, sum_by}
+use Rattle.std.specs.List.{AllByRecursion, position_or_len}
 use Rattle.std.proofs.lemmas.Bool.{le-ltb, lt-ltb}
 use Rattle.std.proofs.lemmas.Option.{none-some, same_Some, slice_get_within}
-use Rattle.std.proofs.lemmas.List.{flat_map_more}
-use Rattle.std.proofs.lemmas.List.Sums.{sum_by_push}
-use Rattle.a429_word.proofs.Lists.{range_next}
 use Rattle.a429_equipment.specs.Sound.{IsRate}
 use Rattle.a429_equipment.specs.declared.rows.GroupRow.{GroupRow}
 use Rattle.a429_slots.specs.Proposed.{Proposed}
@@ -29,23 +26,6 @@ nowhere p (y ∷ ys) none = rw none.0 (ap (λ n. 1 + n) (nowhere p ys none.1) �
 
 pub position_nowhere : {X : Type 0} (p : X → Bool) (xs : List X) → AllByRecursion (λ y. p y ≡ false) xs → position p xs ≡ None
 position_nowhere p xs none = rw (nowhere p xs none, le-ltb (length xs) (length xs) (omega arith)) refl
-
--- ---- the numbers below a count
-
-next_of : (k : ℕ) → range_with_len 0 (k + 1) ≡ range_with_len 0 k ++ k ∷ []
-next_of k =
-    let more : suc k ≡ k + 1 = omega arith in
-    let same : 0 + k ≡ k = omega arith in
-    ap (λ (n : ℕ). range_with_len 0 n) (sym more) ∙ range_next 0 k ∙ ap (λ (n : ℕ). range_with_len 0 k ++ n ∷ []) same
-
--- the rows of one added number
-pub rows_more : {X : Type 0} (f : ℕ → List X) (now new old : List X) (k : ℕ) → now ≡ old ++ flat_map f (range_with_len 0 k) → new ≡ now ++ f k → new ≡ old ++ flat_map f (range_with_len 0 (k + 1))
-rows_more {X} f now new old k so is =
-    is ∙ ap (λ (x : List X). x ++ f k) so ∙ flat_map_more f old (range_with_len 0 k) k ∙ ap (λ (l : List ℕ). old ++ flat_map f l) (sym (next_of k))
-
--- the sum with one added number
-pub sums_more : (f : ℕ → ℕ) (k : ℕ) → sum_by f (range_with_len 0 (k + 1)) ≡ sum_by f (range_with_len 0 k) + f k
-sums_more f k = ap (λ (l : List ℕ). sum_by f l) (next_of k) ∙ sum_by_push f (range_with_len 0 k) k
 
 -- ---- a group that both have
 

@@ -1,8 +1,7 @@
 -- A sheet with the columns that comments bring.
-use Rattle.std.proofs.Common.{◌≡◌, ◌≤◌, ◌++◌, ◌∷◌, [], ℕ, suc, List, Bor, ap, arith, drop, length, map, refl, sym}
-use Rattle.std.specs.Prelude.{◌==◌, IfOk, Result}
+use Rattle.std.proofs.Common.{◌≡◌, ◌≤◌, ◌∷◌, [], ℕ, suc, List, Bor, arith, drop, length, map, refl, sym}
 use Rattle.std.proofs.Math.Seq.{drop-length}
-use Rattle.std.proofs.lemmas.List.{append-nil, drop-map, drop_all, length-map}
+use Rattle.std.proofs.lemmas.List.{append-nil, drop_all, length-map}
 use Rattle.a429_text.specs.Fields.{Field}
 use Rattle.a429_text.specs.Sheets.{sheet_text}
 use Rattle.a429_text.specs.declared.sheets.SheetForm.{SheetForm}

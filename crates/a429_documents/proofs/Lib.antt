@@ -1,9 +1,10 @@
 pub mod Wider
 pub mod Margins
-pub mod Drawings
+pub mod Ranges
 pub mod MarkedCells
 pub mod MarginGroups
-pub mod DocumentRows
+pub mod PlannedGroups
+pub mod IcdRows
 pub mod Findings
 pub mod Changes
 pub mod NoRows

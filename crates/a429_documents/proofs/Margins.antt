@@ -1,29 +1,22 @@
 -- What the rows of `margin` are made of.
-use Rattle.std.proofs.Common.{◌≡◌, ℕ, suc, ◌+◌, ◌^◌, ◌<◌, ◌≤◌, Bool, true, false, List, [], ◌∷◌, ◌++◌, length, map, take, Option, Some, ap, sym, subst, refl, arith, ◌∙◌}
-use Rattle.std.specs.Prelude.{slice_get, option_map, nat_lt}
-use Rattle.std.specs.List.{flat_map, range_with_len}
-use Rattle.std.specs.Option.{option_map_or}
-use Rattle.std.proofs.lemmas.Bool.{lt-ltb, le-ltb}
-use Rattle.std.proofs.lemmas.List.{flat_map_more, map-append}
-use Rattle.std.proofs.lemmas.Option.{same_Some}
-use Rattle.a429_word.proofs.Lists.{range_next, take_next}
-use Rattle.a429_equipment.specs.declared.rows.GroupRow.{GroupRow}
-use Rattle.a429_equipment.specs.declared.rows.SourceRow.{SourceRow}
+use Rattle.std.proofs.Common.{◌≡◌, ℕ, ◌+◌, ◌<◌, List, [], ◌∷◌, ◌++◌, length, map, take, Some, ap, append_assoc, sym, ◌∙◌}
+use Rattle.std.specs.Prelude.{slice_get}
+use Rattle.std.proofs.lemmas.List.{map-append}
+use Rattle.a429_word.proofs.Lists.{take_next}
 use Rattle.a429_slots.specs.declared.group_plan.SlotPlace.{SlotPlace}
-use Rattle.a429_slots.specs.Tables.{Placed, SlotTable, placed_at, outputs_of, place_of, source_of, frame_of}
-use Rattle.a429_documents.specs.Margins.{is_chosen, output_margin, wider_row}
-use Rattle.a429_cert.specs.PlanText.{source_name}
+use Rattle.a429_slots.specs.Tables.{Placed, SlotTable, placed_at, outputs_of, place_of}
 use Rattle.a429_slots.proofs.Cells.{output_is}
+use Rattle.a429_documents.proofs.PlannedGroups.{placed_there}
 
--- the place of an output
-pub stands_at : (t : SlotTable) (o : ℕ) (place : SlotPlace) → o < length (outputs_of t) → place_of t o ≡ Some place → (placed_at t o).place ≡ place
-stands_at t o place below at =
-    same_Some _ _ (sym (ap (option_map (λ (p : Placed). p.place)) (output_is t o below)) ∙ at)
+-- one more answer for an element, after others
+pub added_more : {X Y : Type 0} (f : X → Y) (xs : List X) (k : ℕ) (x : X) (old now new : List Y) → slice_get xs k ≡ Some x → now ≡ old ++ map f (take k xs) → new ≡ now ++ f x ∷ []
+    → new ≡ old ++ map f (take (k + 1) xs)
+added_more {X} {Y} f xs k x old now new there so more =
+    let longer : map f (take (k + 1) xs) ≡ map f (take k xs) ++ f x ∷ [] = ap (map f) (take_next xs k x there) ∙ map-append f (take k xs) (x ∷ []) in
+    more ∙ ap (λ (ys : List Y). ys ++ f x ∷ []) so ∙ append_assoc old (map f (take k xs)) (f x ∷ []) ∙ ap (λ (ys : List Y). old ++ ys) (sym longer)
 
--- one more answer for an element
 pub mapped_more : {X Y : Type 0} (f : X → Y) (xs : List X) (k : ℕ) (x : X) (old new : List Y) → slice_get xs k ≡ Some x → old ≡ map f (take k xs) → new ≡ old ++ f x ∷ [] → new ≡ map f (take (k + 1) xs)
-mapped_more {X} {Y} f xs k x old new there so now =
-    now ∙ ap (λ (ys : List Y). ys ++ f x ∷ []) so ∙ sym (ap (map f) (take_next xs k x there) ∙ map-append f (take k xs) (x ∷ []))
+mapped_more f xs k x old new there so now = added_more f xs k x [] old new there so now
 
 -- one more period
 pub period_more : (t : SlotTable) (ps new : List ℕ) (k : ℕ) (place : SlotPlace) → k < length (outputs_of t) → place_of t k ≡ Some place → ps ≡ map (λ o. o.place.period) (take k (outputs_of t))
@@ -31,35 +24,5 @@ pub period_more : (t : SlotTable) (ps new : List ℕ) (k : ℕ) (place : SlotPla
 period_more t ps new k place below at so now =
     let f : Placed → ℕ = λ o. o.place.period in
     now ∙ ap (λ (l : List ℕ). l ++ place.period ∷ []) so
-    ∙ ap (λ (x : SlotPlace). map f (take k (outputs_of t)) ++ x.period ∷ []) (sym (stands_at t k place below at))
+    ∙ ap (λ (x : SlotPlace). map f (take k (outputs_of t)) ++ x.period ∷ []) (placed_there t k below place at)
     ∙ sym (ap (map f) (take_next (outputs_of t) k (placed_at t k) (output_is t k below)) ∙ map-append f (take k (outputs_of t)) (placed_at t k ∷ []))
-
--- ---- the row of an output
-
-module _ (sources : List SourceRow) (g : GroupRow) (t : SlotTable) (chosen : Option (List Bool)) (o : ℕ) (place : SlotPlace) (below : o < length (outputs_of t)) (at : place_of t o ≡ Some place) where
-  same_period : (placed_at t o).place.period ≡ place.period
-  same_period = ap (λ (x : SlotPlace). x.period) (stands_at t o place below at)
-
-  pub no_row : frame_of t ≤ 2 ^ place.period → output_margin sources g t chosen o ≡ []
-  no_row long =
-      let late : nat_lt (2 ^ (placed_at t o).place.period) (frame_of t) ≡ false = le-ltb _ _ (subst (λ (k : ℕ). frame_of t ≤ 2 ^ k) (sym same_period) long) in
-      rw late refl
-
-  pub row_is : (n : ℕ) (row : SourceRow) → 2 ^ place.period < frame_of t → source_of t o ≡ Some n → slice_get sources n ≡ Some row
-      → output_margin sources g t chosen o ≡ wider_row g (frame_of t) (is_chosen chosen o) row.name place.period ∷ []
-  row_is n row short from there =
-      let early : nat_lt (2 ^ (placed_at t o).place.period) (frame_of t) ≡ true = lt-ltb _ _ (subst (λ (k : ℕ). 2 ^ k < frame_of t) (sym same_period) short) in
-      let source : (placed_at t o).source ≡ n = same_Some _ _ (sym (ap (option_map (λ (p : Placed). p.source)) (output_is t o below)) ∙ from) in
-      let named : source_name sources (placed_at t o).source ≡ row.name = ap (source_name sources) source ∙ ap (λ (r : Option SourceRow). option_map_or (λ (s : SourceRow). s.name) r []) there in
-      rw early
-      (ap (λ (w : List ℕ). wider_row g (frame_of t) (is_chosen chosen o) w (placed_at t o).place.period ∷ []) named
-      ∙ ap (λ (k : ℕ). wider_row g (frame_of t) (is_chosen chosen o) row.name k ∷ []) same_period)
-
--- the rows of one more
-pub lines_more : {X : Type 0} (f : ℕ → List X) (rows new old : List X) (k : ℕ) → rows ≡ old ++ flat_map f (range_with_len 0 k) → new ≡ rows ++ f k → new ≡ old ++ flat_map f (range_with_len 0 (k + 1))
-lines_more {X} f rows new old k so now =
-    let same : 0 + k ≡ k = omega arith in
-    let more : suc k ≡ k + 1 = omega arith in
-    let next : range_with_len 0 (k + 1) ≡ range_with_len 0 k ++ k ∷ [] =
-    subst (λ (n : ℕ). range_with_len 0 n ≡ range_with_len 0 k ++ k ∷ []) more (subst (λ (j : ℕ). range_with_len 0 (suc k) ≡ range_with_len 0 k ++ j ∷ []) same (range_next 0 k)) in
-    now ∙ ap (λ (x : List X). x ++ f k) so ∙ flat_map_more f old (range_with_len 0 k) k ∙ ap (λ (l : List ℕ). old ++ flat_map f l) (sym next)

@@ -34,7 +34,7 @@ use Rattle.a429_documents.specs.Unchanged.{HaveSameIntervals}
 use Rattle.a429_documents.proofs.Changes.{both_is}
 use Rattle.a429_documents.proofs.Differences.{named_at, no_lists}
 use Rattle.a429_documents.proofs.Losses.{found_or_not}
-use Rattle.a429_documents.proofs.MarginGroups.{planned_group}
+use Rattle.a429_documents.proofs.PlannedGroups.{planned_group}
 use Rattle.a429_documents.proofs.NoRows.{compared_none, counted_none, each_none, each_sum, none_both, none_if, none_row, not_moved, number_none}
 use Rattle.a429_documents.proofs.SameOrder.{Same}
 use Rattle.a429_documents.proofs.SameTables.{IsPlanned, each_once, group_of, one_named, row_of, sent, source_of_row}

@@ -1,6 +1,6 @@
 -- Outputs that are laid out one after the other have one order, which follows from their places.
-use Rattle.std.proofs.Common.{◌≡◌, ℕ, zero, suc, ◌+◌, ◌*◌, ◌/◌, ◌%◌, ◌^◌, ◌<◌, ◌≤◌, List, [], ◌∷◌, length, map, take, Some, ap, ap₂, sym, subst, refl, arith, ◌∙◌}
-use Rattle.std.specs.Prelude.{slice_get, slice_index, sum}
+use Rattle.std.proofs.Common.{◌≡◌, ℕ, zero, suc, ◌+◌, ◌*◌, ◌/◌, ◌^◌, ◌<◌, ◌≤◌, List, [], ◌∷◌, length, map, Some, ap, sym, subst, refl, arith, ◌∙◌}
+use Rattle.std.specs.Prelude.{slice_get, slice_index}
 use Rattle.std.specs.List.{AllZip}
 use Rattle.std.proofs.lemmas.Option.{none-some, same_Some}
 use Rattle.a429_equipment.specs.declared.rows.SourceRow.{SourceRow}

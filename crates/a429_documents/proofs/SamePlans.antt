@@ -24,7 +24,7 @@ use Rattle.a429_documents.specs.Diff.{Both, Sent, both_of, both_rows, change_row
 use Rattle.a429_documents.specs.Unchanged.{HaveSameIntervals}
 use Rattle.a429_documents.proofs.Changes.{both_is}
 use Rattle.a429_documents.proofs.Differences.{named_at}
-use Rattle.a429_documents.proofs.MarginGroups.{planned_group}
+use Rattle.a429_documents.proofs.PlannedGroups.{planned_group}
 use Rattle.a429_documents.proofs.NoRows.{none_each, none_number, none_parts, one_none, row_none, sum_each}
 use Rattle.a429_documents.proofs.SameTables.{IsUnchanged, group_of, same_interval, sent, stated_is}
 

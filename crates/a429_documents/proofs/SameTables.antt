@@ -1,5 +1,5 @@
 -- Two slot tables of which `diff` has no row state the same.
-use Rattle.std.proofs.Common.{◌≡◌, ℕ, ◌+◌, ◌-◌, ◌/◌, ◌^◌, ◌<◌, ◌≤◌, Bool, true, false, List, [], ◌∷◌, ◌++◌, length, map, take, Option, Some, ap, ap₂, sym, subst, refl, arith, inl, inr, ◌⊎◌, ◌∙◌}
+use Rattle.std.proofs.Common.{◌≡◌, ℕ, ◌-◌, ◌/◌, ◌^◌, ◌<◌, ◌≤◌, Bool, true, false, List, [], ◌∷◌, ◌++◌, length, map, Option, Some, ap, ap₂, sym, subst, refl, arith, inl, inr, ◌⊎◌, ◌∙◌}
 use Rattle.std.specs.Prelude.{codes, is_some, option_map, slice_get, slice_index, sum}
 use Rattle.std.specs.List.{AllZip}
 use Rattle.std.specs.Option.{option_map_or}
@@ -19,7 +19,6 @@ use Rattle.a429_equipment.specs.declared.rows.OutputRow.{OutputRow}
 use Rattle.a429_equipment.specs.declared.rows.SourceRow.{SourceRow}
 use Rattle.a429_pack.specs.Demands.{demand_at, exponent_of}
 use Rattle.a429_pack.specs.Orders.{NamesEachOnce}
-use Rattle.a429_pack.specs.Sums.{start_of}
 use Rattle.a429_pack.specs.declared.demands.Demand.{Demand}
 use Rattle.a429_pack.proofs.Entries.{below_frame}
 use Rattle.a429_pack.proofs.Orders.{names_each_once}
@@ -31,7 +30,7 @@ use Rattle.a429_cert.specs.PlanText.{listing_of, placed_listing, source_name, st
 use Rattle.a429_cert.specs.Spelling.{Listing}
 use Rattle.a429_documents.specs.declared.diff.sides.Compared.{Compared}
 use Rattle.a429_documents.specs.Diff.{Both, Sent, both_rows, change_row, change_rows, compared_at, compared_change, each_of, only_rows, has_moved, is_moved, kept_rows, kept_subject, moved_in, name_at, no_gap, number_named, of_group, of_output, other_of, output_named, outputs_rows, size_change, size_rows, with_number}
-use Rattle.a429_documents.proofs.DocumentRows.{served_length}
+use Rattle.a429_documents.proofs.PlannedGroups.{served_length}
 use Rattle.a429_documents.proofs.Findings.{paired}
 use Rattle.a429_documents.proofs.Losses.{found_or_not}
 use Rattle.a429_documents.proofs.NoRows.{compared_is, none_counted, none_each, none_number, none_parts, one_none, row_none}

@@ -1,10 +1,8 @@
 -- What a plan text states is read back from it.
-use Rattle.std.proofs.Common.{◌≡◌, ℕ, suc, ◌*◌, ◌<◌, ◌≤◌, Bool, true, false, List, [], ◌∷◌, ◌++◌, length, map, take, drop, get_or, Option, Some, None, ap, sym, subst, refl, arith, ◌∙◌}
+use Rattle.std.proofs.Common.{◌≡◌, ℕ, suc, ◌*◌, ◌<◌, ◌≤◌, Bool, true, false, List, [], ◌∷◌, ◌++◌, length, map, drop, get_or, Option, Some, None, ap, sym, subst, refl, arith, ◌∙◌}
 use Rattle.std.specs.Prelude.{IfSome, is_some, slice_index, sum}
 use Rattle.std.specs.List.{AllByRecursion, flat_map}
-use Rattle.std.proofs.Math.Nat.{div-le_self}
 use Rattle.std.proofs.lemmas.List.Concat.{flat_map-cons}
-use Rattle.std.proofs.lemmas.List.Sums.{sum_by-take-le}
 use Rattle.std.proofs.Common.{mul-le-mul}
 use Rattle.std.proofs.lemmas.Option.{get_or_from_slice_get, same_Some, slice_get_within}
 use Rattle.a429_word.proofs.Lists.{all_at, all_mapped}
@@ -12,7 +10,6 @@ use Rattle.a429_equipment.specs.Sound.{IsGroupRow, IsHold, IsSourceRow}
 use Rattle.a429_equipment.specs.TableRecord.{TableRecord}
 use Rattle.a429_equipment.specs.declared.rows.GroupRow.{GroupRow}
 use Rattle.a429_equipment.specs.declared.rows.OutputRow.{OutputRow}
-use Rattle.a429_pack.specs.Sums.{start_of}
 use Rattle.a429_slots.specs.Tables.{SlotTable, buses_of, demands_of, frame_of, order_of, outputs_of, placed_at}
 use Rattle.a429_cert.specs.Checked.{Stated, stated_text}
 use Rattle.a429_cert.specs.Lines.{lines_of}

@@ -1,17 +1,16 @@
 -- What each bus of a station carries: the rows of `buses` (profile: docs/FORMATS.md, Output of `buses`).
-use Rattle.std.specs.Prelude.{ℕ, ◌==◌, ◌^◌, List, [], ◌∷◌, ◌++◌, codes, if◌then◌else◌, filter, length, map, slice_get}
+use Rattle.std.specs.Prelude.{ℕ, ◌==◌, ◌^◌, List, [], ◌∷◌, ◌++◌, None, codes, if◌then◌else◌, filter, length, map, slice_get}
 use Rattle.std.specs.List.{flat_map, range_with_len}
 use Rattle.std.specs.Option.{option_map_or}
 use Rattle.a429_text.specs.Fields.{Field, Text, Number, Absent}
 use Rattle.a429_word.specs.Texts.{octal}
 use Rattle.a429_equipment.specs.TableRecord.{TableRecord}
-use Rattle.a429_equipment.specs.declared.rows.GroupRow.{GroupRow}
 use Rattle.a429_equipment.specs.declared.rows.ReceiverRow.{ReceiverRow}
 use Rattle.a429_equipment.specs.declared.rows.SourceRow.{SourceRow}
-use Rattle.a429_slots.specs.declared.group_plan.SlotPlace.{SlotPlace}
-use Rattle.a429_slots.specs.Tables.{SlotTable, PlanTable, buses_of, groups_of, outputs_of, placed_at}
+use Rattle.a429_slots.specs.Tables.{PlanTable, buses_of}
 use Rattle.a429_slots.specs.Times.{slots_us}
 use Rattle.a429_documents.specs.Document.{sdi_field}
+use Rattle.a429_documents.specs.PlannedGroups.{PlannedGroup, PlannedOutput, of_groups, of_outputs}
 
 -- ---- the columns
 
@@ -36,9 +35,9 @@ abbrev pub in_row : ReceiverRow → SourceRow → List Field
 in_row r source = Text (codes "in") ∷ Text r.name ∷ Absent ∷ Absent ∷ word_fields source Absent
 
 -- a word that a group sends, at its place; the period is in whole microseconds, rounded up
-abbrev pub out_row : GroupRow → SourceRow → SlotPlace → List Field
-out_row g source place =
-    Text (codes "out") ∷ Text g.name ∷ Number place.bus ∷ Number g.rate ∷ word_fields source (Number (slots_us g.rate (2 ^ place.period)))
+abbrev pub out_row : PlannedOutput → List Field
+out_row o =
+    Text (codes "out") ∷ Text o.group.name ∷ Number o.place.bus ∷ Number o.group.rate ∷ word_fields o.source (Number (slots_us o.group.rate (2 ^ o.place.period)))
 
 -- ---- the rows of a bus
 
@@ -46,17 +45,13 @@ out_row g source place =
 abbrev pub heard_rows : List SourceRow → ℕ → ReceiverRow → List (List Field)
 heard_rows sources n r = map (in_row r) (filter (λ source. source.receiver == n) sources)
 
--- the row of the output with this number; empty if the table has no such source
-unfoldable pub output_row : List SourceRow → GroupRow → SlotTable → ℕ → List Field
-output_row sources g t o = option_map_or (λ source. out_row g source (placed_at t o).place) (slice_get sources (placed_at t o).source) []
-
--- the same, if the output is on this bus
-abbrev pub rows_on : List SourceRow → GroupRow → SlotTable → ℕ → ℕ → List (List Field)
-rows_on sources g t bus o = if (placed_at t o).place.bus == bus then output_row sources g t o ∷ [] else []
+-- the row of an output, if it is on this bus
+abbrev pub rows_on : ℕ → PlannedOutput → List (List Field)
+rows_on bus o = if o.place.bus == bus then out_row o ∷ [] else []
 
 -- the words that a group sends on a bus, in table order
-abbrev pub sent_rows : List SourceRow → GroupRow → SlotTable → ℕ → List (List Field)
-sent_rows sources g t bus = flat_map (rows_on sources g t bus) (range_with_len 0 (length (outputs_of t)))
+abbrev pub sent_rows : PlannedGroup → ℕ → List (List Field)
+sent_rows g bus = of_outputs (rows_on bus) g
 
 -- ---- the rows of a station
 
@@ -65,20 +60,13 @@ abbrev pub receiver_rows : TableRecord → ℕ → List (List Field)
 receiver_rows e n = option_map_or (heard_rows e.sources n) (slice_get e.receivers n) []
 
 -- the words that a group sends, bus by bus
-abbrev pub rows_of_group : List SourceRow → GroupRow → SlotTable → List (List Field)
-rows_of_group sources g t = flat_map (sent_rows sources g t) (range_with_len 0 (buses_of t))
-
--- the same of the group with this number
-abbrev pub group_rows : TableRecord → PlanTable → ℕ → List (List Field)
-group_rows e p n = option_map_or (λ g. option_map_or (rows_of_group e.sources g) (slice_get (groups_of p) n) []) (slice_get e.groups n) []
+abbrev pub group_rows : PlannedGroup → List (List Field)
+group_rows g = flat_map (sent_rows g) (range_with_len 0 (buses_of g.table))
 
 -- the words that come in, receiver by receiver in table order
 abbrev pub in_rows : TableRecord → List (List Field)
 in_rows e = flat_map (receiver_rows e) (range_with_len 0 (length e.receivers))
 
--- the words that go out, group by group in table order
-abbrev pub out_rows : TableRecord → PlanTable → List (List Field)
-out_rows e p = flat_map (group_rows e p) (range_with_len 0 (length (groups_of p)))
-
+-- these, and then the words that go out, group by group in table order
 abbrev pub buses_rows : TableRecord → PlanTable → List (List Field)
-buses_rows e p = in_rows e ++ out_rows e p
+buses_rows e p = in_rows e ++ of_groups group_rows e p None

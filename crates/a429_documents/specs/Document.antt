@@ -11,8 +11,9 @@ use Rattle.a429_equipment.specs.declared.rows.ReceiverRow.{ReceiverRow}
 use Rattle.a429_equipment.specs.declared.rows.SourceRow.{SourceRow}
 use Rattle.a429_slots.specs.declared.group_plan.SendLimits.{SendLimits}
 use Rattle.a429_slots.specs.declared.group_plan.SlotPlace.{SlotPlace}
-use Rattle.a429_slots.specs.Tables.{Placed, SlotTable, PlanTable, groups_of, outputs_of}
+use Rattle.a429_slots.specs.Tables.{PlanTable}
 use Rattle.a429_slots.specs.Times.{latency_us, slots_us}
+use Rattle.a429_documents.specs.PlannedGroups.{PlannedGroup, PlannedOutput, of_groups, of_outputs}
 
 -- ---- the columns
 
@@ -82,26 +83,16 @@ abbrev pub icd_row : Bool → List ReceiverRow → GroupRow → SourceRow → Ou
 icd_row keeps_zeros receivers group source row place limits =
     sent_fields keeps_zeros receivers group source ++ (place_fields group.rate place ++ (limit_fields row limits ++ latency_fields group.rate (2 ^ place.period)))
 
--- the same, of the source that the output's row names; empty if there is no such source
-unfoldable pub output_row : Bool → TableRecord → GroupRow → OutputRow → Placed → List Field
-output_row keeps_zeros e group row placed =
-    option_map_or (λ source. icd_row keeps_zeros e.receivers group source row placed.place placed.limits) (slice_get e.sources row.source) []
+-- the same of an output of a plan
+abbrev pub output_row : Bool → PlannedOutput → List Field
+output_row keeps_zeros o = icd_row keeps_zeros o.receivers o.group o.source o.row o.place o.limits
 
 -- ---- the document
 
--- a row for each output of a group, in table order: from its row of the equipment table, and from its place and limits in the slot table
-unfoldable pub output_rows : Bool → TableRecord → GroupRow → List OutputRow → List Placed → List (List Field)
-output_rows keeps_zeros e group [] placed = []
-output_rows keeps_zeros e group (row ∷ rows) [] = []
-output_rows keeps_zeros e group (row ∷ rows) (placed ∷ others) = output_row keeps_zeros e group row placed ∷ output_rows keeps_zeros e group rows others
+-- a row for each output of a group, in table order
+abbrev pub group_rows : Bool → PlannedGroup → List (List Field)
+group_rows keeps_zeros g = of_outputs (λ o. output_row keeps_zeros o ∷ []) g
 
--- the rows of each group, in table order
-unfoldable pub groups_rows : Bool → TableRecord → List GroupRow → List (List OutputRow) → List SlotTable → List (List Field)
-groups_rows keeps_zeros e [] outputs ts = []
-groups_rows keeps_zeros e (group ∷ groups) [] ts = []
-groups_rows keeps_zeros e (group ∷ groups) (rows ∷ outputs) [] = []
-groups_rows keeps_zeros e (group ∷ groups) (rows ∷ outputs) (t ∷ ts) = output_rows keeps_zeros e group rows (outputs_of t) ++ groups_rows keeps_zeros e groups outputs ts
-
--- the rows of a plan, with labels whose zeros a spreadsheet keeps or loses
+-- the rows of a plan, group by group in table order, with labels whose zeros a spreadsheet keeps or loses
 abbrev pub icd_rows : Bool → TableRecord → PlanTable → List (List Field)
-icd_rows keeps_zeros e p = groups_rows keeps_zeros e e.groups e.outputs (groups_of p)
+icd_rows keeps_zeros e p = of_groups (group_rows keeps_zeros) e p None

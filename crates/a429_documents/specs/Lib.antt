@@ -1,5 +1,6 @@
 pub mod Margins
 pub mod Drawing
+pub mod PlannedGroups
 pub mod Document
 pub mod Lint
 pub mod Diff
@@ -14,4 +15,6 @@ pub mod SlotBoard
 pub mod SlotNames
 pub mod SlotColumns
 pub mod KeptColumns
+pub mod PlanRows
+pub mod PlanSheets
 pub mod Stamps

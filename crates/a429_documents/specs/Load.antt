@@ -1,5 +1,5 @@
 -- What each bus carries and has room for: the rows of `load` (profile: docs/FORMATS.md, Output of `load`).
-use Rattle.std.specs.Prelude.{ℕ, ◌+◌, ◌-◌, ◌*◌, ◌/◌, ◌^◌, ◌≡◌, ◌≤◌, List, [], ◌∷◌, ◌++◌, Bool, false, Option, None, Some, codes, count_by, if◌then◌else◌, is_none, is_some, length, map, nat_le, nat_lt, replicate, sum}
+use Rattle.std.specs.Prelude.{ℕ, ◌+◌, ◌-◌, ◌*◌, ◌/◌, ◌^◌, List, [], ◌∷◌, ◌++◌, Bool, false, Option, None, Some, codes, count_by, if◌then◌else◌, is_none, is_some, length, map, nat_le, nat_lt, replicate, sum}
 use Rattle.std.specs.Int.{div_ceil}
 use Rattle.std.specs.List.{flat_map, list_all, list_any, range_with_len}
 use Rattle.a429_text.specs.Fields.{Field, Text, Number, Tenths, Absent}
@@ -10,6 +10,7 @@ use Rattle.a429_equipment.specs.declared.rows.SourceRow.{SourceRow}
 use Rattle.a429_slots.specs.Planned.{IsPlannedFor}
 use Rattle.a429_slots.specs.Tables.{SlotTable, PlanTable, cell_at, frame_of, buses_of, groups_of, outputs_of}
 use Rattle.a429_documents.specs.Limits.{AreNeeded, needed_buses}
+use Rattle.a429_documents.specs.PlannedGroups.{PlannedGroup, of_groups}
 use Rattle.a429_documents.specs.declared.load.row.Buses.{Buses}
 use Rattle.a429_documents.specs.declared.load.row.Buses.TheVariants.{One, All}
 
@@ -80,9 +81,10 @@ abbrev pub room_within : SlotTable → Buses → ℕ → ℕ
 room_within t buses period = sum (map (λ bus. room_on t bus period) (listed_buses t buses))
 
 -- the row of that room; a period above the frame has none
-abbrev pub room_rows : GroupRow → SlotTable → Buses → ℕ → List (List Field)
-room_rows g t buses period =
-    if nat_le period (frame_of t) then (Text g.name ∷ Absent ∷ bus_field buses ∷ replicate 6 Absent ++ (Number period ∷ Number (room_within t buses period) ∷ [])) ∷ [] else []
+abbrev pub room_rows : PlannedGroup → Buses → ℕ → List (List Field)
+room_rows g buses period =
+    if nat_le period (frame_of g.table)
+    then (Text g.row.name ∷ Absent ∷ bus_field buses ∷ replicate 6 Absent ++ (Number period ∷ Number (room_within g.table buses period) ∷ [])) ∷ [] else []
 
 -- the row of some buses of a group with a frame of this number of slots, by the cells of each that have an output
 abbrev pub load_row : GroupRow → ℕ → Field → List ℕ → Field → List Field
@@ -91,9 +93,9 @@ load_row g frame bus loads needed =
     ∷ percent_field frame loads ∷ words_field g.rate frame loads ∷ needed ∷ Absent ∷ Absent ∷ []
 
 -- that row, and the room for each period
-abbrev pub bus_rows_of : GroupRow → SlotTable → Buses → Field → List (List Field)
-bus_rows_of g t buses needed =
-    load_row g (frame_of t) (bus_field buses) (map (cells_on t) (listed_buses t buses)) needed ∷ flat_map (room_rows g t buses) room_periods
+abbrev pub bus_rows_of : PlannedGroup → Buses → Field → List (List Field)
+bus_rows_of g buses needed =
+    load_row g.row (frame_of g.table) (bus_field buses) (map (cells_on g.table) (listed_buses g.table buses)) needed ∷ flat_map (room_rows g buses) room_periods
 
 -- ---- the limit
 
@@ -124,26 +126,20 @@ needed_field (Some limit) t =
 -- ---- the rows
 
 -- the rows of a bus
-abbrev pub bus_rows : GroupRow → SlotTable → ℕ → List (List Field)
-bus_rows g t bus = bus_rows_of g t (One bus) Absent
+abbrev pub bus_rows : PlannedGroup → ℕ → List (List Field)
+bus_rows g bus = bus_rows_of g (One bus) Absent
 
 -- the rows of all buses of a group together
-abbrev pub total_rows : Option ℕ → GroupRow → SlotTable → List (List Field)
-total_rows limit g t = bus_rows_of g t All (needed_field limit t)
+abbrev pub total_rows : Option ℕ → PlannedGroup → List (List Field)
+total_rows limit g = bus_rows_of g All (needed_field limit g.table)
 
 -- the rows of each bus of a group, and then those of all its buses
-abbrev pub group_rows : Option ℕ → GroupRow → SlotTable → List (List Field)
-group_rows limit g t = flat_map (bus_rows g t) (range_with_len 0 (buses_of t)) ++ total_rows limit g t
-
--- the rows of each group, in table order
-unfoldable pub groups_rows : Option ℕ → List GroupRow → List SlotTable → List (List Field)
-groups_rows limit [] ts = []
-groups_rows limit (g ∷ gs) [] = []
-groups_rows limit (g ∷ gs) (t ∷ ts) = group_rows limit g t ++ groups_rows limit gs ts
+abbrev pub group_rows : Option ℕ → PlannedGroup → List (List Field)
+group_rows limit g = flat_map (bus_rows g) (range_with_len 0 (buses_of g.table)) ++ total_rows limit g
 
 -- the rows of a plan
 abbrev pub load_rows : Option ℕ → TableRecord → PlanTable → List (List Field)
-load_rows limit e p = groups_rows limit e.groups (groups_of p)
+load_rows limit e p = of_groups (group_rows limit) e p None
 
 -- some bus of the plan is above the limit
 abbrev pub any_above : Option ℕ → PlanTable → Bool

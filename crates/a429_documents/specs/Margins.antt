@@ -1,17 +1,16 @@
 -- What would save a bus in each group: the rows of `margin` (profile: margin).
-use Rattle.std.specs.Prelude.{ℕ, ◌-◌, ◌*◌, ◌/◌, ◌^◌, ◌≤◌, ◌≡◌, ◌⊎◌, List, [], ◌∷◌, ◌++◌, Bool, true, false, Option, None, OnOk, Result, Some, codes, if◌then◌else◌, is_some, length, map, nat_lt, replicate, slice_index_or, sum}
+use Rattle.std.specs.Prelude.{ℕ, zero, suc, ◌-◌, ◌*◌, ◌/◌, ◌^◌, ◌≤◌, ◌≡◌, ◌⊎◌, List, [], ◌∷◌, ◌++◌, Bool, true, false, Option, None, OnOk, Result, Some, codes, if◌then◌else◌, is_some, length, map, nat_lt, replicate, slice_index_or, sum}
 use Rattle.std.specs.List.{flat_map, range_with_len}
 use Rattle.a429_text.specs.Fields.{Field, Text, Number, Absent}
 use Rattle.a429_equipment.specs.TableRecord.{TableRecord}
 use Rattle.a429_equipment.specs.declared.rows.GroupRow.{GroupRow}
 use Rattle.a429_equipment.specs.declared.rows.OutputRow.{OutputRow}
-use Rattle.a429_equipment.specs.declared.rows.SourceRow.{SourceRow}
 use Rattle.a429_grid.specs.Grid.{IsGridPeriod, IsPeriod, slot_time}
 use Rattle.a429_pack.specs.Widening.{IsLeastSaving, NoneSaves}
 use Rattle.a429_pack.specs.Windows.{raw_bound}
-use Rattle.a429_slots.specs.Tables.{SlotTable, PlanTable, placed_at, outputs_of, demands_of, frame_of, buses_of, groups_of}
-use Rattle.a429_cert.specs.PlanText.{source_name}
+use Rattle.a429_slots.specs.Tables.{SlotTable, PlanTable, outputs_of, demands_of, frame_of, buses_of, groups_of}
 use Rattle.a429_slots.specs.Times.{slots_us}
+use Rattle.a429_documents.specs.PlannedGroups.{PlannedGroup, PlannedOutput, group_at, output_at}
 
 -- the number of whole slots in the output's maximum interval at this bit rate (profile: raw bound)
 abbrev pub window_of : ℕ → OutputRow → ℕ
@@ -60,45 +59,43 @@ group_row_of g t bound chosen =
     ∷ Number (sum (demands_of t) - (buses_of t - 1) * frame_of t) ∷ Number bound ∷ nothing 5
     ++ (saves (buses_of t) chosen ∷ [])
 
-abbrev pub group_row : GroupRow → List OutputRow → SlotTable → Option (List Bool) → List Field
-group_row g rows t chosen = group_row_of g t (raw_bound (map (window_of g.rate) rows)) chosen
+abbrev pub group_row : PlannedGroup → Option (List Bool) → List Field
+group_row g chosen = group_row_of g.row g.table (raw_bound (map (window_of g.row.rate) g.rows)) chosen
 
 -- The row of an output with the next longer period: both periods in slots, the number of its cells in this frame that become free (half of them), the
 -- maximum interval that it needs, and whether it is chosen.
-abbrev pub wider_row : GroupRow → ℕ → Bool → List ℕ → ℕ → List Field
-wider_row g frame chosen name period =
-    Text g.name ∷ nothing 4
-    ++ (Text name ∷ Number (2 ^ period) ∷ Number (2 * 2 ^ period) ∷ Number (frame / (2 * 2 ^ period)) ∷ Number (slots_us g.rate (2 * 2 ^ period)) ∷ yes_or_no chosen ∷ [])
+abbrev pub wider_row : ℕ → Bool → PlannedOutput → List Field
+wider_row frame chosen o =
+    Text o.group.name ∷ nothing 4
+    ++ (Text o.source.name ∷ Number (2 ^ o.place.period) ∷ Number (2 * 2 ^ o.place.period) ∷ Number (frame / (2 * 2 ^ o.place.period))
+    ∷ Number (slots_us o.group.rate (2 * 2 ^ o.place.period)) ∷ yes_or_no chosen ∷ [])
 
 -- the row of an output whose period is shorter than the frame; other outputs have no row
-abbrev pub output_margin : List SourceRow → GroupRow → SlotTable → Option (List Bool) → ℕ → List (List Field)
-output_margin sources g t chosen o =
-    let placed = placed_at t o in
-    if nat_lt (2 ^ placed.place.period) (frame_of t) then wider_row g (frame_of t) (is_chosen chosen o) (source_name sources placed.source) placed.place.period ∷ [] else []
+abbrev pub output_margin : ℕ → Bool → PlannedOutput → List (List Field)
+output_margin frame chosen o = if nat_lt (2 ^ o.place.period) frame then wider_row frame chosen o ∷ [] else []
 
 -- the rows of a group's outputs, in table order
-abbrev pub outputs_margin : List SourceRow → GroupRow → SlotTable → Option (List Bool) → List (List Field)
-outputs_margin sources g t chosen = flat_map (output_margin sources g t chosen) (range_with_len 0 (length (outputs_of t)))
+abbrev pub outputs_margin : PlannedGroup → Option (List Bool) → List (List Field)
+outputs_margin g chosen =
+    flat_map (λ o. output_margin (frame_of g.table) (is_chosen chosen o) (output_at g o)) (range_with_len 0 (length (outputs_of g.table)))
 
 -- these rows, if the group has more than one bus
-abbrev pub choice_rows : List SourceRow → GroupRow → SlotTable → Option (List Bool) → List (List Field)
-choice_rows sources g t chosen = if nat_lt (buses_of t) 2 then [] else outputs_margin sources g t chosen
+abbrev pub choice_rows : PlannedGroup → Option (List Bool) → List (List Field)
+choice_rows g chosen = if nat_lt (buses_of g.table) 2 then [] else outputs_margin g chosen
 
 -- a group with a right choice, and the outputs that could free cells
-abbrev pub IsGroupMargin : List SourceRow → GroupRow → List OutputRow → SlotTable → List (List Field) → Type 0
-IsGroupMargin sources g rows t all = (chosen : Option (List Bool)) × IsChoice (periods_of t) (buses_of t) chosen
-    × (all ≡ group_row g rows t chosen ∷ choice_rows sources g t chosen)
+abbrev pub IsGroupMargin : PlannedGroup → List (List Field) → Type 0
+IsGroupMargin g all =
+    (chosen : Option (List Bool)) × IsChoice (periods_of g.table) (buses_of g.table) chosen × (all ≡ group_row g chosen ∷ choice_rows g chosen)
 
--- the rows of each group, in table order
-abbrev pub AreMargins : List SourceRow → List GroupRow → List (List OutputRow) → List SlotTable → List (List Field) → Type 0
-AreMargins sources [] rowss ts all = all ≡ []
-AreMargins sources (g ∷ gs) [] ts all = all ≡ []
-AreMargins sources (g ∷ gs) (rows ∷ rowss) [] all = all ≡ []
-AreMargins sources (g ∷ gs) (rows ∷ rowss) (t ∷ ts) all =
-    (first : List (List Field)) × (rest : List (List Field)) × IsGroupMargin sources g rows t first × AreMargins sources gs rowss ts rest × (all ≡ first ++ rest)
+-- the rows of the first groups, up to a count, in table order
+abbrev pub AreMargins : TableRecord → PlanTable → ℕ → List (List Field) → Type 0
+AreMargins e p zero all = all ≡ []
+AreMargins e p (suc n) all =
+    (before : List (List Field)) × (last : List (List Field)) × AreMargins e p n before × IsGroupMargin (group_at e p n) last × (all ≡ before ++ last)
 
 abbrev pub IsMargin : TableRecord → PlanTable → List (List Field) → Type 0
-IsMargin e p rows = AreMargins e.sources e.groups e.outputs (groups_of p) rows
+IsMargin e p rows = AreMargins e p (length (groups_of p)) rows
 
 -- if the call succeeds, the list has added rows at its end, of which this is known
 abbrev pub AddsSuch : {A E : Type 0} → Result A E → List (List Field) → List (List Field) → (List (List Field) → Type 0) → Type 0

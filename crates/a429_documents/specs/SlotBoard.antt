@@ -1,6 +1,6 @@
 -- The slot tables of a plan as a bus board takes them: the names of the columns, and a row for each word of a frame, bus by bus
 -- (profile: docs/FORMATS.md, Output of `slots`).
-use Rattle.std.specs.Prelude.{◌≡◌, ◌<◌, ◌+◌, ◌*◌, ◌^◌, ℕ, IsTrue, List, [], ◌∷◌, Option, codes, if◌then◌else◌, slice_get, unwrap_or}
+use Rattle.std.specs.Prelude.{◌≡◌, ◌<◌, ◌+◌, ◌*◌, ◌^◌, ℕ, IsTrue, List, [], ◌∷◌, Option, codes, if◌then◌else◌, unwrap_or}
 use Rattle.std.specs.List.{flat_map, range_with_len}
 use Rattle.std.specs.Option.{option_map_or}
 use Rattle.a429_text.specs.Fields.{Field, Text, Number}
@@ -8,12 +8,10 @@ use Rattle.a429_word.specs.Bits.{data_of, has_odd_parity, label_of, reversed_fro
 use Rattle.a429_word.specs.Hexadecimal.{hex}
 use Rattle.a429_word.specs.Texts.{octal}
 use Rattle.a429_equipment.specs.TableRecord.{TableRecord}
-use Rattle.a429_equipment.specs.declared.rows.GroupRow.{GroupRow}
-use Rattle.a429_equipment.specs.declared.rows.SourceRow.{SourceRow}
-use Rattle.a429_slots.specs.Tables.{SlotTable, PlanTable, buses_of, cell_at, frame_of, groups_of, placed_at}
+use Rattle.a429_slots.specs.Tables.{PlanTable, buses_of, cell_at, frame_of}
 use Rattle.a429_slots.specs.Times.{slots_us}
 use Rattle.a429_documents.specs.Document.{sdi_field}
-use Rattle.a429_documents.specs.Drawing.{first_drawn, groups_drawn}
+use Rattle.a429_documents.specs.PlannedGroups.{PlannedGroup, PlannedOutput, of_groups, output_at}
 
 -- ---- the columns
 
@@ -33,36 +31,28 @@ board_word label sdi = if has_odd_parity (bits_below_parity label sdi) then bits
 
 -- ---- the rows
 
--- the word of a source in a slot of a bus: when the slot begins, in microseconds from the start of the frame, rounded up; the label, the SDI,
+-- the word of an output in a slot of a bus: when the slot begins, in microseconds from the start of the frame, rounded up; the label, the SDI,
 -- and the word with SDI 0 for any
-abbrev pub board_row : GroupRow → ℕ → ℕ → SourceRow → List Field
-board_row g bus slot source =
-    Text g.name ∷ Number bus ∷ Number (slots_us g.rate slot) ∷ Text (octal source.label) ∷ sdi_field source.sdi
-    ∷ Text (hex (board_word source.label (unwrap_or source.sdi 0))) ∷ []
-
--- the row of a cell with the output of this number; empty if the table has no such source
-unfoldable pub sent_row : List SourceRow → GroupRow → SlotTable → ℕ → ℕ → ℕ → List Field
-sent_row sources g t bus slot o = option_map_or (board_row g bus slot) (slice_get sources (placed_at t o).source) []
+abbrev pub board_row : ℕ → ℕ → PlannedOutput → List Field
+board_row bus slot o =
+    Text o.group.name ∷ Number bus ∷ Number (slots_us o.group.rate slot) ∷ Text (octal o.source.label) ∷ sdi_field o.source.sdi
+    ∷ Text (hex (board_word o.source.label (unwrap_or o.source.sdi 0))) ∷ []
 
 -- the rows of a cell: one if it has an output
-unfoldable pub board_cell : List SourceRow → GroupRow → SlotTable → ℕ → ℕ → List (List Field)
-board_cell sources g t bus slot = option_map_or (λ o. sent_row sources g t bus slot o ∷ []) (cell_at t bus slot) []
+unfoldable pub board_cell : PlannedGroup → ℕ → ℕ → List (List Field)
+board_cell g bus slot = option_map_or (λ o. board_row bus slot (output_at g o) ∷ []) (cell_at g.table bus slot) []
 
 -- the rows of a bus over one frame, slot by slot
-abbrev pub board_bus : List SourceRow → GroupRow → SlotTable → ℕ → List (List Field)
-board_bus sources g t bus = flat_map (board_cell sources g t bus) (range_with_len 0 (frame_of t))
+abbrev pub board_bus : PlannedGroup → ℕ → List (List Field)
+board_bus g bus = flat_map (board_cell g bus) (range_with_len 0 (frame_of g.table))
 
 -- the rows of a group, bus by bus
-abbrev pub board_group : List SourceRow → GroupRow → SlotTable → List (List Field)
-board_group sources g t = flat_map (board_bus sources g t) (range_with_len 0 (buses_of t))
-
--- the rows of the group with this number; none if there is no such group
-abbrev pub board_at : TableRecord → PlanTable → ℕ → List (List Field)
-board_at e p number = option_map_or (λ g. option_map_or (board_group e.sources g) (slice_get (groups_of p) number) []) (slice_get e.groups number) []
+abbrev pub board_group : PlannedGroup → List (List Field)
+board_group g = flat_map (board_bus g) (range_with_len 0 (buses_of g.table))
 
 -- the rows of a plan, of one group or of all in table order
 abbrev pub board_rows : TableRecord → PlanTable → Option ℕ → List (List Field)
-board_rows e p group = flat_map (board_at e p) (range_with_len (first_drawn group) (groups_drawn group p))
+board_rows e p group = of_groups board_group e p group
 
 -- ---- what the word is
 

@@ -1,15 +1,10 @@
 -- The arrays of outputs in the header of C: an element for each output of a group (profile: docs/FORMATS.md, Header for C).
-use Rattle.std.specs.Prelude.{ℕ, ◌^◌, List, [], ◌++◌, Option, None, Some, codes, length, slice_get}
+use Rattle.std.specs.Prelude.{ℕ, ◌^◌, List, ◌++◌, Option, None, Some, codes}
 use Rattle.std.specs.Fmt.{decimal}
-use Rattle.std.specs.List.{flat_map, range_with_len}
-use Rattle.std.specs.Option.{option_map_or}
 use Rattle.a429_text.specs.Nibbles.{nibbles}
 use Rattle.a429_equipment.specs.declared.rows.GroupRow.{GroupRow}
-use Rattle.a429_equipment.specs.declared.rows.ReceiverRow.{ReceiverRow}
-use Rattle.a429_equipment.specs.declared.rows.SourceRow.{SourceRow}
-use Rattle.a429_slots.specs.declared.group_plan.SlotPlace.{SlotPlace}
-use Rattle.a429_slots.specs.Tables.{SlotTable, outputs_of, placed_at}
 use Rattle.a429_documents.specs.Document.{receiver_name}
+use Rattle.a429_documents.specs.PlannedGroups.{PlannedGroup, PlannedOutput, of_outputs}
 use Rattle.a429_documents.specs.SlotNames.{array_name, constant, macro_name}
 use Rattle.a429_documents.specs.declared.slots.header.columns.Column.{Column}
 use Rattle.a429_documents.specs.declared.slots.header.columns.Column.TheVariants.{Labels, Sdis, Receivers, Sources, Periods}
@@ -66,38 +61,31 @@ abbrev pub sdi_value : Option ℕ → List ℕ
 sdi_value None = codes "A429_ANY_SDI"
 sdi_value (Some sdi) = decimal sdi
 
--- of an output, by the source that it sends and its place: the label in hexadecimal, the SDI, the receiver of the source, the source, or the
--- period in slots
-abbrev pub column_value : List ReceiverRow → SourceRow → SlotPlace → Column → List ℕ
-column_value receivers source place Labels = codes "0x" ++ nibbles 2 source.label
-column_value receivers source place Sdis = sdi_value source.sdi
-column_value receivers source place Receivers = constant (codes "RECEIVER_") (receiver_name receivers source.receiver)
-column_value receivers source place Sources = constant (codes "SOURCE_") source.name
-column_value receivers source place Periods = decimal (2 ^ place.period)
+-- of an output: the label in hexadecimal, the SDI, the receiver of the source, the source, or the period in slots
+abbrev pub column_value : PlannedOutput → Column → List ℕ
+column_value o Labels = codes "0x" ++ nibbles 2 o.source.label
+column_value o Sdis = sdi_value o.source.sdi
+column_value o Receivers = constant (codes "RECEIVER_") (receiver_name o.receivers o.source.receiver)
+column_value o Sources = constant (codes "SOURCE_") o.source.name
+column_value o Periods = decimal (2 ^ o.place.period)
 
 -- the same as a line
-unfoldable pub value_line : List ReceiverRow → Column → SourceRow → SlotPlace → List ℕ
-value_line receivers column source place = codes "\n    " ++ (column_value receivers source place column ++ codes ",")
-
--- of the source that the slot table names; nothing if there is no such source
-unfoldable pub value_entry : List ReceiverRow → List SourceRow → SlotTable → Column → ℕ → List ℕ
-value_entry receivers sources t column o =
-    option_map_or (λ source. value_line receivers column source (placed_at t o).place) (slice_get sources (placed_at t o).source) []
+unfoldable pub value_line : Column → PlannedOutput → List ℕ
+value_line column o = codes "\n    " ++ (column_value o column ++ codes ",")
 
 -- ---- the arrays
 
 -- the elements, in table order
-abbrev pub value_entries : List ReceiverRow → List SourceRow → SlotTable → Column → List ℕ
-value_entries receivers sources t column = flat_map (value_entry receivers sources t column) (range_with_len 0 (length (outputs_of t)))
+abbrev pub value_lines : Column → PlannedGroup → List ℕ
+value_lines column g = of_outputs (value_line column) g
 
 -- an array, and the type that checks its size
-unfoldable pub column_array : List ReceiverRow → List SourceRow → GroupRow → SlotTable → Column → List ℕ
-column_array receivers sources g t column =
-    array_start (column_kind column) g (column_word column) ++ (value_entries receivers sources t column
-    ++ (codes "\n};\n" ++ (check_start g (column_word column) ++ (group_macro g (codes "_OUTPUTS") ++ check_end))))
+unfoldable pub column_array : PlannedGroup → Column → List ℕ
+column_array g column =
+    array_start (column_kind column) g.row (column_word column) ++ (value_lines column g
+    ++ (codes "\n};\n" ++ (check_start g.row (column_word column) ++ (group_macro g.row (codes "_OUTPUTS") ++ check_end))))
 
 -- all of them
-unfoldable pub column_arrays : List ReceiverRow → List SourceRow → GroupRow → SlotTable → List ℕ
-column_arrays receivers sources g t =
-    column_array receivers sources g t Labels ++ (column_array receivers sources g t Sdis ++ (column_array receivers sources g t Receivers
-    ++ (column_array receivers sources g t Sources ++ column_array receivers sources g t Periods)))
+unfoldable pub column_arrays : PlannedGroup → List ℕ
+column_arrays g =
+    column_array g Labels ++ (column_array g Sdis ++ (column_array g Receivers ++ (column_array g Sources ++ column_array g Periods)))

@@ -1,17 +1,14 @@
 -- The slot tables of a plan as a header of C (C99, C++17): the receivers and sources as constants, and for each group a comment that numbers its
 -- outputs, its sizes as macros, and its outputs and cells as arrays (profile: docs/FORMATS.md, Header for C).
-use Rattle.std.specs.Prelude.{ℕ, ◌%◌, ◌==◌, ◌^◌, List, ◌++◌, [], Option, None, Some, codes, if◌then◌else◌, length, slice_get}
+use Rattle.std.specs.Prelude.{ℕ, ◌%◌, ◌==◌, ◌^◌, List, ◌++◌, Option, None, Some, codes, if◌then◌else◌, length}
 use Rattle.std.specs.Fmt.{decimal}
 use Rattle.std.specs.List.{flat_map, range_with_len}
-use Rattle.std.specs.Option.{option_map_or}
 use Rattle.a429_word.specs.Texts.{octal}
 use Rattle.a429_equipment.specs.TableRecord.{TableRecord}
 use Rattle.a429_equipment.specs.declared.rows.GroupRow.{GroupRow}
-use Rattle.a429_equipment.specs.declared.rows.ReceiverRow.{ReceiverRow}
 use Rattle.a429_equipment.specs.declared.rows.SourceRow.{SourceRow}
-use Rattle.a429_slots.specs.declared.group_plan.SlotPlace.{SlotPlace}
-use Rattle.a429_slots.specs.Tables.{SlotTable, PlanTable, buses_of, cell_at, frame_of, groups_of, outputs_of, placed_at}
-use Rattle.a429_documents.specs.Drawing.{first_drawn, groups_drawn}
+use Rattle.a429_slots.specs.Tables.{SlotTable, PlanTable, buses_of, cell_at, frame_of, outputs_of}
+use Rattle.a429_documents.specs.PlannedGroups.{PlannedGroup, PlannedOutput, of_groups, output_at}
 use Rattle.a429_documents.specs.SlotColumns.{array_start, check_end, check_start, column_arrays, group_macro}
 use Rattle.a429_documents.specs.SlotNames.{receiver_enum, source_enum}
 
@@ -36,24 +33,20 @@ unfoldable pub words_text : SourceRow → List ℕ
 words_text source = codes " label " ++ (octal source.label ++ (codes " sdi " ++ sdi_text source.sdi))
 
 -- the period of an output in slots, and the name of its source
-unfoldable pub sending_text : SourceRow → SlotPlace → List ℕ
-sending_text source place = codes " period " ++ (decimal (2 ^ place.period) ++ (codes " source " ++ source.name))
+unfoldable pub sending_text : PlannedOutput → List ℕ
+sending_text o = codes " period " ++ (decimal (2 ^ o.place.period) ++ (codes " source " ++ o.source.name))
 
--- the line of an output that sends this source, by its number
-unfoldable pub output_line : ℕ → SourceRow → SlotPlace → List ℕ
-output_line o source place = codes "\n   " ++ (decimal o ++ (codes ":" ++ (words_text source ++ sending_text source place)))
-
--- the same, of the source that the slot table names; nothing if there is no such source
-unfoldable pub output_entry : List SourceRow → SlotTable → ℕ → List ℕ
-output_entry sources t o = option_map_or (λ source. output_line o source (placed_at t o).place) (slice_get sources (placed_at t o).source) []
+-- the line of an output, by its number
+unfoldable pub output_line : ℕ → PlannedOutput → List ℕ
+output_line n o = codes "\n   " ++ (decimal n ++ (codes ":" ++ (words_text o.source ++ sending_text o)))
 
 -- a line for each output of a group, in table order
-abbrev pub output_entries : List SourceRow → SlotTable → List ℕ
-output_entries sources t = flat_map (output_entry sources t) (range_with_len 0 (length (outputs_of t)))
+abbrev pub output_lines : PlannedGroup → List ℕ
+output_lines g = flat_map (λ n. output_line n (output_at g n)) (range_with_len 0 (length (outputs_of g.table)))
 
 -- these lines, after the name of the group
-unfoldable pub group_comment : List SourceRow → GroupRow → SlotTable → List ℕ
-group_comment sources g t = codes "/* group " ++ (g.name ++ (output_entries sources t ++ codes " */\n"))
+unfoldable pub group_comment : PlannedGroup → List ℕ
+group_comment g = codes "/* group " ++ (g.row.name ++ (output_lines g ++ codes " */\n"))
 
 -- ---- the sizes of a group, as macros
 
@@ -62,12 +55,12 @@ unfoldable pub number_macro : GroupRow → List ℕ → ℕ → List ℕ
 number_macro g word value = codes "#define " ++ (group_macro g word ++ (codes " " ++ (decimal value ++ codes "\n")))
 
 -- its bit rate in bit/s, the number of slots in a frame, of buses and of outputs
-unfoldable pub size_macros : GroupRow → SlotTable → List ℕ
-size_macros g t =
-    number_macro g (codes "_RATE") g.rate
-    ++ (number_macro g (codes "_FRAME") (frame_of t)
-    ++ (number_macro g (codes "_BUSES") (buses_of t)
-    ++ number_macro g (codes "_OUTPUTS") (length (outputs_of t))))
+unfoldable pub size_macros : PlannedGroup → List ℕ
+size_macros g =
+    number_macro g.row (codes "_RATE") g.row.rate
+    ++ (number_macro g.row (codes "_FRAME") (frame_of g.table)
+    ++ (number_macro g.row (codes "_BUSES") (buses_of g.table)
+    ++ number_macro g.row (codes "_OUTPUTS") (length (outputs_of g.table))))
 
 -- ---- the cells of a group, as an array
 
@@ -97,23 +90,15 @@ unfoldable pub slots_check : GroupRow → List ℕ
 slots_check g = check_start g (codes "slots") ++ (group_macro g (codes "_BUSES") ++ (codes " * " ++ (group_macro g (codes "_FRAME") ++ check_end)))
 
 -- the array, and that type
-unfoldable pub slots_array : GroupRow → SlotTable → List ℕ
-slots_array g t = array_start (codes "uint16_t") g (codes "slots") ++ (group_elements t ++ (codes "\n};\n" ++ (slots_check g ++ codes "\n")))
+unfoldable pub slots_array : PlannedGroup → List ℕ
+slots_array g =
+    array_start (codes "uint16_t") g.row (codes "slots") ++ (group_elements g.table ++ (codes "\n};\n" ++ (slots_check g.row ++ codes "\n")))
 
 -- ---- the header
 
 -- a group
-unfoldable pub group_part : List ReceiverRow → List SourceRow → GroupRow → SlotTable → List ℕ
-group_part receivers sources g t = group_comment sources g t ++ (size_macros g t ++ (column_arrays receivers sources g t ++ slots_array g t))
-
--- the same of a plan; nothing if there is no such group
-abbrev pub part_at : TableRecord → PlanTable → ℕ → List ℕ
-part_at e p number =
-    option_map_or (λ g. option_map_or (group_part e.receivers e.sources g) (slice_get (groups_of p) number) []) (slice_get e.groups number) []
-
--- one group of a plan, or all in table order
-abbrev pub header_parts : TableRecord → PlanTable → Option ℕ → List ℕ
-header_parts e p group = flat_map (part_at e p) (range_with_len (first_drawn group) (groups_drawn group p))
+unfoldable pub group_part : PlannedGroup → List ℕ
+group_part g = group_comment g ++ (size_macros g ++ (column_arrays g ++ slots_array g))
 
 -- the receivers and the sources of a table
 unfoldable pub table_enums : TableRecord → List ℕ
@@ -121,4 +106,4 @@ table_enums e = receiver_enum e.receivers ++ source_enum e.sources
 
 -- the header of a plan, of one group or of all
 abbrev pub header_text : TableRecord → PlanTable → Option ℕ → List ℕ
-header_text e p group = header_start ++ (table_enums e ++ (header_parts e p group ++ codes "#endif\n"))
+header_text e p group = header_start ++ (table_enums e ++ (of_groups group_part e p group ++ codes "#endif\n"))

@@ -38,23 +38,19 @@ constant_line what name number = codes "    " ++ (constant what name ++ (codes "
 unfoldable pub count_line : List ℕ → ℕ → List ℕ
 count_line what count = codes "    A429_" ++ (what ++ (codes " = " ++ (decimal count ++ codes "\n};\n\n")))
 
--- the line of the receiver with this number; nothing if there is no such receiver
-abbrev pub receiver_line : List ReceiverRow → ℕ → List ℕ
-receiver_line receivers n = option_map_or (λ r. constant_line (codes "RECEIVER_") r.name n) (slice_get receivers n) []
+-- the line of the row of a table with this number; nothing if there is no such row
+abbrev pub row_line : {X : Type 0} → List ℕ → (X → List ℕ) → List X → ℕ → List ℕ
+row_line what name rows n = option_map_or (λ row. constant_line what (name row) n) (slice_get rows n) []
 
--- the line of the source with this number; nothing if there is no such source
-abbrev pub source_line : List SourceRow → ℕ → List ℕ
-source_line sources n = option_map_or (λ s. constant_line (codes "SOURCE_") s.name n) (slice_get sources n) []
+-- an enumeration of rows in table order, and their count
+unfoldable pub row_enum : {X : Type 0} → List ℕ → List ℕ → List ℕ → (X → List ℕ) → List X → List ℕ
+row_enum start what counted name rows = start ++ (flat_map (row_line what name rows) (range_with_len 0 (length rows)) ++ count_line counted (length rows))
 
--- the receivers in table order, and their count
-unfoldable pub receiver_enum : List ReceiverRow → List ℕ
-receiver_enum receivers =
-    codes "enum a429_receiver {\n" ++ (flat_map (receiver_line receivers) (range_with_len 0 (length receivers)) ++ count_line (codes "RECEIVERS") (length receivers))
+abbrev pub receiver_enum : List ReceiverRow → List ℕ
+receiver_enum receivers = row_enum (codes "enum a429_receiver {\n") (codes "RECEIVER_") (codes "RECEIVERS") (λ r. r.name) receivers
 
--- the sources in table order, and their count
-unfoldable pub source_enum : List SourceRow → List ℕ
-source_enum sources =
-    codes "enum a429_source {\n" ++ (flat_map (source_line sources) (range_with_len 0 (length sources)) ++ count_line (codes "SOURCES") (length sources))
+abbrev pub source_enum : List SourceRow → List ℕ
+source_enum sources = row_enum (codes "enum a429_source {\n") (codes "SOURCE_") (codes "SOURCES") (λ s. s.name) sources
 
 -- ---- names stay apart
 

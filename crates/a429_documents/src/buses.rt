@@ -1,17 +1,15 @@
 //! What each bus of a station carries: the words that come in at its receivers, and those that its groups send.
-ghost use Rattle.std.specs.Prelude.{◌≡◌, ◌≤◌, ◌<◌, ◌++◌, ◌∷◌, [], IfSome, length, map};
-ghost use Rattle.a429_slots.specs.Tables.{groups_of, outputs_of, source_of};
-ghost use Rattle.a429_cert.specs.PlanText.{HasSources};
-ghost use Rattle.a429_documents.specs.Buses.{buses_columns, buses_rows, group_rows, heard_rows, in_row, in_rows, out_row, out_rows, rows_of_group, rows_on, sent_rows};
+ghost use Rattle.std.specs.Prelude.{◌≡◌, ◌++◌, ◌∷◌, []};
+ghost use Rattle.a429_documents.specs.Buses.{group_rows, heard_rows, in_row, in_rows, out_row, rows_on, sent_rows};
 
 use crate::document::{number, sdi_cell};
-use a429_equipment::{Equipment, GroupRow, ReceiverRow, SourceRow};
-use a429_slots::{GroupPlan, OUTPUTS, OutputId, Proposal, SlotPlace, slots_us};
-use a429_text::{Cell, Rows, Sheet};
-use std::alloc::Global;
+use crate::planned::{PlannedGroup, PlannedOutput};
+use a429_equipment::{Equipment, ReceiverRow, SourceRow};
+use a429_slots::slots_us;
+use a429_text::{Cell, Rows};
 
 /// The names of the columns.
-const COLUMNS: &[&str] = &[
+pub const COLUMNS: &[&str] = &[
     "direction",
     "name",
     "bus",
@@ -50,7 +48,7 @@ fn add_receiver(rows: &mut Rows, sources: &[SourceRow], number: usize, receiver:
 }
 
 /// Adds the rows of the words that come in, receiver by receiver.
-fn add_receivers(rows: &mut Rows, equipment: &Equipment)
+pub fn add_receivers(rows: &mut Rows, equipment: &Equipment)
     ensures { rows.new ≡ rows.old ++ in_rows equipment.now }
 {
     let sources = equipment.sources();
@@ -60,108 +58,48 @@ fn add_receivers(rows: &mut Rows, equipment: &Equipment)
     }
 }
 
-/// Adds the row of a word that a group sends, at its place.
-fn add_sent<'a>(rows: &mut Rows, group: &'a GroupRow, source: &'a SourceRow, place: SlotPlace)
-    requires { 1 ≤ group.now.rate }
-    ensures { rows.new ≡ rows.old ++ out_row group.now source.now place ∷ [] }
+/// Adds the row of a word that a group sends.
+fn add_sent(rows: &mut Rows, output: &PlannedOutput<'_>)
+    ensures { rows.new ≡ rows.old ++ out_row output.now ∷ [] }
 {
+    let (group, source) = (output.group, output.source);
     rows.add(&[
         Cell::Text("out"),
         Cell::Text(group.name.as_str()),
-        number(place.bus),
+        number(output.place.bus),
         number(group.rate),
         Cell::Octal(source.label.value()),
         sdi_cell(source.sdi),
         Cell::Text(source.name.as_str()),
-        Cell::Number(slots_us(group.rate, place.period.slots())),
+        Cell::Number(slots_us(group.rate, output.place.period.slots())),
     ]);
 }
 
 /// Adds the row of an output, if it is on this bus.
-fn add_output(
-    rows: &mut Rows,
-    sources: &[SourceRow],
-    group: &GroupRow,
-    table: &GroupPlan<OUTPUTS>,
-    bus: u32,
-    output: OutputId,
-)
-    requires rate { 1 ≤ group.now.rate }
-    requires known { output < length (outputs_of table.now) }
-    requires source { IfSome (source_of table.now output) (λ source. source < length sources.now) }
-    ensures { rows.new ≡ rows.old ++ rows_on sources.now group.now table.now bus output }
+fn add_output(rows: &mut Rows, bus: u32, output: &PlannedOutput<'_>)
+    ensures { rows.new ≡ rows.old ++ rows_on bus output.now }
 {
-    let place = table.place(output);
-    if place.bus == bus {
-        let source = &sources[table.source(output)];
-        add_sent(rows, group, source, place);
+    if output.place.bus == bus {
+        add_sent(rows, output);
     }
 }
 
 /// Adds the rows of the words that a group sends on a bus, in table order.
-fn add_bus(
-    rows: &mut Rows,
-    sources: &[SourceRow],
-    group: &GroupRow,
-    table: &GroupPlan<OUTPUTS>,
-    bus: u32,
-)
-    requires rate { 1 ≤ group.now.rate }
-    requires known { HasSources sources.now table.now }
-    ensures { rows.new ≡ rows.old ++ sent_rows sources.now group.now table.now bus }
+#[tactic(auto, using(crate::proofs::Ranges::flat_more))]
+fn add_bus(rows: &mut Rows, group: &PlannedGroup<'_>, bus: u32)
+    ensures { rows.new ≡ rows.old ++ sent_rows group.now bus }
 {
-    for number in 0..table.outputs() {
-        let output = OutputId::new(number);
-        add_output(rows, sources, group, table, bus, output);
+    for number in 0..group.table.outputs() {
+        add_output(rows, bus, &group.output(number));
     }
 }
 
 /// Adds the rows of the words that a group sends, bus by bus.
-fn add_buses(rows: &mut Rows, sources: &[SourceRow], group: &GroupRow, table: &GroupPlan<OUTPUTS>)
-    requires rate { 1 ≤ group.now.rate }
-    requires known { HasSources sources.now table.now }
-    ensures { rows.new ≡ rows.old ++ rows_of_group sources.now group.now table.now }
+#[tactic(auto, using(crate::proofs::Ranges::flat_more))]
+pub fn add_buses(rows: &mut Rows, group: &PlannedGroup<'_>)
+    ensures { rows.new ≡ rows.old ++ group_rows group.now }
 {
-    for bus in 0..table.buses() {
-        add_bus(rows, sources, group, table, bus);
-    }
-}
-
-/// Adds the rows of the group with this number.
-fn add_group(rows: &mut Rows, proposal: &Proposal<OUTPUTS>, group: usize)
-    requires { group < length (groups_of proposal.now.plan) }
-    ensures { rows.new ≡ rows.old ++ group_rows proposal.now.station proposal.now.plan group }
-{
-    let equipment = proposal.equipment();
-    equipment.rows_are_sound();
-    let sources = equipment.sources();
-    let groups = equipment.groups();
-    let table = proposal.plan().group(group);
-    add_buses(rows, sources, &groups[group], table);
-}
-
-/// Adds the rows of the words that go out, group by group.
-fn add_groups(rows: &mut Rows, proposal: &Proposal<OUTPUTS>)
-    ensures { rows.new ≡ rows.old ++ out_rows proposal.now.station proposal.now.plan }
-{
-    for group in 0..proposal.plan().groups() {
-        add_group(rows, proposal, group);
-    }
-}
-
-/// What each bus of a proposal's station carries: a row for each word. The receivers come first, in table order, each with
-/// the words of its sources; then the groups, each bus with the words that the group sends on it. In a bus, words are in
-/// table order. Buses are counted from 0; a bit rate is in bit/s. `period_us` is the transmit period in whole microseconds,
-/// rounded up. The table has no bit rates of receivers, and does not say how often a word comes in: these fields are absent.
-pub fn buses_sheet(alloc: Global, proposal: &Proposal<OUTPUTS>) -> Sheet
-    ensures columns { map (λ name. name.now) result.columns.now ≡ buses_columns }
-    ensures rows { result.rows ≡ buses_rows proposal.now.station proposal.now.plan }
-{
-    let mut rows = Rows::new(alloc);
-    add_receivers(&mut rows, proposal.equipment());
-    add_groups(&mut rows, proposal);
-    Sheet {
-        columns: COLUMNS,
-        rows,
+    for bus in 0..group.table.buses() {
+        add_bus(rows, group, bus);
     }
 }

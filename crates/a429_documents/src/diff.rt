@@ -2,7 +2,7 @@
 ghost use Rattle.std.specs.Prelude.{◌≡◌, ◌==◌, ◌++◌, IfOk, OnOk, length, map, string_bytes};
 ghost use Rattle.a429_documents.specs.Diff.{diff_columns, diff_rows, equipment_rows, plan_rows, table_change, table_rows, with_rates};
 
-mod names;
+pub(crate) mod names;
 mod outputs;
 mod rows;
 mod sides;

@@ -1,21 +1,17 @@
 //! The interface control document of a plan.
-ghost use Rattle.std.specs.Prelude.{◌≡◌, ◌∷◌, ◌++◌, [], ◌<◌, ◌≤◌, length, map};
+ghost use Rattle.std.specs.Prelude.{◌≡◌, ◌∷◌, ◌++◌, []};
 ghost use Rattle.a429_text.specs.Fields.{Number};
 ghost use Rattle.a429_text.specs.Sheets.{field_of};
-ghost use Rattle.a429_slots.specs.Tables.{outputs_of, placed_at};
-ghost use Rattle.a429_slots.specs.Planned.{HaveSources};
-ghost use Rattle.a429_documents.specs.Document.{icd_columns, icd_row, icd_rows, label_field, limit_field, output_row, output_rows, receiver_name, sdi_field, sdi_text};
+ghost use Rattle.a429_documents.specs.Document.{group_rows, label_field, limit_field, output_row, receiver_name, sdi_field, sdi_text};
 
-use a429_equipment::{Equipment, GroupRow, OutputRow, ReceiverRow, SourceRow};
-use a429_slots::{
-    GroupPlan, OUTPUTS, OutputId, Proposal, SendLimits, SlotPlace, latency_us, slots_us,
-};
-use a429_text::{Cell, Rows, Sheet};
+use crate::planned::{PlannedGroup, PlannedOutput};
+use a429_equipment::ReceiverRow;
+use a429_slots::{latency_us, slots_us};
+use a429_text::{Cell, Rows};
 use a429_word::{Label, Sdi};
-use std::alloc::Global;
 
 /// The names of the columns.
-const COLUMNS: &[&str] = &[
+pub const COLUMNS: &[&str] = &[
     "group",
     "rate",
     "source",
@@ -94,120 +90,38 @@ pub(crate) fn receiver_name(receivers: &[ReceiverRow], number: usize) -> &str
     }
 }
 
-/// Adds the row of an output of a group, which sends this source.
-fn add_row<'a>(
-    rows: &mut Rows,
-    keeps_zeros: bool,
-    receivers: &'a [ReceiverRow],
-    group: &'a GroupRow,
-    source: &'a SourceRow,
-    output: &OutputRow,
-    place: SlotPlace,
-    limits: SendLimits,
-)
-    requires { 1 ≤ group.now.rate }
-    ensures { rows.new ≡ rows.old ++ icd_row keeps_zeros receivers.now group.now source.now output.now place limits ∷ [] }
+/// Adds the row of an output.
+fn add_row(rows: &mut Rows, keeps_zeros: bool, output: &PlannedOutput<'_>)
+    ensures { rows.new ≡ rows.old ++ output_row keeps_zeros output.now ∷ [] }
 {
+    let (group, source, row) = (output.group, output.source, output.row);
+    let (place, limits) = (output.place, output.limits);
     let slots = place.period.slots();
     rows.add(&[
         Cell::Text(group.name.as_str()),
         number(group.rate),
         Cell::Text(source.name.as_str()),
-        Cell::Text(receiver_name(receivers, source.receiver)),
+        Cell::Text(receiver_name(output.receivers, source.receiver)),
         label_cell(keeps_zeros, source.label),
         sdi_cell(source.sdi),
         number(place.bus),
         number(place.offset),
         number(slots),
         Cell::Number(slots_us(group.rate, slots)),
-        number(output.min_us),
-        number(output.max_us),
+        number(row.min_us),
+        number(row.max_us),
         limit_cell(limits.hold),
         number(limits.spacing),
         Cell::Number(latency_us(group.rate, place.period)),
     ]);
 }
 
-/// Adds the row of an output of a group, by its number in the group's slot table.
-fn add_output(
-    rows: &mut Rows,
-    keeps_zeros: bool,
-    equipment: &Equipment,
-    group: &GroupRow,
-    output: &OutputRow,
-    table: &GroupPlan<OUTPUTS>,
-    number: OutputId,
-)
-    requires known { number < length (outputs_of table.now) }
-    requires source { output.now.source < length equipment.now.sources }
-    requires rate { 1 ≤ group.now.rate }
-    ensures { rows.new ≡ rows.old ++ output_row keeps_zeros equipment.now group.now output.now (placed_at table.now number) ∷ [] }
-{
-    let sources = equipment.sources();
-    let source = &sources[output.source];
-    let place = table.place(number);
-    let limits = table.limits(number);
-    add_row(
-        rows,
-        keeps_zeros,
-        equipment.receivers(),
-        group,
-        source,
-        output,
-        place,
-        limits,
-    );
-}
-
 /// Adds a row for each output of a group, in table order.
-fn add_outputs(
-    rows: &mut Rows,
-    keeps_zeros: bool,
-    equipment: &Equipment,
-    group: &GroupRow,
-    outputs: &[OutputRow],
-    table: &GroupPlan<OUTPUTS>,
-)
-    requires known { HaveSources equipment.now.sources outputs.now }
-    requires planned { length outputs.now ≡ length (outputs_of table.now) }
-    requires rate { 1 ≤ group.now.rate }
-    ensures { rows.new ≡ rows.old ++ output_rows keeps_zeros equipment.now group.now outputs.now (outputs_of table.now) }
+#[tactic(auto, using(crate::proofs::Ranges::flat_more))]
+pub fn add_outputs(rows: &mut Rows, keeps_zeros: bool, group: &PlannedGroup<'_>)
+    ensures { rows.new ≡ rows.old ++ group_rows keeps_zeros group.now }
 {
-    for number in 0..outputs.len() {
-        let output = &outputs[number];
-        let id = OutputId::new(number);
-        add_output(rows, keeps_zeros, equipment, group, output, table, id);
-    }
-}
-
-/// Adds a row for each output of each group, in table order.
-fn add_groups(rows: &mut Rows, keeps_zeros: bool, proposal: &Proposal<OUTPUTS>)
-    ensures { rows.new ≡ rows.old ++ icd_rows keeps_zeros proposal.now.station proposal.now.plan }
-{
-    let equipment = proposal.equipment();
-    equipment.rows_are_sound();
-    let groups = equipment.groups();
-    for number in 0..groups.len() {
-        let outputs = equipment.outputs(number);
-        let table = proposal.plan().group(number);
-        let group = &groups[number];
-        add_outputs(rows, keeps_zeros, equipment, group, outputs, table);
-    }
-}
-
-/// The interface control document of a proposal's plan: a row for each output, groups and outputs in table order. The bit
-/// rate is in bit/s. An offset is counted in slots from 0 at the start of the frame; a slot lasts 36 bit times. A period is in slots, and
-/// in whole microseconds, rounded up. The latency is the longest time, within one plan, from the acceptance of a word until
-/// it, or a later word of its source, was sent completely: a period and one slot, in whole microseconds, rounded up. A label
-/// is in octal; as a formula, such as `="003"`, if a spreadsheet is to keep its zeros.
-pub fn icd_sheet(alloc: Global, proposal: &Proposal<OUTPUTS>, keeps_zeros: bool) -> Sheet
-    ensures columns { map (λ name. name.now) result.columns.now ≡ icd_columns }
-    ensures rows { result.rows ≡ icd_rows keeps_zeros proposal.now.station proposal.now.plan }
-{
-    let mut rows = Rows::new(alloc);
-    add_groups(&mut rows, keeps_zeros, proposal);
-    Sheet {
-        columns: COLUMNS,
-        rows,
+    for number in 0..group.table.outputs() {
+        add_row(rows, keeps_zeros, &group.output(number));
     }
 }

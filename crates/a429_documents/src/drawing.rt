@@ -57,7 +57,7 @@ pub struct Drawing<'a> {
 }
 
 /// The number of the first group that is drawn, and the number of groups: one group, or all.
-fn group_range(plan: &Plan<OUTPUTS>, group: Option<usize>) -> (usize, usize)
+pub(crate) fn group_range(plan: &Plan<OUTPUTS>, group: Option<usize>) -> (usize, usize)
     requires { IfSome group (λ group. group < length (groups_of plan.now)) }
     ensures first { result.0 ≡ first_drawn group }
     ensures count { result.1 ≡ groups_drawn group plan.now }

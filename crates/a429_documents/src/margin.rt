@@ -1,18 +1,17 @@
 //! What would save a bus in each group of a plan.
-ghost use Rattle.std.specs.Prelude.{◌≡◌, ◌≤◌, ◌<◌, ◌-◌, ◌*◌, ◌^◌, ◌++◌, ◌∷◌, [], Option, length, map, sum, IfOk, IfSome};
+ghost use Rattle.std.specs.Prelude.{◌≡◌, ◌≤◌, ◌<◌, ◌-◌, ◌*◌, ◌^◌, ◌++◌, ◌∷◌, [], Option, length, map, sum, IfOk};
 ghost use Rattle.std.specs.List.{AllByRecursion};
 ghost use Rattle.std.specs.Option.{option_copied};
 ghost use Rattle.a429_text.specs.Sheets.{field_of};
-ghost use Rattle.a429_equipment.specs.Sound.{IsInterval, IsRate};
+ghost use Rattle.a429_equipment.specs.Sound.{IsInterval};
 ghost use Rattle.a429_pack.specs.Demanded.{IsBusCount};
 ghost use Rattle.a429_pack.specs.Windows.{raw_bound};
-ghost use Rattle.a429_slots.specs.Planned.{HaveSources, IsPlannedFor};
-ghost use Rattle.a429_slots.specs.Tables.{buses_of, demands_of, frame_of, outputs_of, source_of};
+ghost use Rattle.a429_slots.specs.Tables.{buses_of, demands_of, frame_of};
 ghost use Rattle.a429_documents.specs.Margins.{AddsSuch, IsChoice, IsGroupMargin, IsMargin, choice_rows, group_row_of, is_chosen, margin_columns, output_margin, outputs_margin, periods_of, saves, wider_row, window_of, yes_or_no};
-ghost use Rattle.a429_cert.specs.PlanText.{HasSources};
 
 use crate::document::number;
-use a429_equipment::{GroupRow, OutputRow, SourceRow};
+use crate::planned::{PlannedGroup, PlannedOutput};
+use a429_equipment::{GroupRow, OutputRow};
 use a429_grid::{Period, SLOT_TIME};
 use a429_pack::laws::fewest_by_demand;
 use a429_pack::{raw_bound, widening_saves};
@@ -83,10 +82,9 @@ fn choice<'a>(periods: &[Period], buses: u32, marks: &'a mut [bool]) -> Option<&
 }
 
 /// Whether an output is chosen.
-fn is_chosen(chosen: Option<&[bool]>, output: OutputId) -> bool
-    ensures { result ≡ is_chosen (option_copied chosen.entry) output }
+fn is_chosen(chosen: Option<&[bool]>, number: usize) -> bool
+    ensures { result ≡ is_chosen (option_copied chosen.entry) number }
 {
-    let number = output.number();
     match chosen {
         Some(marks) => number < marks.len() && marks[number],
         None => false,
@@ -100,19 +98,12 @@ fn yes_or_no(yes: bool) -> Cell<'static>
     Cell::Text(if yes { "yes" } else { "no" })
 }
 
-/// Adds the row of an output that has this period and could have the next longer one.
-fn add_wider<'a>(
-    rows: &mut Rows,
-    group: &'a GroupRow,
-    frame: u32,
-    chosen: bool,
-    name: &'a str,
-    period: Period,
-)
-    requires rate { 1 ≤ group.now.rate }
-    ensures { rows.new ≡ rows.old ++ wider_row group.now frame chosen name.now period ∷ [] }
+/// Adds the row of an output that could have the next longer period.
+fn add_wider(rows: &mut Rows, frame: u32, chosen: bool, output: &PlannedOutput<'_>)
+    ensures { rows.new ≡ rows.old ++ wider_row frame chosen output.now ∷ [] }
 {
-    let from = period.slots();
+    let group = output.group;
+    let from = output.place.period.slots();
     let to = 2 * from;
     rows.add(&[
         Cell::Text(group.name.as_str()),
@@ -120,7 +111,7 @@ fn add_wider<'a>(
         Cell::Absent,
         Cell::Absent,
         Cell::Absent,
-        Cell::Text(name),
+        Cell::Text(output.source.name.as_str()),
         number(from),
         number(to),
         number(frame / to),
@@ -130,43 +121,27 @@ fn add_wider<'a>(
 }
 
 /// Adds the row of an output, if its period is shorter than the frame.
-fn add_output(
-    rows: &mut Rows,
-    sources: &[SourceRow],
-    group: &GroupRow,
-    table: &GroupPlan<OUTPUTS>,
-    chosen: Option<&[bool]>,
-    output: OutputId,
-)
-    requires rate { 1 ≤ group.now.rate }
-    requires known { output < length (outputs_of table.now) }
-    requires source { IfSome (source_of table.now output) (λ source. source < length sources.now) }
-    ensures { rows.new ≡ rows.old ++ output_margin sources.now group.now table.now (option_copied chosen.entry) output }
+fn add_output(rows: &mut Rows, frame: u32, chosen: bool, output: &PlannedOutput<'_>)
+    ensures { rows.new ≡ rows.old ++ output_margin frame chosen output.now }
 {
-    let name = sources[table.source(output)].name.as_str();
-    let period = table.place(output).period;
-    let frame = table.frame();
-    if period.slots() >= frame {
-        return;
+    if output.place.period.slots() < frame {
+        add_wider(rows, frame, chosen, output);
     }
-    add_wider(rows, group, frame, is_chosen(chosen, output), name, period);
 }
 
 /// Adds the rows of a group's outputs, in table order.
-fn add_outputs(
-    rows: &mut Rows,
-    sources: &[SourceRow],
-    group: &GroupRow,
-    table: &GroupPlan<OUTPUTS>,
-    chosen: Option<&[bool]>,
-)
-    requires rate { 1 ≤ group.now.rate }
-    requires known { HasSources sources.now table.now }
-    ensures { rows.new ≡ rows.old ++ outputs_margin sources.now group.now table.now (option_copied chosen.entry) }
+#[tactic(auto, using(crate::proofs::Ranges::flat_more))]
+fn add_outputs(rows: &mut Rows, group: &PlannedGroup<'_>, chosen: Option<&[bool]>)
+    ensures { rows.new ≡ rows.old ++ outputs_margin group.now (option_copied chosen.entry) }
 {
-    for output in 0..table.outputs() {
-        let output = OutputId::new(output);
-        add_output(rows, sources, group, table, chosen, output);
+    let frame = group.table.frame();
+    for number in 0..group.table.outputs() {
+        add_output(
+            rows,
+            frame,
+            is_chosen(chosen, number),
+            &group.output(number),
+        );
     }
 }
 
@@ -222,45 +197,26 @@ fn add_group_row(
 }
 
 /// Adds the rows of the outputs that could free cells, if the group has more than one bus.
-fn add_choice(
-    rows: &mut Rows,
-    sources: &[SourceRow],
-    group: &GroupRow,
-    table: &GroupPlan<OUTPUTS>,
-    chosen: Option<&[bool]>,
-)
-    requires rate { 1 ≤ group.now.rate }
-    requires known { HasSources sources.now table.now }
-    ensures { rows.new ≡ rows.old ++ choice_rows sources.now group.now table.now (option_copied chosen.entry) }
+fn add_choice(rows: &mut Rows, group: &PlannedGroup<'_>, chosen: Option<&[bool]>)
+    ensures { rows.new ≡ rows.old ++ choice_rows group.now (option_copied chosen.entry) }
 {
-    if table.buses() >= 2 {
-        add_outputs(rows, sources, group, table, chosen);
+    if group.table.buses() >= 2 {
+        add_outputs(rows, group, chosen);
     }
 }
 
 /// Adds the rows of a group.
-fn add_group(
-    alloc: Global,
-    rows: &mut Rows,
-    sources: &[SourceRow],
-    group: &GroupRow,
-    outputs: &[OutputRow],
-    table: &GroupPlan<OUTPUTS>,
-) -> Result<(), AllocError>
-    requires rate { IsRate group.now.rate }
-    requires some { 1 ≤ length outputs.now }
-    requires known { HaveSources sources.now outputs.now }
-    requires intervals { AllByRecursion IsInterval outputs.now }
-    requires planned { IsPlannedFor group.now.rate sources.now outputs.now table.now }
-    ensures { AddsSuch result rows.old rows.new (IsGroupMargin sources.now group.now outputs.now table.now) }
+fn add_group(alloc: Global, rows: &mut Rows, group: &PlannedGroup<'_>) -> Result<(), AllocError>
+    ensures { AddsSuch result rows.old rows.new (IsGroupMargin group.now) }
 {
     fewest_by_demand();
-    let bound = bound_of(alloc, group.rate, outputs)?;
+    let table = group.table;
+    let bound = bound_of(alloc, group.row.rate, group.rows)?;
     let periods = periods(alloc, table)?;
     let mut marks = Vec::from_elem(alloc, false, table.outputs())?;
     let chosen = choice(&periods, table.buses(), &mut marks);
-    add_group_row(rows, group, table, bound, chosen);
-    add_choice(rows, sources, group, table, chosen);
+    add_group_row(rows, group.row, table, bound, chosen);
+    add_choice(rows, group, chosen);
     Ok(())
 }
 
@@ -272,14 +228,8 @@ fn add_groups(
 ) -> Result<(), AllocError>
     ensures { AddsSuch result rows.old rows.new (IsMargin proposal.now.station proposal.now.plan) }
 {
-    let equipment = proposal.equipment();
-    equipment.rows_are_sound();
-    let sources = equipment.sources();
-    let groups = equipment.groups();
-    for number in 0..groups.len() {
-        let outputs = equipment.outputs(number);
-        let table = proposal.plan().group(number);
-        add_group(alloc, rows, sources, &groups[number], outputs, table)?;
+    for number in 0..proposal.plan().groups() {
+        add_group(alloc, rows, &PlannedGroup::of(proposal, number))?;
     }
     Ok(())
 }

@@ -1,11 +1,11 @@
 //! A page that shows a plan and its documents.
-use crate::document::{SOURCE, icd_sheet};
+use crate::document::SOURCE;
 use crate::drawing::places::width_of;
 use crate::drawing::{Drawing, put_image};
 use crate::kept::{kept_texts, render_kept};
 use crate::lint::lint_sheet;
-use crate::load::load_sheet;
 use crate::margin::margin_sheet;
+use crate::sheets::{PlanSheet, plan_sheet};
 use crate::stamps::put_stamp;
 use a429_equipment::Equipment;
 use a429_slots::{OUTPUTS, Proposal};
@@ -86,7 +86,7 @@ fn put_outputs(
     proposal: &Proposal<OUTPUTS>,
     table: &[u8],
 ) -> Result<(), AllocError> {
-    let outputs = icd_sheet(alloc, proposal, false);
+    let outputs = plan_sheet(alloc, proposal, PlanSheet::Icd(false), None);
     let lines = render_kept(alloc, SheetForm::Columns, table, &outputs, SOURCE)?;
     put_lines(page, "Outputs", &lines);
     Ok(())
@@ -114,8 +114,8 @@ fn put_loads(
     page: &mut Text,
     proposal: &Proposal<OUTPUTS>,
 ) -> Result<(), AllocError> {
-    let load = load_sheet(alloc, proposal, None);
-    put_part(alloc, page, "Load", &load.sheet)
+    let load = plan_sheet(alloc, proposal, PlanSheet::Load(None), None);
+    put_part(alloc, page, "Load", &load)
 }
 
 /// Writes the documents of a proposal, and ends the page.

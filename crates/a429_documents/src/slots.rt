@@ -1,25 +1,22 @@
 //! The slot tables of a plan, as rows and as a header of C.
-ghost use Rattle.std.specs.Prelude.{◌≡◌, ◌≤◌, ◌<◌, ◌++◌, ◌∷◌, [], None, IfSome, length, map};
+ghost use Rattle.std.specs.Prelude.{◌≡◌, ◌≤◌, ◌++◌, ◌∷◌, []};
 ghost use Rattle.a429_text.specs.Fields.{Number};
 ghost use Rattle.a429_text.specs.Sheets.{field_of};
-ghost use Rattle.a429_slots.specs.Tables.{groups_of, outputs_of, source_of};
 ghost use Rattle.a429_slots.specs.Times.{slots_us};
-ghost use Rattle.a429_cert.specs.PlanText.{HasSources};
-ghost use Rattle.a429_documents.specs.SlotRows.{cell_fields, cell_rows, empty_row, filled_row, output_fields, rows_at, rows_in_frame, rows_in_slot, slot_columns, slot_rows};
+ghost use Rattle.a429_documents.specs.SlotRows.{cell_rows, empty_row, filled_row, rows_in_frame, rows_in_slot};
 
-mod board;
+pub mod board;
 mod header;
 
 use crate::document::{number, sdi_cell};
-pub use crate::slots::board::slot_board;
+use crate::planned::{PlannedGroup, PlannedOutput};
 pub use crate::slots::header::slot_header;
-use a429_equipment::{GroupRow, SourceRow};
-use a429_slots::{GroupPlan, OUTPUTS, OutputId, Proposal, SlotPlace, slots_us};
-use a429_text::{Cell, Rows, Sheet};
-use std::alloc::Global;
+use a429_equipment::GroupRow;
+use a429_slots::slots_us;
+use a429_text::{Cell, Rows};
 
 /// The names of the columns.
-const COLUMNS: &[&str] = &[
+pub const COLUMNS: &[&str] = &[
     "group",
     "slot",
     "time_us",
@@ -41,18 +38,11 @@ pub(crate) fn start_cell(group: &GroupRow, slot: u32) -> Cell<'static>
     Cell::Number(slots_us(group.rate, slot))
 }
 
-/// Adds the row of a cell whose output sends this source, and has this place.
-fn add_sent<'a>(
-    rows: &mut Rows,
-    group: &'a GroupRow,
-    source: &'a SourceRow,
-    place: SlotPlace,
-    slot: u32,
-    bus: u32,
-)
-    requires { 1 ≤ group.now.rate }
-    ensures { rows.new ≡ rows.old ++ (cell_fields group.now slot bus ++ output_fields source.now place) ∷ [] }
+/// Adds the row of a cell with this output.
+fn add_filled(rows: &mut Rows, output: &PlannedOutput<'_>, slot: u32, bus: u32)
+    ensures { rows.new ≡ rows.old ++ filled_row slot bus output.now ∷ [] }
 {
+    let (group, source) = (output.group, output.source);
     rows.add(&[
         Cell::Text(group.name.as_str()),
         number(slot),
@@ -61,7 +51,7 @@ fn add_sent<'a>(
         Cell::Octal(source.label.value()),
         sdi_cell(source.sdi),
         Cell::Text(source.name.as_str()),
-        number(place.period.slots()),
+        number(output.place.period.slots()),
     ]);
 }
 
@@ -82,128 +72,37 @@ fn add_empty(rows: &mut Rows, group: &GroupRow, slot: u32, bus: u32)
     ]);
 }
 
-/// Adds the row of a cell that has this output.
-fn add_filled(
-    rows: &mut Rows,
-    sources: &[SourceRow],
-    group: &GroupRow,
-    table: &GroupPlan<OUTPUTS>,
-    slot: u32,
-    bus: u32,
-    output: OutputId,
-)
-    requires rate { 1 ≤ group.now.rate }
-    requires known { output < length (outputs_of table.now) }
-    requires source { IfSome (source_of table.now output) (λ source. source < length sources.now) }
-    ensures { rows.new ≡ rows.old ++ filled_row sources.now group.now table.now slot bus output ∷ [] }
-{
-    let source = &sources[table.source(output)];
-    add_sent(rows, group, source, table.place(output), slot, bus);
-}
-
 /// Adds the row of a cell. An empty cell has one only if all cells are asked for.
 #[tactic(auto, unfolding(crate::specs::SlotRows::cell_rows))]
-fn add_cell(
-    rows: &mut Rows,
-    sources: &[SourceRow],
-    group: &GroupRow,
-    table: &GroupPlan<OUTPUTS>,
-    all: bool,
-    slot: u32,
-    bus: u32,
-)
-    requires rate { 1 ≤ group.now.rate }
-    requires known { HasSources sources.now table.now }
-    ensures { rows.new ≡ rows.old ++ cell_rows sources.now group.now table.now all slot bus }
+fn add_cell(rows: &mut Rows, all: bool, group: &PlannedGroup<'_>, slot: u32, bus: u32)
+    ensures { rows.new ≡ rows.old ++ cell_rows all group.now slot bus }
 {
-    match table.at(bus, u64::from(slot)) {
-        Some(output) => add_filled(rows, sources, group, table, slot, bus, output),
+    match group.table.at(bus, u64::from(slot)) {
+        Some(output) => add_filled(rows, &group.output(output.number()), slot, bus),
         None => {
             if all {
-                add_empty(rows, group, slot, bus);
+                add_empty(rows, group.row, slot, bus);
             }
         }
     }
 }
 
 /// Adds the rows of a slot, bus by bus.
-fn add_slot(
-    rows: &mut Rows,
-    sources: &[SourceRow],
-    group: &GroupRow,
-    table: &GroupPlan<OUTPUTS>,
-    all: bool,
-    slot: u32,
-)
-    requires rate { 1 ≤ group.now.rate }
-    requires known { HasSources sources.now table.now }
-    ensures { rows.new ≡ rows.old ++ rows_in_slot sources.now group.now table.now all slot }
+#[tactic(auto, using(crate::proofs::Ranges::flat_more))]
+fn add_slot(rows: &mut Rows, all: bool, group: &PlannedGroup<'_>, slot: u32)
+    ensures { rows.new ≡ rows.old ++ rows_in_slot all group.now slot }
 {
-    for bus in 0..table.buses() {
-        add_cell(rows, sources, group, table, all, slot, bus);
+    for bus in 0..group.table.buses() {
+        add_cell(rows, all, group, slot, bus);
     }
 }
 
-/// Adds the rows of a frame, slot by slot.
-fn add_frame(
-    rows: &mut Rows,
-    sources: &[SourceRow],
-    group: &GroupRow,
-    table: &GroupPlan<OUTPUTS>,
-    all: bool,
-)
-    requires rate { 1 ≤ group.now.rate }
-    requires known { HasSources sources.now table.now }
-    ensures { rows.new ≡ rows.old ++ rows_in_frame sources.now group.now all table.now }
+/// Adds the rows of a group, slot by slot.
+#[tactic(auto, using(crate::proofs::Ranges::flat_more))]
+pub fn add_frame(rows: &mut Rows, all: bool, group: &PlannedGroup<'_>)
+    ensures { rows.new ≡ rows.old ++ rows_in_frame all group.now }
 {
-    for slot in 0..table.frame() {
-        add_slot(rows, sources, group, table, all, slot);
-    }
-}
-
-/// Adds the rows of the group with this number.
-fn add_group(rows: &mut Rows, proposal: &Proposal<OUTPUTS>, all: bool, group: usize)
-    requires { group < length (groups_of proposal.now.plan) }
-    ensures { rows.new ≡ rows.old ++ rows_at proposal.now.station proposal.now.plan all group }
-{
-    let equipment = proposal.equipment();
-    equipment.rows_are_sound();
-    let sources = equipment.sources();
-    let groups = equipment.groups();
-    let table = proposal.plan().group(group);
-    add_frame(rows, sources, &groups[group], table, all);
-}
-
-/// Adds the rows of each group, in table order.
-fn add_groups(rows: &mut Rows, proposal: &Proposal<OUTPUTS>, all: bool)
-    ensures { rows.new ≡ rows.old ++ slot_rows proposal.now.station proposal.now.plan None all }
-{
-    for group in 0..proposal.plan().groups() {
-        add_group(rows, proposal, all, group);
-    }
-}
-
-/// The slot tables of a proposal's plan, of one group or of all in table order: a row for each cell that has an output, and
-/// with `all` also for each empty cell. The rows of a group are in the order of one frame: by slot, and in a slot by bus.
-/// Slots and buses are counted from 0. `time_us` is the time from the start of the frame to that of the slot, in whole
-/// microseconds, rounded up. A period is in slots.
-pub fn slot_sheet(
-    alloc: Global,
-    proposal: &Proposal<OUTPUTS>,
-    group: Option<usize>,
-    all: bool,
-) -> Sheet
-    requires known { IfSome group (λ group. group < length (groups_of proposal.now.plan)) }
-    ensures columns { map (λ name. name.now) result.columns.now ≡ slot_columns }
-    ensures rows { result.rows ≡ slot_rows proposal.now.station proposal.now.plan group all }
-{
-    let mut rows = Rows::new(alloc);
-    match group {
-        None => add_groups(&mut rows, proposal, all),
-        Some(group) => add_group(&mut rows, proposal, all, group),
-    }
-    Sheet {
-        columns: COLUMNS,
-        rows,
+    for slot in 0..group.table.frame() {
+        add_slot(rows, all, group, slot);
     }
 }

@@ -337,7 +337,7 @@ impl Calendar {
         }
     }
 
-    /// The same calendar at its beginning.
+    /// This calendar at its beginning.
     pub fn begun_again(self) -> Calendar
         ensures { result ≡ begun_again self }
     {

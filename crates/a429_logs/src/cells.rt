@@ -11,7 +11,7 @@ use crate::times::TimeUnit;
 pub enum Column {
     /// When a word comes in.
     Time,
-    /// The same, with this unit as the note of the column.
+    /// When a word comes in, in the unit that is the note of the column.
     TimeIn(TimeUnit),
     /// The receiver, the channel, the bus or the group of a word.
     Name,

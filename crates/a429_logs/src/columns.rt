@@ -57,7 +57,7 @@ pub enum WordPlaces {
 #[derive(Clone, Copy)]
 pub struct Width {
     pub all: usize,
-    /// The same without an empty field at the end.
+    /// How many without an empty field at the end.
     pub bare: usize,
 }
 

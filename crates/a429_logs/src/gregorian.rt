@@ -5,7 +5,7 @@ ghost use Rattle.a429_logs.specs.GregorianCalendar.{days_before, days_of_months,
 /// The days of the months of a year that is no leap year, January first.
 const MONTHS: [u64; 12] = [31, 28, 31, 30, 31, 30, 31, 31, 30, 31, 30, 31];
 
-/// The same for a leap year.
+/// The days of the months of a leap year.
 const LEAP_MONTHS: [u64; 12] = [31, 29, 31, 30, 31, 30, 31, 31, 30, 31, 30, 31];
 
 /// Whether a year has a 29th of February.

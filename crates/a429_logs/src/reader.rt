@@ -99,7 +99,7 @@ impl<'r, 't> LogReader<'r, 't> {
         }
     }
 
-    /// The same lines, below this number of titles.
+    /// This reader, below this number of titles.
     fn with_titles(self, titles: usize) -> LogReader<'r, 't>
         ensures lines { lines_left result ≡ lines_left self.entry }
         ensures reading { result.reading ≡ self.entry.reading }

@@ -160,21 +160,21 @@ impl<'a> Reading<'a> {
         }
     }
 
-    /// The same, if the bits of whole words are written in this order.
+    /// This reading, if the bits of whole words are written in this order.
     pub fn with_order(self, order: BitOrder) -> Reading<'a>
         ensures { result ≡ record self.entry { order = order } }
     {
         Reading { order, ..self }
     }
 
-    /// The same, if the fields of headings are renamed by these texts FROM=TO: a field FROM counts as TO.
+    /// This reading, if the fields of headings are renamed by these texts FROM=TO: a field FROM counts as TO.
     pub fn with_renames(self, renames: &'a [&'a str]) -> Reading<'a>
         ensures { result ≡ record self.entry { renames = renames.entry } }
     {
         Reading { renames, ..self }
     }
 
-    /// The same, if the day or the month is first in dates. Without an order rows show it.
+    /// This reading, if the day or the month is first in dates. Without an order rows show it.
     pub fn with_dates(self, order: Option<DateOrder>) -> Reading<'a>
         ensures { result ≡ record self.entry { dates = order } }
     {

@@ -24,7 +24,7 @@ pub fn whole_word(text: &[u8]) -> Option<u32>
 pub enum BitOrder {
     /// As ARINC 429 Part 1 numbers them: bit 1, the highest of the label, is the lowest.
     AsWritten,
-    /// The same, with the label (bits 1 to 8) reversed: bit 8 is the lowest.
+    /// As written, but with the label (bits 1 to 8) reversed: bit 8 is the lowest.
     LabelReversed,
     /// All 32 bits reversed: bit 32 is the lowest.
     WordReversed,

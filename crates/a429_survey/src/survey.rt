@@ -149,7 +149,7 @@ impl Survey {
         })
     }
 
-    /// The same with how many words have each SSM, with the least and the greatest data of the words, and with a column
+    /// The rows of `sheet` with how many words have each SSM, with the least and the greatest data of the words, and with a column
     /// `table`. The data is read as BNR and as BCD. The row of all words says nothing of it.
     ///
     /// `table` is what a table says that expects these words. It is `expected` or `unexpected`, or how the words of a group

@@ -79,7 +79,7 @@ impl KeptCell {
         }
     }
 
-    /// The same cell. Error: an allocation failed for its text.
+    /// A copy of the cell. Error: an allocation failed for its text.
     fn copied(&self, alloc: Global) -> Result<KeptCell, AllocError>
         ensures { IfOk result (λ cell. kept_field cell ≡ kept_field self.now) }
     {
@@ -134,7 +134,7 @@ impl Row {
         }
     }
 
-    /// The same row. Error: an allocation failed for a cell.
+    /// A copy of the row. Error: an allocation failed for a cell.
     fn copied(&self, alloc: Global) -> Result<Row, AllocError>
         ensures { IfOk result (λ row. row ≡ self.now) }
     {
@@ -147,7 +147,7 @@ impl Row {
         Ok(copy)
     }
 
-    /// The same row with further cells at its end. Error: an allocation failed for a cell of the row.
+    /// A copy of the row with further cells at its end. Error: an allocation failed for a cell of the row.
     pub fn wider(&self, alloc: Global, more: &[Cell<'_>]) -> Result<Row, AllocError>
         ensures { IfOk result (λ row. row ≡ self.now ++ map field_of more.now) }
     {

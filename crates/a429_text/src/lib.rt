@@ -25,7 +25,7 @@
 //! Rendered in a form, a sheet is bytes:
 //!
 //! ```text
-//! let bytes = load.sheet.render(alloc, form)?;
+//! let bytes = sheet.render(alloc, form)?;
 //! ```
 #![tactic(auto)]
 

@@ -27,7 +27,8 @@ use Rattle.a429_import.specs.declared.fault.ImportColumn.{ImportColumn}
 use Rattle.a429_import.specs.declared.fault.ImportColumn.TheVariants.{Filters, Label, Rate, Receiver, Sdi}
 use Rattle.a429_import.specs.declared.lines.CsvLine.{CsvLine}
 use Rattle.a429_import.specs.declared.rows.ImportRow.{ImportRow}
-use Rattle.a429_documents.specs.Document.{groups_rows, icd_columns, icd_rows, output_row, output_rows, receiver_name}
+use Rattle.a429_documents.specs.Document.{icd_columns, icd_rows, receiver_name}
+use Rattle.a429_documents.proofs.IcdRows.{groups_rows, icd_rows_are, output_row, output_rows}
 use Rattle.a429_import.specs.ImportLimits.{has_too_many_filters, too_many}
 use Rattle.a429_import.specs.ImportRows.{◌>>=◌, CsvFault, agreed, clash, first_clash, is_named, joined, limited, next_row, numbers_of, other_clash, row_of, rows_after, rows_stated, source_clash, texts_of, unless_wrong, with_row, without_notes, wrong_column, is_wrong}
 use Rattle.a429_import.specs.ImportTables.{has_group, is_known, same_name, words}
@@ -291,15 +292,12 @@ module _ (e : TableRecord) (sound : IsSound e) where
       }
 
   output_read : (g : GroupRow) (o : OutputRow) (p : Placed) → IsServed g.rate o p → IsGroupRow g → o.source < length e.sources → IsInterval o → IsHold o → IsRowReadAs (output_row false e g o p) (read_output e g o)
-  unfolding output_row
   output_read g o p served group below interval hold =
-      rw (source_there o.source below)
-      (let R = is_readable g o group below interval hold in
-      (refl, row_filled e.receivers g (source_at e o.source) o p.place p.limits R served.2, λ number. row_back e.receivers g (source_at e o.source) o p.place p.limits R served.2 number))
+      let R = is_readable g o group below interval hold in
+      (refl, row_filled e.receivers g (source_at e o.source) o p.place p.limits R served.2, λ number. row_back e.receivers g (source_at e o.source) o p.place p.limits R served.2 number)
 
   outputs_read : (g : GroupRow) (os : List OutputRow) (ps : List Placed) → AllZip (IsServed g.rate) os ps → IsGroupRow g → HaveSources e.sources os → AllByRecursion IsInterval os → AllByRecursion IsHold os
       → AllZip IsRowReadAs (output_rows false e g os ps) (map (read_output e g) os)
-  unfolding output_rows
   outputs_read g [] [] served group known intervals holds = tt
   outputs_read g [] (p ∷ ps) served group known intervals holds = absurd served
   outputs_read g (o ∷ os) [] served group known intervals holds = absurd served
@@ -309,7 +307,6 @@ module _ (e : TableRecord) (sound : IsSound e) where
   groups_read : (groups : List GroupRow) (outputs : List (List OutputRow)) (ts : List SlotTable) → AllZip (IsPlannedAt e.sources) (zip (map (λ g. g.rate) groups) outputs) ts → AllByRecursion IsGroupRow groups
       → AllByRecursion (HaveSources e.sources) outputs → AllByRecursion (AllByRecursion IsInterval) outputs → AllByRecursion (AllByRecursion IsHold) outputs
       → AllZip IsRowReadAs (groups_rows false e groups outputs ts) (read_groups e groups outputs)
-  unfolding groups_rows
   groups_read [] outputs ts planned rows known intervals holds = tt
   groups_read (g ∷ groups) [] ts planned rows known intervals holds = tt
   groups_read (g ∷ groups) (os ∷ outputs) [] planned rows known intervals holds = absurd planned
@@ -376,7 +373,9 @@ module _ (e : TableRecord) (sound : IsSound e) where
 
   all_read : (p : PlanTable) → IsPlanOf e p → AllZip IsReadAs (map texts (icd_rows false e p)) (read_table e)
   all_read p planned =
-      zip_texts (icd_rows false e p) (read_table e) (groups_read e.groups e.outputs (groups_of p) planned.groups sound.group_rows sound.known_sources sound.intervals sound.holds)
+      zip_texts (icd_rows false e p) (read_table e)
+      (subst (λ (rows : List (List Field)). AllZip IsRowReadAs rows (read_table e)) (sym (icd_rows_are false e p planned))
+      (groups_read e.groups e.outputs (groups_of p) planned.groups sound.group_rows sound.known_sources sound.intervals sound.holds))
 
   pub rows_stated_are : HasFew (read_table e) → HaveFewOutputs (read_table e) → (p : PlanTable) (lines : List CsvLine) → IsPlanOf e p → AreLines [] (csv_text_of (icd_columns ∷ map texts (icd_rows false e p))) lines → rows_stated lines ≡ Ok (read_table e)
   rows_stated_are few outputs p lines planned are =

@@ -188,7 +188,7 @@ impl LineEvidence {
         })
     }
 
-    /// The same line, by its number in a longer text. There `above` is the last line before this text that states something.
+    /// This line, by its number in a longer text. There `above` is the last line before this text that states something.
     pub fn in_text(mut self, number: usize, above: &[u8]) -> LineEvidence {
         self.number = number;
         if self.before.is_empty() {

@@ -106,6 +106,7 @@ fn add_lone<'x>(
 }
 
 /// Adds what changes of the outputs that both plans have.
+#[tactic(auto, using(crate::proofs::Ranges::flat_more))]
 fn add_kepts(
     alloc: Global,
     rows: &mut Rows,
@@ -123,6 +124,7 @@ fn add_kepts(
 }
 
 /// Adds the rows of outputs that only one of the plans has.
+#[tactic(auto, using(crate::proofs::Ranges::flat_more))]
 fn add_only<'x>(rows: &mut Rows, change: &str, group: &'x str, own: &Side<'x>, other: &Side<'_>)
     ensures { rows.new ≡ rows.old ++ each_of (length (outputs_of own.now.table)) (only_rows change.now group.now own.now other.now) }
 {
@@ -233,6 +235,7 @@ fn groups(proposal: &Proposal<OUTPUTS>) -> usize
 }
 
 /// Adds the rows of the groups that both proposals have. Error: an allocation failed.
+#[tactic(auto, using(crate::proofs::Ranges::flat_more))]
 pub fn add_groups(
     alloc: Global,
     rows: &mut Rows,
@@ -264,7 +267,7 @@ fn is_moved(group: &Both<'_>, output: OutputId) -> bool
 }
 
 /// How many outputs of a group have moved.
-#[tactic(auto, using(crate::proofs::Changes::sums_more))]
+#[tactic(auto, using(crate::proofs::Ranges::summed_more))]
 fn moved_in(group: &Both<'_>) -> u64
     ensures count { result ≡ moved_in group.now }
     ensures few { result ≤ 128 }
@@ -291,7 +294,7 @@ fn moved_of(a: &Proposal<OUTPUTS>, b: &Proposal<OUTPUTS>, group: usize) -> u64
 }
 
 /// How many outputs of all groups have moved.
-#[tactic(auto, using(crate::proofs::Changes::sums_more))]
+#[tactic(auto, using(crate::proofs::Ranges::summed_more))]
 fn moved_count(a: &Proposal<OUTPUTS>, b: &Proposal<OUTPUTS>) -> u64
     ensures { result ≡ moved_count a.now b.now }
 {

@@ -40,6 +40,7 @@ fn push_cell(
 }
 
 /// Adds the marks of a bus in the first `slots` slots.
+#[tactic(auto, using(crate::proofs::Ranges::flat_more))]
 fn push_bus(
     marks: &mut Gathered<Mark>,
     group: usize,
@@ -55,6 +56,7 @@ fn push_bus(
 }
 
 /// Adds the marks of a group in the first `slots` slots, bus by bus.
+#[tactic(auto, using(crate::proofs::Ranges::flat_more))]
 fn push_group(marks: &mut Gathered<Mark>, group: usize, table: &GroupPlan<OUTPUTS>, slots: u32)
     ensures { marks.new ≡ marks.old ++ group_marks group table.now slots }
 {

@@ -92,6 +92,7 @@ fn add_unfit(
 }
 
 /// Adds the outputs that have no grid period.
+#[tactic(auto, using(crate::proofs::Ranges::flat_more))]
 fn add_unfits(
     found: &mut Rows,
     sources: &[SourceRow],
@@ -188,6 +189,7 @@ fn add_alike(
 }
 
 /// Adds an output with each later one that a display cannot distinguish from it.
+#[tactic(auto, using(crate::proofs::Ranges::flat_more))]
 fn add_alikes_of(
     found: &mut Rows,
     sources: &[SourceRow],
@@ -207,6 +209,7 @@ fn add_alikes_of(
 }
 
 /// Adds the outputs that a display cannot distinguish.
+#[tactic(auto, using(crate::proofs::Ranges::flat_more))]
 fn add_alikes(
     found: &mut Rows,
     sources: &[SourceRow],

@@ -74,6 +74,7 @@ fn add_blind(
 }
 
 /// Adds the filters of a list that pass no source of the receiver.
+#[tactic(auto, using(crate::proofs::Ranges::flat_more))]
 fn add_blinds(
     found: &mut Rows,
     sources: &[SourceRow],

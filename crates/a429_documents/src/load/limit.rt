@@ -4,14 +4,14 @@ ghost use Rattle.std.specs.List.{list_all};
 ghost use Rattle.a429_text.specs.Sheets.{field_of};
 ghost use Rattle.a429_slots.specs.Tables.{outputs_of};
 ghost use Rattle.a429_documents.specs.Limits.{AreNeeded, AreShares, FitEach, buses_from, buses_within, demand_from, if_from, needed_buses};
-ghost use Rattle.a429_documents.specs.Load.{buses_field, has_above, is_above, loads_of, needed_field, shares_of};
+ghost use Rattle.a429_documents.specs.Load.{buses_field, is_above, loads_of, needed_field, shares_of};
 
 use a429_grid::Period;
 use a429_slots::{GroupPlan, OUTPUTS, OutputId};
 use a429_text::Cell;
 
 /// Whether a bus has more cells with an output than this part of its frame, in per cent.
-fn is_above(limit: u32, frame: u32, loads: &[u32]) -> bool
+pub fn is_above(limit: u32, frame: u32, loads: &[u32]) -> bool
     ensures { result ≡ is_above limit frame loads.now }
 {
     let most = u64::from(limit) * u64::from(frame);
@@ -21,18 +21,6 @@ fn is_above(limit: u32, frame: u32, loads: &[u32]) -> bool
         }
     }
     false
-}
-
-/// Whether a bus of a group has a greater load than a limit, in per cent of the slots of a frame. `false` if there is no
-/// limit.
-pub fn has_above(limit: Option<u32>, table: &GroupPlan<OUTPUTS>, loads: &[u32]) -> bool
-    requires loads { loads.now ≡ loads_of table.now }
-    ensures { result ≡ has_above limit table.now }
-{
-    match limit {
-        None => false,
-        Some(limit) => is_above(limit, table.frame(), loads),
-    }
 }
 
 /// How many cells of a frame an output fills.

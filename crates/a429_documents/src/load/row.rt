@@ -9,6 +9,7 @@ ghost use Rattle.a429_documents.specs.Load.{bus_field, bus_rows, bus_rows_of, ce
 
 use crate::document::number;
 use crate::load::cells::{all_cells, all_room, room_on};
+use crate::planned::PlannedGroup;
 use a429_equipment::GroupRow;
 use a429_slots::{GroupPlan, OUTPUTS};
 use a429_text::{Cell, Rows};
@@ -66,21 +67,15 @@ fn words(cells: u64, rate: u32, frame: u32) -> Cell<'static>
 }
 
 /// Adds the row of how many more outputs of a period some buses take, if the period is within the frame.
-fn add_room(
-    rows: &mut Rows,
-    group: &GroupRow,
-    table: &GroupPlan<OUTPUTS>,
-    buses: Buses,
-    period: u32,
-)
+fn add_room(rows: &mut Rows, group: &PlannedGroup<'_>, buses: Buses, period: u32)
     requires some { 1 ≤ period }
-    ensures { rows.new ≡ rows.old ++ room_rows group.now table.now buses period }
+    ensures { rows.new ≡ rows.old ++ room_rows group.now buses period }
 {
-    if period > table.frame() {
+    if period > group.table.frame() {
         return;
     }
     rows.add(&[
-        Cell::Text(group.name.as_str()),
+        Cell::Text(group.row.name.as_str()),
         Cell::Absent,
         bus_cell(buses),
         Cell::Absent,
@@ -90,23 +85,17 @@ fn add_room(
         Cell::Absent,
         Cell::Absent,
         number(period),
-        Cell::Number(room(table, buses, period)),
+        Cell::Number(room(group.table, buses, period)),
     ]);
 }
 
 /// Adds the rows of these powers of two as periods.
-fn add_rooms(
-    rows: &mut Rows,
-    group: &GroupRow,
-    table: &GroupPlan<OUTPUTS>,
-    buses: Buses,
-    periods: &[u32],
-)
+fn add_rooms(rows: &mut Rows, group: &PlannedGroup<'_>, buses: Buses, periods: &[u32])
     requires some { AllByRecursion (λ period. 1 ≤ period) periods.now }
-    ensures { rows.new ≡ rows.old ++ flat_map (room_rows group.now table.now buses) periods.now }
+    ensures { rows.new ≡ rows.old ++ flat_map (room_rows group.now buses) periods.now }
 {
     for number in 0..periods.len() {
-        add_room(rows, group, table, buses, periods[number]);
+        add_room(rows, group, buses, periods[number]);
     }
 }
 
@@ -145,30 +134,29 @@ fn add_load<'a>(
 /// Adds the rows of some buses, which have these loads.
 pub fn add_rows(
     rows: &mut Rows,
-    group: &GroupRow,
-    table: &GroupPlan<OUTPUTS>,
+    group: &PlannedGroup<'_>,
     buses: Buses,
     loads: &[u32],
     needed: Cell<'_>,
 )
-    requires rate { group.now.rate ≤ 100000 }
-    requires loads { loads.now ≡ map (cells_on table.now) (listed_buses table.now buses) }
+    requires loads { loads.now ≡ map (cells_on group.now.table) (listed_buses group.now.table buses) }
     requires some { 1 ≤ length loads.now }
     requires few { length loads.now ≤ 16 }
-    ensures { rows.new ≡ rows.old ++ bus_rows_of group.now table.now buses (field_of needed.entry) }
+    ensures { rows.new ≡ rows.old ++ bus_rows_of group.now buses (field_of needed.entry) }
 {
-    add_load(rows, group, table.frame(), bus_cell(buses), loads, needed);
-    add_rooms(rows, group, table, buses, &PERIODS);
+    let frame = group.table.frame();
+    add_load(rows, group.row, frame, bus_cell(buses), loads, needed);
+    add_rooms(rows, group, buses, &PERIODS);
 }
 
 /// Adds the rows of each bus of a group, from 0.
-pub fn add_buses(rows: &mut Rows, group: &GroupRow, table: &GroupPlan<OUTPUTS>, loads: &[u32])
-    requires rate { group.now.rate ≤ 100000 }
-    requires loads { loads.now ≡ loads_of table.now }
-    ensures { rows.new ≡ rows.old ++ flat_map (bus_rows group.now table.now) (range_with_len 0 (buses_of table.now)) }
+#[tactic(auto, using(crate::proofs::Ranges::flat_more))]
+pub fn add_buses(rows: &mut Rows, group: &PlannedGroup<'_>, loads: &[u32])
+    requires { loads.now ≡ loads_of group.now.table }
+    ensures { rows.new ≡ rows.old ++ flat_map (bus_rows group.now) (range_with_len 0 (buses_of group.now.table)) }
 {
-    for bus in 0..table.buses() {
+    for bus in 0..group.table.buses() {
         let load = [loads[bus as usize]];
-        add_rows(rows, group, table, Buses::One(bus), &load, Cell::Absent);
+        add_rows(rows, group, Buses::One(bus), &load, Cell::Absent);
     }
 }

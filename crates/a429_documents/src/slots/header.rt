@@ -1,18 +1,20 @@
 //! The slot tables of a plan as a header of C.
-ghost use Rattle.std.specs.Prelude.{◌≡◌, ◌<◌, ◌++◌, IfSome, None, length};
-ghost use Rattle.a429_slots.specs.Tables.{groups_of, outputs_of, source_of};
-ghost use Rattle.a429_cert.specs.PlanText.{HasSources};
-ghost use Rattle.a429_documents.specs.SlotHeader.{bus_elements, cell_number, element, element_start, group_comment, group_elements, group_part, header_parts, header_start, header_text, number_macro, output_entries, output_entry, output_line, part_at, sdi_text, sending_text, size_macros, slots_array, slots_check, table_enums, words_text};
+ghost use Rattle.std.specs.Prelude.{◌≡◌, ◌<◌, ◌++◌, IfSome, length};
+ghost use Rattle.a429_slots.specs.Tables.{groups_of};
+ghost use Rattle.a429_documents.specs.PlannedGroups.{of_groups};
+ghost use Rattle.a429_documents.specs.SlotHeader.{bus_elements, cell_number, element, element_start, group_comment, group_elements, group_part, header_start, header_text, number_macro, output_line, output_lines, sdi_text, sending_text, size_macros, slots_array, slots_check, words_text};
 
 mod columns;
 mod names;
 
+use crate::drawing::group_range;
+use crate::planned::{PlannedGroup, PlannedOutput};
 use crate::slots::header::columns::{
     put_array_start, put_check_end, put_check_start, put_columns, put_group_macro,
 };
-use crate::slots::header::names::{put_receivers, put_sources};
-use a429_equipment::{Equipment, GroupRow, ReceiverRow, SourceRow};
-use a429_slots::{GroupPlan, OUTPUTS, OutputId, Proposal, SlotPlace};
+use crate::slots::header::names::put_enums;
+use a429_equipment::{GroupRow, SourceRow};
+use a429_slots::{GroupPlan, OUTPUTS, OutputId, Proposal};
 use a429_text::Text;
 use a429_word::Sdi;
 use std::alloc::Global;
@@ -40,54 +42,45 @@ fn put_words(text: &mut Text, source: &SourceRow)
 
 /// Writes the period of an output, and the name of its source.
 #[tactic(auto, unfolding(crate::specs::SlotHeader::sending_text))]
-fn put_sending(text: &mut Text, source: &SourceRow, place: SlotPlace)
-    ensures { text.new ≡ text.old ++ sending_text source.now place }
+fn put_sending(text: &mut Text, output: &PlannedOutput<'_>)
+    ensures { text.new ≡ text.old ++ sending_text output.now }
 {
     text.put(" period ");
-    text.put_number(u64::from(place.period.slots()));
+    text.put_number(u64::from(output.place.period.slots()));
     text.put(" source ");
-    text.put(source.name.as_str());
+    text.put(output.source.name.as_str());
 }
 
-/// Writes the line of an output that sends this source, and has this place.
+/// Writes the line of an output, by its number.
 #[tactic(auto, unfolding(crate::specs::SlotHeader::output_line))]
-fn put_line(text: &mut Text, output: OutputId, source: &SourceRow, place: SlotPlace)
-    ensures { text.new ≡ text.old ++ output_line output source.now place }
+fn put_line(text: &mut Text, number: usize, output: &PlannedOutput<'_>)
+    ensures { text.new ≡ text.old ++ output_line number output.now }
 {
-    text.fill(&["\n   ", ":"], &[output.number() as u64]);
-    put_words(text, source);
-    put_sending(text, source, place);
-}
-
-/// Writes the line of an output.
-fn put_output(text: &mut Text, sources: &[SourceRow], table: &GroupPlan<OUTPUTS>, output: OutputId)
-    requires known { output < length (outputs_of table.now) }
-    requires source { IfSome (source_of table.now output) (λ source. source < length sources.now) }
-    ensures { text.new ≡ text.old ++ output_entry sources.now table.now output }
-{
-    let source = &sources[table.source(output)];
-    put_line(text, output, source, table.place(output));
+    text.put("\n   ");
+    text.put_number(number as u64);
+    text.put(":");
+    put_words(text, output.source);
+    put_sending(text, output);
 }
 
 /// Writes a line for each output, in table order.
-fn put_outputs(text: &mut Text, sources: &[SourceRow], table: &GroupPlan<OUTPUTS>)
-    requires { HasSources sources.now table.now }
-    ensures { text.new ≡ text.old ++ output_entries sources.now table.now }
+#[tactic(auto, using(crate::proofs::Ranges::flat_more))]
+fn put_outputs(text: &mut Text, group: &PlannedGroup<'_>)
+    ensures { text.new ≡ text.old ++ output_lines group.now }
 {
-    for number in 0..table.outputs() {
-        put_output(text, sources, table, OutputId::new(number));
+    for number in 0..group.table.outputs() {
+        put_line(text, number, &group.output(number));
     }
 }
 
 /// Writes the comment that numbers the outputs of a group.
 #[tactic(auto, unfolding(crate::specs::SlotHeader::group_comment))]
-fn put_comment(text: &mut Text, sources: &[SourceRow], group: &GroupRow, table: &GroupPlan<OUTPUTS>)
-    requires { HasSources sources.now table.now }
-    ensures { text.new ≡ text.old ++ group_comment sources.now group.now table.now }
+fn put_comment(text: &mut Text, group: &PlannedGroup<'_>)
+    ensures { text.new ≡ text.old ++ group_comment group.now }
 {
     text.put("/* group ");
-    text.put(group.name.as_str());
-    put_outputs(text, sources, table);
+    text.put(group.row.name.as_str());
+    put_outputs(text, group);
     text.put(" */\n");
 }
 
@@ -105,13 +98,14 @@ fn put_macro(text: &mut Text, group: &GroupRow, word: &str, value: u64)
 
 /// Writes the macros of a group's sizes.
 #[tactic(auto, unfolding(crate::specs::SlotHeader::size_macros))]
-fn put_sizes(text: &mut Text, group: &GroupRow, table: &GroupPlan<OUTPUTS>)
-    ensures { text.new ≡ text.old ++ size_macros group.now table.now }
+fn put_sizes(text: &mut Text, group: &PlannedGroup<'_>)
+    ensures { text.new ≡ text.old ++ size_macros group.now }
 {
-    put_macro(text, group, "_RATE", u64::from(group.rate));
-    put_macro(text, group, "_FRAME", u64::from(table.frame()));
-    put_macro(text, group, "_BUSES", u64::from(table.buses()));
-    put_macro(text, group, "_OUTPUTS", table.outputs() as u64);
+    let (row, table) = (group.row, group.table);
+    put_macro(text, row, "_RATE", u64::from(row.rate));
+    put_macro(text, row, "_FRAME", u64::from(table.frame()));
+    put_macro(text, row, "_BUSES", u64::from(table.buses()));
+    put_macro(text, row, "_OUTPUTS", table.outputs() as u64);
 }
 
 /// Writes what is before an element.
@@ -146,6 +140,7 @@ fn put_element(text: &mut Text, table: &GroupPlan<OUTPUTS>, bus: u32, slot: u32)
 }
 
 /// Writes the elements of a bus, slot by slot.
+#[tactic(auto, using(crate::proofs::Ranges::flat_more))]
 fn put_bus(text: &mut Text, table: &GroupPlan<OUTPUTS>, bus: u32)
     ensures { text.new ≡ text.old ++ bus_elements table.now bus }
 {
@@ -155,6 +150,7 @@ fn put_bus(text: &mut Text, table: &GroupPlan<OUTPUTS>, bus: u32)
 }
 
 /// Writes the elements of a group, bus by bus.
+#[tactic(auto, using(crate::proofs::Ranges::flat_more))]
 fn put_elements(text: &mut Text, table: &GroupPlan<OUTPUTS>)
     ensures { text.new ≡ text.old ++ group_elements table.now }
 {
@@ -177,65 +173,36 @@ fn put_slots_check(text: &mut Text, group: &GroupRow)
 
 /// Writes the array of a group's cells.
 #[tactic(auto, unfolding(crate::specs::SlotHeader::slots_array))]
-fn put_slots(text: &mut Text, group: &GroupRow, table: &GroupPlan<OUTPUTS>)
-    ensures { text.new ≡ text.old ++ slots_array group.now table.now }
+fn put_slots(text: &mut Text, group: &PlannedGroup<'_>)
+    ensures { text.new ≡ text.old ++ slots_array group.now }
 {
-    put_array_start(text, "uint16_t", group, "slots");
-    put_elements(text, table);
+    put_array_start(text, "uint16_t", group.row, "slots");
+    put_elements(text, group.table);
     text.put("\n};\n");
-    put_slots_check(text, group);
+    put_slots_check(text, group.row);
     text.put("\n");
 }
 
 /// Writes a group.
 #[tactic(auto, unfolding(crate::specs::SlotHeader::group_part))]
-fn put_part(
-    text: &mut Text,
-    receivers: &[ReceiverRow],
-    sources: &[SourceRow],
-    group: &GroupRow,
-    table: &GroupPlan<OUTPUTS>,
-)
-    requires { HasSources sources.now table.now }
-    ensures { text.new ≡ text.old ++ group_part receivers.now sources.now group.now table.now }
+fn put_part(text: &mut Text, group: &PlannedGroup<'_>)
+    ensures { text.new ≡ text.old ++ group_part group.now }
 {
-    put_comment(text, sources, group, table);
-    put_sizes(text, group, table);
-    put_columns(text, receivers, sources, group, table);
-    put_slots(text, group, table);
+    put_comment(text, group);
+    put_sizes(text, group);
+    put_columns(text, group);
+    put_slots(text, group);
 }
 
-/// Writes the group with this number of a proposal.
-fn put_group(text: &mut Text, proposal: &Proposal<OUTPUTS>, number: usize)
-    requires { number < length (groups_of proposal.now.plan) }
-    ensures { text.new ≡ text.old ++ part_at proposal.now.station proposal.now.plan number }
-{
-    let equipment = proposal.equipment();
-    equipment.rows_are_sound();
-    let receivers = equipment.receivers();
-    let sources = equipment.sources();
-    let groups = equipment.groups();
-    let table = proposal.plan().group(number);
-    put_part(text, receivers, sources, &groups[number], table);
-}
-
-/// Writes each group of a proposal, in table order.
-fn put_groups(text: &mut Text, proposal: &Proposal<OUTPUTS>)
-    ensures { text.new ≡ text.old ++ header_parts proposal.now.station proposal.now.plan None }
-{
-    for number in 0..proposal.plan().groups() {
-        put_group(text, proposal, number);
-    }
-}
-
-/// Writes one group of a proposal, or all.
+/// Writes one group of a proposal, or all in table order.
+#[tactic(auto, using(crate::proofs::Ranges::flat_from))]
 fn put_parts(text: &mut Text, proposal: &Proposal<OUTPUTS>, group: Option<usize>)
     requires { IfSome group (λ group. group < length (groups_of proposal.now.plan)) }
-    ensures { text.new ≡ text.old ++ header_parts proposal.now.station proposal.now.plan group }
+    ensures { text.new ≡ text.old ++ of_groups group_part proposal.now.station proposal.now.plan group }
 {
-    match group {
-        None => put_groups(text, proposal),
-        Some(group) => put_group(text, proposal, group),
+    let (first, count) = group_range(proposal.plan(), group);
+    for place in 0..count {
+        put_part(text, &PlannedGroup::of(proposal, first + place));
     }
 }
 
@@ -252,15 +219,6 @@ fn put_head(text: &mut Text)
     text.put(
         "#ifndef A429_SLOTS_H\n#define A429_SLOTS_H\n\n#include <stdint.h>\n\n#define A429_EMPTY 0xFFFF\n#define A429_ANY_SDI 0xFF\n\n",
     );
-}
-
-/// Writes the receivers and the sources of a table.
-#[tactic(auto, unfolding(crate::specs::SlotHeader::table_enums))]
-fn put_enums(text: &mut Text, equipment: &Equipment)
-    ensures { text.new ≡ text.old ++ table_enums equipment.now }
-{
-    put_receivers(text, equipment.receivers());
-    put_sources(text, equipment.sources());
 }
 
 /// The slot tables of a proposal's plan as a header of C (C99, C++17), of one group or of all in table order. Enumerations

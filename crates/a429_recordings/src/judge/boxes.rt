@@ -114,7 +114,7 @@ fn note_sent<'a, F: FileReader>(
     }
 }
 
-/// The same, for logs that have a time in common. Errors: the first faulty line; they have none.
+/// Notes what was sent, if both logs have a time in common. Errors: the first faulty line; they have none.
 fn note_later<'a, F: FileReader>(
     alloc: Global,
     files: &F,

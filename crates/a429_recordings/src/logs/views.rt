@@ -141,7 +141,7 @@ impl<'a> LogView<'a> {
         }
     }
 
-    /// The same view of a log that is read after others: times are counted from the one that is given, otherwise from that of
+    /// This view of a log that is read after others: times are counted from the one that is given, otherwise from that of
     /// the first word of those.
     pub fn after(self, reading: Reading<'_>) -> LogView<'a>
         ensures { view_of result ≡ view_after reading.entry (view_of self.entry) }
@@ -152,7 +152,7 @@ impl<'a> LogView<'a> {
         }
     }
 
-    /// The same view with times moved so.
+    /// This view with times moved so.
     pub fn on_clock(self, clock: ClockMove) -> LogView<'a>
         ensures { view_of result ≡ record (view_of self.entry) { clock = clock } }
     {

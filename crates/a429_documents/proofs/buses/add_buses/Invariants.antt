@@ -4,4 +4,4 @@ use Rattle.a429_documents.specs.Buses.{sent_rows}
 use Rattle.a429_documents.proofs.buses.add_buses.Given as goal
 
 abbrev pub invariant-loop-bus : goal.invariant-loop-bus
-invariant-loop-bus l = l.rows ≡ l.fn.rows ++ flat_map (sent_rows l.sources l.group l.table) (range_with_len 0 l.bus)
+invariant-loop-bus l = l.rows ≡ l.fn.rows ++ flat_map (sent_rows l.group) (range_with_len 0 l.bus)

@@ -1,9 +1,8 @@
-use Rattle.std.proofs.Common.{◌≡◌, ◌++◌, drop}
-use Rattle.a429_slots.specs.Tables.{outputs_of}
-use Rattle.a429_documents.specs.Document.{output_rows}
+use Rattle.std.proofs.Common.{◌≡◌, ◌++◌, ◌∷◌, []}
+use Rattle.std.specs.List.{flat_map, range_with_len}
+use Rattle.a429_documents.specs.Document.{output_row}
+use Rattle.a429_documents.specs.PlannedGroups.{output_at}
 use Rattle.a429_documents.proofs.document.add_outputs.Given as goal
 
 abbrev pub invariant-loop-number : goal.invariant-loop-number
-invariant-loop-number l =
-    l.rows ++ output_rows l.keeps_zeros l.equipment l.group (drop l.number l.outputs) (drop l.number (outputs_of l.table))
-    ≡ l.fn.rows ++ output_rows l.keeps_zeros l.equipment l.group l.outputs (outputs_of l.table)
+invariant-loop-number l = l.rows ≡ l.fn.rows ++ flat_map (λ o. output_row l.keeps_zeros (output_at l.group o) ∷ []) (range_with_len 0 l.number)

@@ -2,6 +2,7 @@ use Rattle.a429_documents.proofs.document.add_row.Goals as goal
 
 pub returns : goal.returns
 returns c =
+    rw (← c.output.view_is) (
     rw (
       c.as_str.ensures,
       c.number.ensures,
@@ -20,3 +21,4 @@ returns c =
       c.latency_us.ensures,
       c.slots-slots.ensures.value,
     ) at c.add.ensures
+    )

@@ -1,18 +1,17 @@
-use Rattle.std.proofs.Common.{◌≡◌, ◌++◌, ◌∷◌, [], ◌<◌, ◌∙◌, ap, subst, length, ℕ, List}
-use Rattle.std.specs.Prelude.{Option, Some, IfSome, slice_get}
-use Rattle.a429_text.specs.Fields.{Field}
-use Rattle.a429_word.proofs.Lists.{read_is}
-use Rattle.a429_equipment.specs.declared.rows.SourceRow.{SourceRow}
-use Rattle.a429_documents.proofs.SlotCells.{filled_row_is}
 use Rattle.a429_documents.proofs.slots.add_filled.Goals as goal
 
 pub returns : goal.returns
 returns c =
-    let sources : List SourceRow = c.args.sources.now in
-    let n = c.source.result in
-    let source : SourceRow = c.index-sources-source.result in
-    let below : n < length sources = subst (λ (s : Option ℕ). IfSome s (λ n. n < length sources)) c.source.ensures c.requires.source in
-    let there : slice_get sources n ≡ Some source = read_is sources n source below c.index-sources-source.is in
-    c.add_sent.ensures
-    ∙ ap (λ (row : List Field). c.args.rows.now ++ row ∷ [])
-    (filled_row_is sources c.args.table.now c.args.output n c.place.result source c.requires.known c.place.ensures.place c.source.ensures there c.args.group.now c.args.slot c.args.bus)
+    rw (← c.output.view_is) (
+    rw (
+      c.as_str.ensures,
+      c.number.ensures,
+      c.start_cell.ensures,
+      c.number-2.ensures,
+      c.value.ensures,
+      c.sdi_cell.ensures,
+      c.as_str-2.ensures,
+      c.number-3.ensures,
+      c.slots.ensures.value,
+    ) at c.add.ensures
+    )

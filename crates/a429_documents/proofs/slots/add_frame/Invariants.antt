@@ -4,4 +4,4 @@ use Rattle.a429_documents.specs.SlotRows.{rows_in_slot}
 use Rattle.a429_documents.proofs.slots.add_frame.Given as goal
 
 abbrev pub invariant-loop-slot : goal.invariant-loop-slot
-invariant-loop-slot l = l.rows ≡ l.fn.rows ++ flat_map (rows_in_slot l.sources l.group l.table l.all) (range_with_len 0 l.slot)
+invariant-loop-slot l = l.rows ≡ l.fn.rows ++ flat_map (rows_in_slot l.all l.group) (range_with_len 0 l.slot)

@@ -4,4 +4,4 @@ use Rattle.a429_documents.specs.SlotRows.{cell_rows}
 use Rattle.a429_documents.proofs.slots.add_slot.Given as goal
 
 abbrev pub invariant-loop-bus : goal.invariant-loop-bus
-invariant-loop-bus l = l.rows ≡ l.fn.rows ++ flat_map (cell_rows l.sources l.group l.table l.all l.slot) (range_with_len 0 l.bus)
+invariant-loop-bus l = l.rows ≡ l.fn.rows ++ flat_map (cell_rows l.all l.group l.slot) (range_with_len 0 l.bus)

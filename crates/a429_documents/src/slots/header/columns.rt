@@ -1,14 +1,12 @@
 //! The arrays of outputs in the header of C.
-ghost use Rattle.std.specs.Prelude.{◌≡◌, ◌<◌, ◌++◌, IfSome, codes, length};
+ghost use Rattle.std.specs.Prelude.{◌≡◌, ◌<◌, ◌++◌, codes};
 ghost use Rattle.a429_text.specs.Nibbles.{nibble, nibbles};
-ghost use Rattle.a429_slots.specs.Tables.{outputs_of, source_of};
-ghost use Rattle.a429_cert.specs.PlanText.{HasSources};
-ghost use Rattle.a429_documents.specs.SlotColumns.{array_start, check_end, check_start, column_array, column_arrays, column_kind, column_value, column_word, group_array, group_macro, sdi_value, size_test, type_start, value_entries, value_entry, value_line};
+ghost use Rattle.a429_documents.specs.SlotColumns.{array_start, check_end, check_start, column_array, column_arrays, column_kind, column_value, column_word, group_array, group_macro, sdi_value, size_test, type_start, value_line, value_lines};
 
 use crate::document::receiver_name;
+use crate::planned::{PlannedGroup, PlannedOutput};
 use crate::slots::header::names::{put_array_name, put_constant, put_macro_name};
-use a429_equipment::{GroupRow, ReceiverRow, SourceRow};
-use a429_slots::{GroupPlan, OUTPUTS, OutputId, SlotPlace};
+use a429_equipment::GroupRow;
 use a429_text::Text;
 use a429_word::Sdi;
 
@@ -166,119 +164,67 @@ fn put_sdi(text: &mut Text, sdi: Option<Sdi>)
     }
 }
 
-/// Writes what a column has of an output, by its source and its place.
-fn put_value(
-    text: &mut Text,
-    receivers: &[ReceiverRow],
-    column: Column,
-    source: &SourceRow,
-    place: SlotPlace,
-)
-    ensures { text.new ≡ text.old ++ column_value receivers.now source.now place column }
+/// Writes what a column has of an output.
+fn put_value(text: &mut Text, column: Column, output: &PlannedOutput<'_>)
+    ensures { text.new ≡ text.old ++ column_value output.now column }
 {
+    let source = output.source;
     match column {
         Column::Labels => put_label(text, source.label.value()),
         Column::Sdis => put_sdi(text, source.sdi),
         Column::Receivers => {
-            put_constant(text, "RECEIVER_", receiver_name(receivers, source.receiver))
+            put_constant(
+                text,
+                "RECEIVER_",
+                receiver_name(output.receivers, source.receiver),
+            )
         }
         Column::Sources => put_constant(text, "SOURCE_", source.name.as_str()),
-        Column::Periods => text.put_number(u64::from(place.period.slots())),
+        Column::Periods => text.put_number(u64::from(output.place.period.slots())),
     }
 }
 
 /// Writes the same as a line.
 #[tactic(auto, unfolding(crate::specs::SlotColumns::value_line))]
-fn put_value_line(
-    text: &mut Text,
-    receivers: &[ReceiverRow],
-    column: Column,
-    source: &SourceRow,
-    place: SlotPlace,
-)
-    ensures { text.new ≡ text.old ++ value_line receivers.now column source.now place }
+fn put_value_line(text: &mut Text, column: Column, output: &PlannedOutput<'_>)
+    ensures { text.new ≡ text.old ++ value_line column output.now }
 {
     text.put("\n    ");
-    put_value(text, receivers, column, source, place);
+    put_value(text, column, output);
     text.put(",");
 }
 
-/// Writes the line of an output.
-fn put_entry(
-    text: &mut Text,
-    receivers: &[ReceiverRow],
-    sources: &[SourceRow],
-    table: &GroupPlan<OUTPUTS>,
-    column: Column,
-    output: OutputId,
-)
-    requires known { output < length (outputs_of table.now) }
-    requires source { IfSome (source_of table.now output) (λ source. source < length sources.now) }
-    ensures { text.new ≡ text.old ++ value_entry receivers.now sources.now table.now column output }
-{
-    let source = &sources[table.source(output)];
-    put_value_line(text, receivers, column, source, table.place(output));
-}
-
 /// Writes a line for each output, in table order.
-fn put_entries(
-    text: &mut Text,
-    receivers: &[ReceiverRow],
-    sources: &[SourceRow],
-    table: &GroupPlan<OUTPUTS>,
-    column: Column,
-)
-    requires { HasSources sources.now table.now }
-    ensures { text.new ≡ text.old ++ value_entries receivers.now sources.now table.now column }
+#[tactic(auto, using(crate::proofs::Ranges::flat_more))]
+fn put_values(text: &mut Text, column: Column, group: &PlannedGroup<'_>)
+    ensures { text.new ≡ text.old ++ value_lines column group.now }
 {
-    for number in 0..table.outputs() {
-        put_entry(
-            text,
-            receivers,
-            sources,
-            table,
-            column,
-            OutputId::new(number),
-        );
+    for number in 0..group.table.outputs() {
+        put_value_line(text, column, &group.output(number));
     }
 }
 
 /// Writes an array, and the type that checks its size.
 #[tactic(auto, unfolding(crate::specs::SlotColumns::column_array))]
-fn put_column(
-    text: &mut Text,
-    receivers: &[ReceiverRow],
-    sources: &[SourceRow],
-    group: &GroupRow,
-    table: &GroupPlan<OUTPUTS>,
-    column: Column,
-)
-    requires { HasSources sources.now table.now }
-    ensures { text.new ≡ text.old ++ column_array receivers.now sources.now group.now table.now column }
+fn put_column(text: &mut Text, group: &PlannedGroup<'_>, column: Column)
+    ensures { text.new ≡ text.old ++ column_array group.now column }
 {
-    put_array_start(text, column.kind(), group, column.word());
-    put_entries(text, receivers, sources, table, column);
+    put_array_start(text, column.kind(), group.row, column.word());
+    put_values(text, column, group);
     text.put("\n};\n");
-    put_check_start(text, group, column.word());
-    put_group_macro(text, group, "_OUTPUTS");
+    put_check_start(text, group.row, column.word());
+    put_group_macro(text, group.row, "_OUTPUTS");
     put_check_end(text);
 }
 
 /// Writes the arrays of a group's outputs.
 #[tactic(auto, unfolding(crate::specs::SlotColumns::column_arrays))]
-pub(crate) fn put_columns(
-    text: &mut Text,
-    receivers: &[ReceiverRow],
-    sources: &[SourceRow],
-    group: &GroupRow,
-    table: &GroupPlan<OUTPUTS>,
-)
-    requires { HasSources sources.now table.now }
-    ensures { text.new ≡ text.old ++ column_arrays receivers.now sources.now group.now table.now }
+pub(crate) fn put_columns(text: &mut Text, group: &PlannedGroup<'_>)
+    ensures { text.new ≡ text.old ++ column_arrays group.now }
 {
-    put_column(text, receivers, sources, group, table, Column::Labels);
-    put_column(text, receivers, sources, group, table, Column::Sdis);
-    put_column(text, receivers, sources, group, table, Column::Receivers);
-    put_column(text, receivers, sources, group, table, Column::Sources);
-    put_column(text, receivers, sources, group, table, Column::Periods);
+    put_column(text, group, Column::Labels);
+    put_column(text, group, Column::Sdis);
+    put_column(text, group, Column::Receivers);
+    put_column(text, group, Column::Sources);
+    put_column(text, group, Column::Periods);
 }

@@ -1,9 +1,11 @@
 //! The names of a table in the header of C, and the enumerations of its receivers and sources.
 ghost use Rattle.std.specs.Prelude.{◌≡◌, ◌++◌, length};
 ghost use Rattle.std.specs.List.{flat_map, range_with_len};
-ghost use Rattle.a429_documents.specs.SlotNames.{array_byte, array_name, constant, constant_line, count_line, macro_byte, macro_name, receiver_enum, receiver_line, source_enum, source_line};
+ghost use Rattle.a429_documents.specs.SlotNames.{array_byte, array_name, constant, constant_line, count_line, macro_byte, macro_name, row_enum, row_line};
+ghost use Rattle.a429_documents.specs.SlotHeader.{table_enums};
 
-use a429_equipment::{ReceiverRow, SourceRow};
+use crate::diff::names::Named;
+use a429_equipment::Equipment;
 use a429_text::Text;
 
 /// A byte of a name in a macro.
@@ -82,40 +84,36 @@ fn put_count_line(text: &mut Text, what: &str, count: usize)
     text.put("\n};\n\n");
 }
 
-/// Writes the lines of the receivers.
-fn put_receiver_lines(text: &mut Text, receivers: &[ReceiverRow])
-    ensures { text.new ≡ text.old ++ flat_map (receiver_line receivers.now) (range_with_len 0 (length receivers.now)) }
+/// Writes the lines of the rows of a table.
+fn put_lines<T: Named>(text: &mut Text, what: &str, rows: &[T])
+    ensures { text.new ≡ text.old ++ flat_map (row_line what.now T.name_of rows.now) (range_with_len 0 (length rows.now)) }
 {
-    for number in 0..receivers.len() {
-        put_constant_line(text, "RECEIVER_", receivers[number].name.as_str(), number);
+    for number in 0..rows.len() {
+        put_constant_line(text, what, rows[number].name(), number);
     }
 }
 
-/// Writes the lines of the sources.
-fn put_source_lines(text: &mut Text, sources: &[SourceRow])
-    ensures { text.new ≡ text.old ++ flat_map (source_line sources.now) (range_with_len 0 (length sources.now)) }
+/// Writes an enumeration of the rows of a table.
+fn put_enum<T: Named>(text: &mut Text, start: &str, what: &str, counted: &str, rows: &[T])
+    ensures { text.new ≡ text.old ++ row_enum start.now what.now counted.now T.name_of rows.now }
 {
-    for number in 0..sources.len() {
-        put_constant_line(text, "SOURCE_", sources[number].name.as_str(), number);
-    }
+    text.put(start);
+    put_lines(text, what, rows);
+    put_count_line(text, counted, rows.len());
 }
 
-/// Writes the enumeration of the receivers.
-#[tactic(auto, unfolding(crate::specs::SlotNames::receiver_enum))]
-pub(crate) fn put_receivers(text: &mut Text, receivers: &[ReceiverRow])
-    ensures { text.new ≡ text.old ++ receiver_enum receivers.now }
+/// Writes the receivers and the sources of a table.
+#[tactic(auto, unfolding(crate::specs::SlotHeader::table_enums))]
+pub(crate) fn put_enums(text: &mut Text, equipment: &Equipment)
+    ensures { text.new ≡ text.old ++ table_enums equipment.now }
 {
-    text.put("enum a429_receiver {\n");
-    put_receiver_lines(text, receivers);
-    put_count_line(text, "RECEIVERS", receivers.len());
-}
-
-/// Writes the enumeration of the sources.
-#[tactic(auto, unfolding(crate::specs::SlotNames::source_enum))]
-pub(crate) fn put_sources(text: &mut Text, sources: &[SourceRow])
-    ensures { text.new ≡ text.old ++ source_enum sources.now }
-{
-    text.put("enum a429_source {\n");
-    put_source_lines(text, sources);
-    put_count_line(text, "SOURCES", sources.len());
+    let (receivers, sources) = (equipment.receivers(), equipment.sources());
+    put_enum(
+        text,
+        "enum a429_receiver {\n",
+        "RECEIVER_",
+        "RECEIVERS",
+        receivers,
+    );
+    put_enum(text, "enum a429_source {\n", "SOURCE_", "SOURCES", sources);
 }

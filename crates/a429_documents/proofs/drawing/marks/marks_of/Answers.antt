@@ -4,7 +4,7 @@ use Rattle.std.specs.Option.{option_map_or}
 use Rattle.a429_slots.specs.Tables.{SlotTable}
 use Rattle.a429_documents.specs.Drawing.{group_marks, marks_at, slots_of}
 use Rattle.a429_documents.specs.declared.drawing.marks.Mark.{Mark}
-use Rattle.a429_documents.proofs.Drawings.{gathered_more}
+use Rattle.a429_documents.proofs.Ranges.{gathered_more}
 use Rattle.a429_documents.proofs.drawing.marks.marks_of.Goals as goal
 
 pub loop-place-preserved : goal.loop-place-preserved

@@ -3,7 +3,7 @@ use Rattle.std.specs.Prelude.{Option}
 use Rattle.std.specs.Option.{option_map_or}
 use Rattle.a429_slots.specs.Tables.{SlotTable}
 use Rattle.a429_documents.specs.Drawing.{group_height, height_at}
-use Rattle.a429_documents.proofs.Drawings.{summed_more}
+use Rattle.a429_documents.proofs.Ranges.{summed_more}
 use Rattle.a429_documents.proofs.drawing.places.height_of.Goals as goal
 
 pub loop-place-preserved : goal.loop-place-preserved

@@ -5,7 +5,7 @@ use Rattle.a429_text.specs.Fields.{Field}
 use Rattle.a429_pack.specs.Demands.{demand_at}
 use Rattle.a429_pack.specs.declared.demands.Demand.{Demand}
 use Rattle.a429_documents.specs.Lint.{coarse_row, coarse_rows, max_of, output_name}
-use Rattle.a429_documents.proofs.Margins.{lines_more}
+use Rattle.a429_documents.proofs.Ranges.{gathered_more}
 use Rattle.a429_documents.proofs.lint.groups.add_coarses.Goals as goal
 
 pub loop-output-preserved : goal.loop-output-preserved
@@ -26,5 +26,5 @@ loop-output-preserved c =
     ∙ ap (λ (n : List ℕ). coarse_row g.name n g.rate max_us e.period) c.output_name-source.ensures
     ∙ ap (λ (n : ℕ). coarse_row g.name (output_name sources rows o) g.rate n e.period) c.max_of.ensures
     ∙ ap (λ (d : Demand). coarse_row g.name (output_name sources rows o) g.rate (max_of rows o) d.period) (sym c.index-demands-output.is ∙ sym read) in
-    lines_more (coarse_rows sources g.name g.rate rows demands) c.loop-output.found c.add_period.new.found c.args.found.now o c.loop-output.invariant
+    gathered_more (coarse_rows sources g.name g.rate rows demands) c.args.found.now c.loop-output.found c.add_period.new.found o c.loop-output.invariant
     (c.add_period.ensures ∙ ap (λ (l : List (List Field)). c.loop-output.found ++ l) same)

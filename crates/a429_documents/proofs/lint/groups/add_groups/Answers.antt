@@ -11,7 +11,7 @@ use Rattle.a429_pack.specs.declared.demands.Demand.{Demand}
 use Rattle.a429_slots.specs.Planned.{HaveSources}
 use Rattle.a429_documents.specs.Lint.{group_finding, group_rows}
 use Rattle.a429_documents.proofs.Findings.{GroupAt, asked_below, asked_each, group_is, kept_at}
-use Rattle.a429_documents.proofs.Margins.{lines_more}
+use Rattle.a429_documents.proofs.Ranges.{gathered_more}
 use Rattle.a429_documents.proofs.lint.groups.add_groups.Goals as goal
 
 pub bounds-asked-number : goal.bounds-asked-number
@@ -66,5 +66,5 @@ loop-number-preserved c =
     ap (λ (ss : List SourceRow). group_finding ss c.args.kind row rows c.deref.result.now) c.sources-sources.ensures.rows
     ∙ ap (λ (ds : List Demand). group_finding e.sources c.args.kind row rows ds) c.deref.ensures.value
     ∙ sym (group_is e asked i row rows at c.args.kind c.index-asked-number.result.items there) in
-    lines_more (group_rows e asked c.args.kind) (c.loop-number.found) (c.add_group.new.found) (c.args.found.now) i c.loop-number.invariant
+    gathered_more (group_rows e asked c.args.kind) c.args.found.now c.loop-number.found c.add_group.new.found i c.loop-number.invariant
     (c.add_group.ensures ∙ ap (λ (l : List (List Field)). c.loop-number.found ++ l) same)

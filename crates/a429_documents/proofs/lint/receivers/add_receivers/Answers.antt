@@ -7,7 +7,7 @@ use Rattle.a429_equipment.specs.TableRecord.{TableRecord}
 use Rattle.a429_equipment.specs.declared.rows.ReceiverRow.{ReceiverRow}
 use Rattle.a429_equipment.specs.declared.rows.SourceRow.{SourceRow}
 use Rattle.a429_documents.specs.Lint.{receiver_finding, receiver_rows}
-use Rattle.a429_documents.proofs.Margins.{lines_more}
+use Rattle.a429_documents.proofs.Ranges.{gathered_more}
 use Rattle.a429_documents.proofs.lint.receivers.add_receivers.Goals as goal
 
 pub loop-number-preserved : goal.loop-number-preserved
@@ -20,5 +20,5 @@ loop-number-preserved c =
     ap (λ (rs : List ReceiverRow). receiver_finding rs c.sources-sources.result.now c.args.kind i row) c.receivers-receivers.ensures.rows
     ∙ ap (λ (ss : List SourceRow). receiver_finding e.receivers ss c.args.kind i row) c.sources-sources.ensures.rows
     ∙ sym (ap (λ (r : Option ReceiverRow). option_map_or (receiver_finding e.receivers e.sources c.args.kind i) r []) here) in
-    lines_more (receiver_rows e c.args.kind) (c.loop-number.found) (c.add_receiver.new.found) (c.args.found.now) i c.loop-number.invariant
+    gathered_more (receiver_rows e c.args.kind) c.args.found.now c.loop-number.found c.add_receiver.new.found i c.loop-number.invariant
     (c.add_receiver.ensures ∙ ap (λ (l : List (List Field)). c.loop-number.found ++ l) same)

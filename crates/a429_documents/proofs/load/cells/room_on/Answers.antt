@@ -1,5 +1,5 @@
 use mir.Val.{bool_byte}
-use Rattle.std.proofs.Common.{◌≤◌, ◌∙◌, ap, arith}
+use Rattle.std.proofs.Common.{◌≤◌, arith}
 use Rattle.a429_documents.specs.Load.{is_open}
 use Rattle.a429_documents.proofs.BusLoads.{byte_small, test_more}
 use Rattle.a429_documents.proofs.load.cells.room_on.Goals as goal

@@ -4,4 +4,4 @@ use Rattle.a429_documents.specs.SlotBoard.{board_cell}
 use Rattle.a429_documents.proofs.slots.board.add_bus.Given as goal
 
 abbrev pub invariant-loop-slot : goal.invariant-loop-slot
-invariant-loop-slot l = l.rows ≡ l.fn.rows ++ flat_map (board_cell l.sources l.group l.table l.bus) (range_with_len 0 l.slot)
+invariant-loop-slot l = l.rows ≡ l.fn.rows ++ flat_map (board_cell l.group l.bus) (range_with_len 0 l.slot)

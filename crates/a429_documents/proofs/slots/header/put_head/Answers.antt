@@ -1,5 +1,5 @@
 use Rattle.a429_documents.specs.SlotHeader.{header_start}
-use Rattle.a429_documents.proofs.Drawings.{three}
+use Rattle.a429_documents.proofs.Ranges.{three}
 use Rattle.a429_documents.proofs.slots.header.put_head.Goals as goal
 
 pub returns : goal.returns

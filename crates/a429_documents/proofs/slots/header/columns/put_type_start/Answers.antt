@@ -1,5 +1,5 @@
 use Rattle.a429_documents.specs.SlotColumns.{type_start}
-use Rattle.a429_documents.proofs.Drawings.{three}
+use Rattle.a429_documents.proofs.Ranges.{three}
 use Rattle.a429_documents.proofs.slots.header.columns.put_type_start.Goals as goal
 
 pub returns : goal.returns

@@ -1,8 +1,0 @@
-use Rattle.a429_documents.specs.SlotNames.{receiver_enum}
-use Rattle.a429_documents.proofs.Drawings.{three}
-use Rattle.a429_documents.proofs.slots.header.names.put_receivers.Goals as goal
-
-pub returns : goal.returns
-unfolding receiver_enum
-returns c =
-    three c.args.text.now c.put.new.self c.put_receiver_lines.new.text c.put_count_line.new.text _ _ _ c.put.ensures c.put_receiver_lines.ensures c.put_count_line.ensures
