@@ -1,5 +1,5 @@
 -- What each bus of a station carries: the rows of `buses` (profile: docs/FORMATS.md, Output of `buses`).
-use Rattle.std.specs.Prelude.{ℕ, ◌==◌, ◌^◌, List, [], ◌∷◌, ◌++◌, None, codes, if◌then◌else◌, filter, length, map, slice_get}
+use Rattle.std.specs.Prelude.{ℕ, ◌==◌, ◌^◌, List, [], ◌∷◌, ◌++◌, codes, if◌then◌else◌, filter, length, map, slice_get}
 use Rattle.std.specs.List.{flat_map, range_with_len}
 use Rattle.std.specs.Option.{option_map_or}
 use Rattle.a429_text.specs.Fields.{Field, Text, Number, Absent}
@@ -7,10 +7,10 @@ use Rattle.a429_word.specs.Texts.{octal}
 use Rattle.a429_equipment.specs.TableRecord.{TableRecord}
 use Rattle.a429_equipment.specs.declared.rows.ReceiverRow.{ReceiverRow}
 use Rattle.a429_equipment.specs.declared.rows.SourceRow.{SourceRow}
-use Rattle.a429_slots.specs.Tables.{PlanTable, buses_of}
+use Rattle.a429_slots.specs.Tables.{buses_of}
 use Rattle.a429_slots.specs.Times.{slots_us}
 use Rattle.a429_documents.specs.Document.{sdi_field}
-use Rattle.a429_documents.specs.PlannedGroups.{PlannedGroup, PlannedOutput, of_groups, of_outputs}
+use Rattle.a429_documents.specs.PlannedGroups.{PlannedGroup, PlannedOutput, of_outputs}
 
 -- ---- the columns
 
@@ -66,7 +66,3 @@ group_rows g = flat_map (sent_rows g) (range_with_len 0 (buses_of g.table))
 -- the words that come in, receiver by receiver in table order
 abbrev pub in_rows : TableRecord → List (List Field)
 in_rows e = flat_map (receiver_rows e) (range_with_len 0 (length e.receivers))
-
--- these, and then the words that go out, group by group in table order
-abbrev pub buses_rows : TableRecord → PlanTable → List (List Field)
-buses_rows e p = in_rows e ++ of_groups group_rows e p None
