@@ -5,4 +5,4 @@ use Rattle.a429_arguments.specs.Requests.{CanBeGiven}
 use Rattle.a429_arguments.specs.declared.options.OptionName.{OptionName}
 
 pub can_give_nothing : (name : OptionName) → CanBeGiven (kind_of name) (nothing name)
-can_give_nothing name = tt
+can_give_nothing o = tt

@@ -2,7 +2,9 @@
 -- (the clap library; profile: docs/FORMATS.md, Usage errors).
 use denote.Enum.Declared.{tag_of}
 use Rattle.std.specs.Borrow.{Bor}
-use Rattle.std.specs.Prelude.{◌≡◌, [], ℕ, Bool, List, Option, true, false, Some, None, codes, fold, get_or, map, option_map}
+use Rattle.std.specs.Prelude.{◌≡◌, [], ℕ, Bool, List, Option, true, false, Some, None, codes, fold, get_or, if◌then◌else◌, map, option_map}
+use Rattle.std.specs.Str.Parse.{digits_value, without_leading_plus}
+use Rattle.clap.specs.ValueTests.{is_unsigned_in}
 use Rattle.clap.specs.Words.{App, Rule, Shape, Text, new_app, new_rule, rule_of, with_rule, with_subcommand}
 use Rattle.clap.specs.declared.builder.arg.Arg.{Arg}
 use Rattle.clap.specs.declared.builder.action.ArgAction.TheVariants.{Append, SetTrue}
@@ -27,21 +29,27 @@ use Rattle.a429_arguments.specs.declared.forms.Verb.TheVariants as verb
 abbrev pub required_rule : Text → Rule
 required_rule id = record (new_rule id) { required = true }
 
--- a whole number up to the most
-abbrev pub number_rule : Text × ℕ → Rule
-number_rule number = record (required_rule number.0) { parser = Some (reads.Unsigned 0 number.1) }
+-- how many frames a group can send in one run of `live` (profile: docs/RULES.md, Limits)
+abbrev pub most_frames : ℕ
+most_frames = 1000000
+
+-- a whole number of frames, up to the most
+abbrev pub number_rule : Text → Rule
+number_rule id = record (required_rule id) { parser = Some (reads.Unsigned 0 most_frames) }
 
 -- as many values as are given
 abbrev pub many_rule : Text → Rule
 many_rule id = record (new_rule id) { action = Some Append }
 
--- how many frames a group can send in one run of `live` (profile: docs/RULES.md, Limits)
-abbrev pub most_frames : ℕ
-most_frames = 1000000
-
 -- how far recorded times may be wrong at most, in microseconds: the longest interval of an output (profile: docs/RULES.md, Limits)
 abbrev pub most_tolerance : ℕ
 most_tolerance = 30000000
+
+-- ---- the numbers of arguments
+
+-- the whole number of a text, up to the most; nothing if the text is no such number
+unfoldable pub number_up_to : ℕ → Text → Option ℕ
+number_up_to most text = if is_unsigned_in 0 most text then Some (digits_value 10 (without_leading_plus text)) else None
 
 -- ---- the options: the rows of the program (`OPTIONS`), each at the place of its name
 
@@ -89,12 +97,12 @@ option_rule name = kind_rule (id_of name) (kind_of name)
 
 -- ---- the commands: the rows of the program (`COMMANDS`), each at the place of its command
 
--- what a command is given: one or two names, perhaps a number up to the most, perhaps as many names as one likes, and options
+-- what a command is given: one or two names, perhaps a number of frames, perhaps as many names as one likes, and options
 pub record CommandRow : Type 0 where
   pub name : Text
   pub first : Text
   pub second : Option Text
-  pub number : Option (Text × ℕ)
+  pub number : Option Text
   pub more : Option Text
   pub options : List Rule
 
@@ -103,7 +111,7 @@ Name = record { now : Text }
 
 -- a row of the program: the command, its name, what it is given, its options, and how it answers
 abbrev pub TableRow : Type 0
-TableRow = Verb × Name × (Name × Option Name × Option (Name × ℕ) × Option Name) × (record { now : List OptionName }) × Answers
+TableRow = Verb × Name × (Name × Option Name × Option Name × Option Name) × (record { now : List OptionName }) × Answers
 
 abbrev no_command : TableRow
 no_command = (verb.Import, record { now = [] }, (record { now = [] }, None, None, None), record { now = [] }, WHOLE)
@@ -116,7 +124,7 @@ row_of v = record {
   name = (table_row v).1.now;
   first = (table_row v).2.0.now;
   second = option_map (λ n. n.now) (table_row v).2.1;
-  number = option_map (λ n. (n.0.now, n.1)) (table_row v).2.2;
+  number = option_map (λ n. n.now) (table_row v).2.2;
   more = option_map (λ n. n.now) (table_row v).2.3;
   options = map option_rule (table_row v).3.now;
 }
@@ -132,17 +140,14 @@ verbs = map (λ row. row.0) COMMANDS.now
 -- ---- the command line
 
 -- with an argument of this rule more, if there is one
-abbrev pub with_any : {A : Type 0} → (A → Rule) → App → Option A → App
+abbrev pub with_any : (Text → Rule) → App → Option Text → App
 with_any rule app None = app
-with_any rule app (Some x) = with_rule app (rule x)
-
--- the names that are given once each
-abbrev pub with_texts : App → CommandRow → App
-with_texts app row = with_any required_rule (with_rule app (required_rule row.first)) row.second
+with_any rule app (Some id) = with_rule app (rule id)
 
 -- what is given apart from options
 abbrev pub with_names : App → CommandRow → App
-with_names app row = with_any many_rule (with_any number_rule (with_texts app row) row.number) row.more
+with_names app row =
+    with_any many_rule (with_any number_rule (with_any required_rule (with_rule app (required_rule row.first)) row.second) row.number) row.more
 
 abbrev pub row_app : CommandRow → App
 row_app row = fold with_rule (with_names (new_app row.name) row) row.options
@@ -168,24 +173,21 @@ abbrev pub HasRule : Arg → Rule → Type 0
 HasRule a rule = (rule_of a ≡ rule) × (a.global ≡ false)
 
 -- what a command is given that is no option
-abbrev pub given_rule : Given → Rule
-given_rule (thing.Name id help) = required_rule id.now
-given_rule (thing.Number id most help) = number_rule (id.now, most)
-given_rule (thing.Names id help) = many_rule id.now
+abbrev pub given_rule : Given → Text → Rule
+given_rule thing.Name = required_rule
+given_rule thing.Number = number_rule
+given_rule thing.Names = many_rule
 
--- the name of an argument, if there is one, and that of a number with the most that it may be
+-- the name of an argument, if there is one
 abbrev pub name_id : Option (Bor Text) → Option Text
 name_id name = option_map (λ n. n.now) name
-
-abbrev pub number_id : Option (Bor Text × ℕ) → Option (Text × ℕ)
-number_id number = option_map (λ n. (n.0.now, n.1)) number
 
 abbrev pub form_row : CommandForm → CommandRow
 form_row form = record {
   name = form.name.now;
   first = form.first.now;
   second = name_id form.second;
-  number = number_id form.number;
+  number = name_id form.number;
   more = name_id form.more;
   options = map option_rule form.options.now;
 }

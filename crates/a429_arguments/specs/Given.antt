@@ -1,33 +1,39 @@
--- What is given of the options (profile: docs/FORMATS.md, Usage errors).
-use Rattle.std.specs.Prelude.{◌||◌, [], ◌∷◌, ℕ, Bool, List, Option, Some, None, true, false, codes, if◌then◌else◌, is_some, option_and_then, option_map, slice_get, unwrap_or}
+-- What is given of the options, and which of it goes together (profile: docs/FORMATS.md, Usage errors).
+use denote.Enum.Declared.{tag_of}
+use Rattle.std.specs.List.{list_all, list_any}
+use Rattle.std.specs.Prelude.{Bool, List, None, Option, Some, [], codes, false, if◌then◌else◌, is_some, nat_eq, not, option_and_then, option_map, slice_get, true, unwrap_or, ℕ, ◌&&◌, ◌||◌, ◌∷◌}
 use Rattle.std.specs.Str.{bytes_eq}
 use Rattle.clap.specs.Lexer.{strip_byte}
-use Rattle.clap.specs.Words.{Row, Text, all_of, one_of}
-use Rattle.a429_arguments.specs.CommandLine.{id_of, kind_of}
-use Rattle.a429_arguments.specs.Numbers.{number_up_to}
-use Rattle.a429_arguments.specs.Tolerances.{is_tolerance}
-use Rattle.a429_arguments.specs.declared.options.OptionKind.{OptionKind}
+use Rattle.clap.specs.Words.{Row, Text, all_of}
+use Rattle.a429_arguments.specs.CommandLine.{id_of, kind_of, number_up_to}
+use Rattle.a429_arguments.specs.Tolerances.{is_general_again, is_tolerance}
+use Rattle.a429_arguments.specs.contracts.forms.Verb.{the_type}
+use Rattle.a429_arguments.specs.declared.forms.Verb.{Verb}
 use Rattle.a429_arguments.specs.declared.options.OptionKind.TheVariants as given
-use Rattle.a429_arguments.specs.declared.options.OptionName.{OptionName}
+use Rattle.a429_arguments.specs.declared.options.OptionKind.{OptionKind}
 use Rattle.a429_arguments.specs.declared.options.OptionName.TheVariants as option
-use Rattle.a429_arguments.specs.declared.options.TextForm.{TextForm}
+use Rattle.a429_arguments.specs.declared.options.OptionName.{OptionName}
 use Rattle.a429_arguments.specs.declared.options.TextForm.TheVariants as form
-use Rattle.a429_arguments.specs.declared.times.Drift.{Drift}
+use Rattle.a429_arguments.specs.declared.options.TextForm.{TextForm}
+use Rattle.a429_arguments.specs.declared.rules.Rule.TheVariants.{Apart, Excludes, Fits, Needs, OneGeneral, OneOf}
+use Rattle.a429_arguments.specs.declared.rules.Rule.{Rule}
+use Rattle.a429_arguments.specs.declared.rules.TheConstants.{RULES}
 use Rattle.a429_arguments.specs.declared.times.Drift.TheVariants as drift
-use Rattle.a429_arguments.specs.declared.times.LogOrigin.{LogOrigin}
+use Rattle.a429_arguments.specs.declared.times.Drift.{Drift}
 use Rattle.a429_arguments.specs.declared.times.LogOrigin.TheVariants as origin
-use Rattle.a429_arguments.specs.declared.times.Shift.{Shift}
+use Rattle.a429_arguments.specs.declared.times.LogOrigin.{LogOrigin}
 use Rattle.a429_arguments.specs.declared.times.Shift.TheVariants as shift
+use Rattle.a429_arguments.specs.declared.times.Shift.{Shift}
 use Rattle.a429_logs.specs.LogDates.{or_second}
-use Rattle.a429_logs.specs.declared.times.TimeUnit.{TimeUnit}
 use Rattle.a429_logs.specs.declared.times.TimeUnit.TheVariants as unit
-use Rattle.a429_logs.specs.declared.written.DateOrder.{DateOrder}
-use Rattle.a429_logs.specs.declared.written.DateOrder.TheVariants as dates
-use Rattle.a429_logs.specs.declared.words.BitOrder.{BitOrder}
+use Rattle.a429_logs.specs.declared.times.TimeUnit.{TimeUnit}
 use Rattle.a429_logs.specs.declared.words.BitOrder.TheVariants as order
-use Rattle.a429_text.specs.Renames.{is_rename}
-use Rattle.a429_text.specs.declared.sheets.SheetForm.{SheetForm}
+use Rattle.a429_logs.specs.declared.words.BitOrder.{BitOrder}
+use Rattle.a429_logs.specs.declared.written.DateOrder.TheVariants as dates
+use Rattle.a429_logs.specs.declared.written.DateOrder.{DateOrder}
+use Rattle.a429_text.specs.Renames.{has_one_from_twice, is_rename}
 use Rattle.a429_text.specs.declared.sheets.SheetForm.TheVariants as sheet
+use Rattle.a429_text.specs.declared.sheets.SheetForm.{SheetForm}
 
 -- the texts that are given with each option, in their order; with a flag the text `true`
 abbrev pub Given : Type 0
@@ -108,7 +114,7 @@ fits form.Any text = true
 fits form.Width text = bytes_eq text (codes "64") || (bytes_eq text (codes "128") || bytes_eq text (codes "256"))
 fits form.Unit text = is_some (unit_in text)
 fits form.Origin text = is_some (origin_in text)
-fits form.Order text = bytes_eq text (codes "label") || bytes_eq text (codes "word")
+fits form.Order text = is_some (order_in text)
 fits form.Dates text = is_some (dates_in text)
 fits form.Rename text = is_rename text
 fits form.Tolerance text = is_tolerance text
@@ -121,13 +127,9 @@ fits form.Drift text = is_some (drift_in text)
 abbrev pub form_of : Given → SheetForm
 form_of given = if has_given given option.Csv then sheet.Csv else (if has_given given option.Json then sheet.Json else sheet.Columns)
 
--- the unit of the times in a log that is given by its name
-abbrev pub named_unit : Given → Option TimeUnit
-named_unit given = option_and_then unit_in (text_given given option.Time)
-
 -- the unit of the times in a log, if one is given: ticks of this number of nanoseconds, or one with a name
 abbrev pub unit_of : Given → Option TimeUnit
-unit_of given = or_second (option_map unit.Ticks (number_given given option.Tick)) (named_unit given)
+unit_of given = or_second (option_map unit.Ticks (number_given given option.Tick)) (option_and_then unit_in (text_given given option.Time))
 
 -- the order of days and months in dates, if one is given
 abbrev pub dates_of : Given → Option DateOrder
@@ -151,23 +153,55 @@ drift_of given = unwrap_or (option_and_then drift_in (text_given given option.Dr
 
 -- ---- what was found
 
--- an option without a value is given, by the value that the parser gives it
-abbrev pub is_set : Option Text → Bool
-is_set None = false
-is_set (Some text) = bytes_eq text (codes "true")
-
 -- the values of an argument
 abbrev pub values_of : Text → List Row → List Text
 values_of id rows = unwrap_or (all_of id rows) []
 
-abbrev pub flag_texts : Bool → List Text
-flag_texts true = codes "true" ∷ []
-flag_texts false = []
+-- the values are those of a flag that is not given
+abbrev pub is_unset : OptionKind → List Text → Bool
+is_unset given.Flag (text ∷ texts) = not (bytes_eq text (codes "true"))
+is_unset _ values = false
 
-abbrev pub given_by : OptionKind → Text → List Row → List Text
-given_by given.Flag id rows = flag_texts (is_set (one_of id rows))
-given_by _ id rows = values_of id rows
+-- what is given, by the values of an option
+abbrev pub given_by : OptionKind → List Text → List Text
+given_by kind values = if is_unset kind values then [] else values
 
 -- what is given, by what was found of the arguments
 abbrev pub given_in : List Row → Given
-given_in rows name = given_by (kind_of name) (id_of name) rows
+given_in rows name = given_by (kind_of name) (values_of (id_of name) rows)
+
+-- ---- the rules between options, and of their texts, that the rules of the command line do not state: the rows of the program (`RULES`)
+
+-- one of three, and no other
+abbrev pub is_one_alone : Bool → Bool → Bool → Bool
+is_one_alone true false false = true
+is_one_alone false true false = true
+is_one_alone false false true = true
+is_one_alone _ _ _ = false
+
+-- each of these texts has the form that an option of this kind takes
+abbrev pub fit : OptionKind → List Text → Bool
+fit (given.Text form) texts = list_all (fits form) texts
+fit (given.Texts form) texts = list_all (fits form) texts
+fit _ texts = true
+
+-- what is given breaks a rule
+abbrev pub is_broken : Given → Rule → Bool
+is_broken given (Needs name needed) = has_given given name && not (has_given given needed)
+is_broken given (Excludes name other) = has_given given name && has_given given other
+is_broken given (OneOf a b c) = not (is_one_alone (has_given given a) (has_given given b) (has_given given c))
+is_broken given (Fits name) = not (fit (kind_of name) (given name))
+is_broken given (Apart name) = has_one_from_twice (given name)
+is_broken given (OneGeneral name) = is_general_again false (given name)
+
+-- a rule is for a command: for all, or for one alone
+abbrev pub is_for : Option Verb → Verb → Bool
+is_for None v = true
+is_for (Some command) v = nat_eq (tag_of the_type command) (tag_of the_type v)
+
+abbrev pub is_refusing : Verb → Given → Rule × Option Verb → Bool
+is_refusing v given row = is_for row.1 v && is_broken given row.0
+
+-- what is given to a command breaks one of the rules
+abbrev pub are_refused : Verb → Given → Bool
+are_refused v given = list_any (is_refusing v given) RULES.now

@@ -1,9 +1,7 @@
 pub mod Texts
 pub mod CommandLine
-pub mod Numbers
 pub mod Tolerances
 pub mod Given
-pub mod Rules
 pub mod Requests
 pub mod RequestRows
 pub mod Usage

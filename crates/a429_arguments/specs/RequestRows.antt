@@ -1,11 +1,9 @@
 -- What is asked for by the values that were read of a command's arguments (profile: docs/FORMATS.md, Usage errors).
-use Rattle.std.specs.Prelude.{◌≡◌, [], ℕ, List, Option, Some, None, true, false, MatchOption}
-use Rattle.clap.specs.Words.{Row, Text, first_of, one_of, subcommand_of, takes}
-use Rattle.a429_arguments.specs.CommandLine.{command_line, most_frames, row_of}
-use Rattle.a429_arguments.specs.Given.{given_in, values_of}
-use Rattle.a429_arguments.specs.Numbers.{number_of}
+use Rattle.std.specs.Prelude.{◌≡◌, [], ℕ, List, Option, Some, None, true, false, MatchOption, option_and_then}
+use Rattle.clap.specs.Words.{Row, Text, first_of, subcommand_of, takes}
+use Rattle.a429_arguments.specs.CommandLine.{command_line, most_frames, number_up_to, row_of}
+use Rattle.a429_arguments.specs.Given.{are_refused, given_in, values_of}
 use Rattle.a429_arguments.specs.Requests.{AskedBytes, HasWords, IsName, words_of, words_with}
-use Rattle.a429_arguments.specs.Rules.{are_refused}
 use Rattle.a429_arguments.specs.declared.options.OptionName.{OptionName}
 use Rattle.a429_arguments.specs.declared.forms.Verb.TheVariants as verb
 
@@ -13,8 +11,8 @@ use Rattle.a429_arguments.specs.declared.forms.Verb.TheVariants as verb
 abbrev pub IsGivenText : List Row → Option Text → Text → Type 0
 IsGivenText rows argument text = MatchOption argument (text ≡ []) (λ id. first_of id rows ≡ Some text)
 
-abbrev pub IsGivenNumber : List Row → Option (Text × ℕ) → ℕ → Type 0
-IsGivenNumber rows argument n = MatchOption argument (n ≡ 0) (λ number. number_of 0 number.1 (one_of number.0 rows) ≡ Some (Some n))
+abbrev pub IsGivenNumber : List Row → Option Text → ℕ → Type 0
+IsGivenNumber rows argument n = MatchOption argument (n ≡ 0) (λ id. option_and_then (number_up_to most_frames) (first_of id rows) ≡ Some n)
 
 abbrev pub AreGivenTexts : List Row → Option Text → List Text → Type 0
 AreGivenTexts rows argument texts = MatchOption argument (texts ≡ []) (λ id. values_of id rows ≡ texts)
@@ -41,7 +39,7 @@ AsksFor words r = (takes command_line words ≡ true) × IsFound (subcommand_of 
 -- the arguments of `live` ask for it with each spelling of FRAMES that the rules accept
 abbrev pub LiveWordsAsk : Type 0
 LiveWordsAsk =
-    (r : AskedBytes) (text : Text) → HasWords r → r.verb ≡ verb.Live → IsName text → number_of 0 most_frames (Some text) ≡ Some (Some r.number) → AsksFor (words_with text r) r
+    (r : AskedBytes) (text : Text) → HasWords r → r.verb ≡ verb.Live → IsName text → number_up_to most_frames text ≡ Some r.number → AsksFor (words_with text r) r
 
 -- a request in its plain form, which is what it names and then its options, asks for it
 abbrev pub PlainWordsAsk : Type 0

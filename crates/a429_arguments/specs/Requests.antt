@@ -1,15 +1,14 @@
 -- What arguments ask for (profile: docs/FORMATS.md, Usage errors).
 use Rattle.std.specs.Prelude.{◌≡◌, ◌≤◌, ◌≢◌, ◌∷◌, ◌++◌, [], ℕ, Bool, true, false, List, Option, Some, None, MatchOption, Result, MatchResult, codes, if◌then◌else◌, ⊤}
 use Rattle.std.specs.Fmt.{decimal}
-use Rattle.std.specs.List.{AllByRecursion, list_any}
+use Rattle.std.specs.List.{AllByRecursion, flat_map, list_any}
 use Rattle.std.specs.Str.{bytes_eq}
 use Rattle.clap.specs.ValueTests.{is_unsigned_in}
 use Rattle.clap.specs.Words.{Text, found_of, kind_of as kind_of_error, rows_of}
 use Rattle.clap.specs.declared.error.Error.{Error}
 use Rattle.clap.specs.declared.error.kind.ErrorKind.TheVariants.{OutOfMemory}
-use Rattle.a429_arguments.specs.CommandLine.{id_of, is_flag, kind_of, options_of, row_of}
-use Rattle.a429_arguments.specs.Given.{Given, given_in, nothing, text_given}
-use Rattle.a429_arguments.specs.Rules.{are_refused}
+use Rattle.a429_arguments.specs.CommandLine.{id_of, is_flag, kind_of, most_frames, options_of, row_of}
+use Rattle.a429_arguments.specs.Given.{Given, are_refused, given_in, nothing, text_given}
 use Rattle.a429_arguments.specs.Texts.{texts_of}
 use Rattle.a429_arguments.specs.declared.options.OptionKind.{OptionKind}
 use Rattle.a429_arguments.specs.declared.options.OptionKind.TheVariants as given
@@ -40,18 +39,17 @@ asked_by_names v first second more = record {
 
 -- ---- its arguments
 
--- the arguments of an option, of which this is given
-abbrev pub option_words : OptionName → Option Text → List Text
-option_words option None = []
-option_words option (Some word) = (codes "--" ++ id_of option) ∷ (if is_flag option then [] else word ∷ [])
+-- the arguments of an option with this name, which may be a flag, of which this is given
+abbrev pub option_words : Text → Bool → Option Text → List Text
+option_words id flag None = []
+option_words id flag (Some word) = (codes "--" ++ id) ∷ (if flag then [] else word ∷ [])
 
 -- the arguments of options, in this order
 abbrev pub words_of_options : Given → List OptionName → List Text
-words_of_options given [] = []
-words_of_options given (name ∷ names) = option_words name (text_given given name) ++ words_of_options given names
+words_of_options given = flat_map (λ name. option_words (id_of name) (is_flag name) (text_given given name))
 
 -- these arguments, of a command that has them
-abbrev pub words_if : {A : Type 0} → Option A → List Text → List Text
+abbrev pub words_if : Option Text → List Text → List Text
 words_if None words = []
 words_if (Some _) words = words
 
@@ -60,7 +58,7 @@ abbrev pub words_with : Text → AskedBytes → List Text
 words_with number r =
     (row_of r.verb).name ∷ r.first
     ∷ (words_if (row_of r.verb).second (r.second ∷ []) ++ (words_if (row_of r.verb).number (number ∷ [])
-    ++ (r.more ++ words_of_options r.given (options_of r.verb))))
+    ++ (words_if (row_of r.verb).more r.more ++ words_of_options r.given (options_of r.verb))))
 
 abbrev pub words_of : AskedBytes → List Text
 words_of r = words_with (decimal r.number) r
@@ -91,7 +89,7 @@ has_option names name = list_any (λ x. bytes_eq (id_of x) (id_of name)) names
 pub record HasWords (r : AskedBytes) : Type 0 where
   pub first : IsName r.first
   pub second : MatchOption (row_of r.verb).second (r.second ≡ []) (λ _. IsName r.second)
-  pub number : MatchOption (row_of r.verb).number (r.number ≡ 0) (λ number. r.number ≤ number.1)
+  pub number : MatchOption (row_of r.verb).number (r.number ≡ 0) (λ _. r.number ≤ most_frames)
   pub more : MatchOption (row_of r.verb).more (r.more ≡ []) (λ _. AllByRecursion IsName r.more)
   pub options : (name : OptionName) → CanBeGiven (kind_of name) (r.given name)
   -- what is given goes together

@@ -5,8 +5,7 @@ use Rattle.std.specs.List.{list_all}
 use Rattle.std.specs.Option.{option_or}
 use Rattle.std.specs.Str.{bytes_eq}
 use Rattle.clap.specs.Words.{Text}
-use Rattle.a429_arguments.specs.CommandLine.{most_tolerance}
-use Rattle.a429_arguments.specs.Numbers.{number_up_to}
+use Rattle.a429_arguments.specs.CommandLine.{most_tolerance, number_up_to}
 use Rattle.a429_text.specs.Renames.{halves, has_one_from_twice}
 
 -- GROUP of a text GROUP=US: the part before the last '='; a text US has none
@@ -19,31 +18,23 @@ microseconds_of text = number_up_to most_tolerance text
 
 -- ---- the number for a group
 
--- the number of GROUP=US, by its two parts, if this name is GROUP
-abbrev pub number_by : Text → Option (Text × Text) → Option ℕ
-number_by name None = None
-number_by name (Some p) = if bytes_eq p.0 name then microseconds_of p.1 else None
+-- the number that a text gives the group of this name alone, or all groups, by its two parts if it is GROUP=US
+abbrev pub number_by : Option Text → Text → Option (Text × Text) → Option ℕ
+number_by (Some name) text (Some p) = if bytes_eq p.0 name then microseconds_of p.1 else None
+number_by None text None = microseconds_of text
+number_by _ text _ = None
 
--- the number that a text gives the group of this name alone
-abbrev pub own_number : Text → Text → Option ℕ
-own_number name text = number_by name (halves text)
+abbrev pub number_for : Option Text → Text → Option ℕ
+number_for group text = number_by group text (halves text)
 
--- the number that a text gives all groups
-abbrev pub general_number : Text → Option ℕ
-general_number text = if is_some (tolerance_group text) then None else microseconds_of text
-
--- that of the first text that gives it one
-abbrev pub first_own_number : Text → List Text → Option ℕ
-first_own_number name [] = None
-first_own_number name (text ∷ texts) = option_or (own_number name text) (first_own_number name texts)
-
-abbrev pub first_general_number : List Text → Option ℕ
-first_general_number [] = None
-first_general_number (text ∷ texts) = option_or (general_number text) (first_general_number texts)
+-- that of the first text that gives one
+abbrev pub first_number : Option Text → List Text → Option ℕ
+first_number group [] = None
+first_number group (text ∷ texts) = option_or (number_for group text) (first_number group texts)
 
 -- the number that these texts give the group of this name: its own one, and if there is none that of all groups
 abbrev pub tolerance_for : List Text → Text → Option ℕ
-tolerance_for texts name = option_or (first_own_number name texts) (first_general_number texts)
+tolerance_for texts name = option_or (first_number (Some name) texts) (first_number None texts)
 
 -- ---- which texts can be given
 

@@ -9,8 +9,7 @@ use Rattle.clap.specs.declared.error.Error.{Error}
 use Rattle.clap.specs.declared.error.kind.ErrorKind.{ErrorKind}
 use Rattle.clap.specs.declared.error.kind.ErrorKind.TheVariants.{DisplayHelp, DisplayVersion, InvalidSubcommand, InvalidValue}
 use Rattle.a429_arguments.specs.CommandLine.{command_line, row_of, table_row, verbs}
-use Rattle.a429_arguments.specs.Given.{given_in}
-use Rattle.a429_arguments.specs.Rules.{are_refused}
+use Rattle.a429_arguments.specs.Given.{are_refused, given_in}
 use Rattle.a429_arguments.specs.declared.forms.AnswerForm.{AnswerForm}
 use Rattle.a429_arguments.specs.declared.forms.AnswerForm.TheVariants as answer
 use Rattle.a429_arguments.specs.declared.forms.Verb.{Verb}

@@ -1,9 +1,9 @@
 //! The command line: its commands.
 ghost use Rattle.std.specs.Prelude.{◌≡◌, ◌∷◌, [], IfOk, Some, fold, map};
-ghost use Rattle.clap.specs.Words.{App, HasKind, app_of, kind_of, new_app, new_rule, with_subcommand};
-ghost use Rattle.a429_arguments.specs.CommandLine.{HasRule, bare_line, command_line, form_row, given_rule, id_of, option_rule, many_rule, name_id, number_id, number_rule, required_rule, row_app, row_of, with_any, with_commands, with_names};
+ghost use Rattle.clap.specs.Words.{HasKind, app_of, kind_of, new_app, with_rule, with_subcommand};
+ghost use Rattle.a429_arguments.specs.CommandLine.{HasRule, bare_line, command_line, form_row, given_rule, option_rule, name_id, row_app, row_of, with_any, with_commands};
 
-use crate::forms::{COMMANDS, CommandForm, Row, Verb};
+use crate::forms::{COMMANDS, CommandForm, MOST_FRAMES, Row, Verb};
 use crate::help::{CommandHelp, VERSION, help_of, option_help};
 use crate::options::{OptionHelp, OptionKind, OptionName};
 use crate::program_help::PROGRAM;
@@ -12,97 +12,53 @@ use clap::error::ErrorKind;
 use clap::{Arg, ArgAction, Command, Error};
 use std::alloc::{AllocError, Global};
 
-/// What a command is given that is no option, by what help calls it, and its help.
+/// What a command is given that is no option.
 #[derive(Clone, Copy)]
 pub enum Given {
-    Name(&'static str, &'static str),
-    Number(&'static str, u32, &'static str),
+    Name,
+    /// A number of frames.
+    Number,
     /// As many names as one likes.
-    Names(&'static str, &'static str),
+    Names,
 }
 
 /// The argument of what is given. A name and a number must be given.
-fn given_argument<'a>(alloc: Global, given: Given) -> Arg<'a>
-    ensures { HasRule result (given_rule given) }
+fn given_argument<'a>(alloc: Global, given: Given, id: &'static str, help: &'static str) -> Arg<'a>
+    ensures { HasRule result (given_rule given id.now) }
 {
+    let argument = Arg::new(alloc, id).help(help);
     match given {
-        Given::Name(id, help) => Arg::new(alloc, id).help(help).required(true),
-        Given::Number(id, most, help) => Arg::new(alloc, id)
-            .help(help)
+        Given::Name => argument.required(true),
+        Given::Number => argument
             .required(true)
-            .value_parser(ValueParser::unsigned(0, u64::from(most))),
-        Given::Names(id, help) => Arg::new(alloc, id).help(help).action(ArgAction::Append),
+            .value_parser(ValueParser::unsigned(0, u64::from(MOST_FRAMES))),
+        Given::Names => argument.action(ArgAction::Append),
     }
 }
 
-/// A further name, if there is one.
-fn name_given(id: Option<&'static str>, help: &'static str) -> Option<Given>
-    ensures { (app : App) → with_any given_rule app result ≡ with_any required_rule app (name_id id.entry) }
-{
-    match id {
-        Some(id) => Some(Given::Name(id, help)),
-        None => None,
-    }
-}
-
-/// The number, if there is one.
-fn number_given(number: Option<(&'static str, u32)>, help: &'static str) -> Option<Given>
-    ensures { (app : App) → with_any given_rule app result ≡ with_any number_rule app (number_id number.entry) }
-{
-    match number {
-        Some((id, most)) => Some(Given::Number(id, most, help)),
-        None => None,
-    }
-}
-
-/// The names that are given as often as one likes, if there are any.
-fn names_given(id: Option<&'static str>, help: &'static str) -> Option<Given>
-    ensures { (app : App) → with_any given_rule app result ≡ with_any many_rule app (name_id id.entry) }
-{
-    match id {
-        Some(id) => Some(Given::Names(id, help)),
-        None => None,
-    }
-}
-
-/// All that a command is given that is no option, in order, with its help.
-fn all_given(form: &CommandForm, help: [&'static str; 4]) -> [Option<Given>; 4]
-    ensures { (app : App) → fold (with_any given_rule) app result ≡ with_names app (form_row form.now) }
-{
-    [
-        Some(Given::Name(form.first, help[0])),
-        name_given(form.second, help[1]),
-        number_given(form.number, help[2]),
-        names_given(form.more, help[3]),
-    ]
-}
-
-/// A command with one thing more that it is given, if there is one.
+/// A command with one thing more that it is given, if help has a name for it.
 fn with_given<'a>(
     alloc: Global,
     command: Command<'a>,
-    given: Option<Given>,
+    given: Given,
+    id: Option<&'static str>,
+    help: &'static str,
 ) -> Result<Command<'a>, AllocError>
-    ensures { IfOk result (λ c. app_of c ≡ with_any given_rule (app_of command.entry) given) }
+    ensures { IfOk result (λ c. app_of c ≡ with_any (given_rule given) (app_of command.entry) (name_id id.entry)) }
 {
-    match given {
-        Some(given) => command.arg(given_argument(alloc, given)),
+    match id {
+        Some(id) => command.arg(given_argument(alloc, given, id, help)),
         None => Ok(command),
     }
-}
-
-/// An option without what is given with it.
-fn named_option<'a>(alloc: Global, option: OptionName, text: &'static str) -> Arg<'a>
-    ensures { HasRule result (record (new_rule (id_of option)) { long = Some (id_of option) }) }
-{
-    Arg::new(alloc, option.id()).help(text).long(option.id())
 }
 
 /// The argument of an option, with this help.
 fn option_argument<'a>(alloc: Global, option: OptionName, help: OptionHelp) -> Arg<'a>
     ensures { HasRule result (option_rule option) }
 {
-    let argument = named_option(alloc, option, help.text);
+    let argument = Arg::new(alloc, option.id())
+        .help(help.text)
+        .long(option.id());
     match option.kind() {
         OptionKind::Flag => argument.action(ArgAction::SetTrue),
         OptionKind::Text(_) => argument.value_name(help.value),
@@ -120,18 +76,28 @@ fn named_command<'a>(alloc: Global, name: &'a str, about: &'a str, end: &'a str)
     Command::new(alloc, name).about(about).after_help(end)
 }
 
-/// A command with all that it is given apart from options.
-fn with_names<'a>(
+/// A command with one option more.
+fn with_option<'a>(
+    alloc: Global,
+    command: Command<'a>,
+    verb: Verb,
+    option: OptionName,
+) -> Result<Command<'a>, AllocError>
+    ensures { IfOk result (λ c. app_of c ≡ with_rule (app_of command.entry) (option_rule option)) }
+{
+    command.arg(option_argument(alloc, option, option_help(verb, option)))
+}
+
+/// A command with all its options.
+fn with_options<'a>(
     alloc: Global,
     mut command: Command<'a>,
     form: &CommandForm,
-    names: [&'static str; 4],
 ) -> Result<Command<'a>, AllocError>
-    ensures { IfOk result (λ c. app_of c ≡ with_names (app_of command.entry) (form_row form.now)) }
+    ensures { IfOk result (λ c. app_of c ≡ fold with_rule (app_of command.entry) (form_row form.now).options) }
 {
-    let all = all_given(form, names);
-    for given in &all {
-        command = with_given(alloc, command, *given)?;
+    for option in form.options {
+        command = with_option(alloc, command, form.verb, *option)?;
     }
     Ok(command)
 }
@@ -142,12 +108,11 @@ fn command_of<'a>(alloc: Global, form: &CommandForm) -> Result<Command<'a>, Allo
 {
     let CommandHelp { about, names, end } = help_of(form.verb);
     let command = named_command(alloc, form.name, about, end);
-    let mut command = with_names(alloc, command, form, names)?;
-    for option in form.options {
-        let help = option_help(form.verb, *option);
-        command = command.arg(option_argument(alloc, *option, help))?;
-    }
-    Ok(command)
+    let command = with_given(alloc, command, Given::Name, Some(form.first), names[0])?;
+    let command = with_given(alloc, command, Given::Name, form.second, names[1])?;
+    let command = with_given(alloc, command, Given::Number, form.number, names[2])?;
+    let command = with_given(alloc, command, Given::Names, form.more, names[3])?;
+    with_options(alloc, command, form)
 }
 
 /// The command line without its commands.

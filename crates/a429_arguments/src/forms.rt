@@ -57,12 +57,12 @@ const WHOLE: Answers = Answers {
     is_on_plan: false,
 };
 
-/// What a command is given that is no option, by what help calls it: a name, perhaps a second one, perhaps a number up to a
-/// maximum, and perhaps any number of further names.
+/// What a command is given that is no option, by what help calls it: a name, perhaps a second one, perhaps a number of
+/// frames, and perhaps any number of further names.
 pub type Names = (
     &'static str,
     Option<&'static str>,
-    Option<(&'static str, u32)>,
+    Option<&'static str>,
     Option<&'static str>,
 );
 
@@ -73,65 +73,50 @@ const TABLE: Names = ("TABLE", None, None, None);
 pub type Row = (Verb, &'static str, Names, &'static [OptionName], Answers);
 
 /// The most frames that a group sends in one run of `live` (profile).
-const MOST_FRAMES: u32 = 1_000_000;
+pub const MOST_FRAMES: u32 = 1_000_000;
 
-/// A row of the table of commands.
-macro_rules! command {
-    ($verb:ident, $name:literal, $names:expr, [$($option:ident),*] $(, $field:ident: $value:expr)*) => {
-        (
+/// A table of commands.
+macro_rules! commands {
+    ($($verb:ident, $name:literal, $names:expr, [$($option:ident),*] $(, $field:ident: $value:expr)*;)*) => {
+        &[$((
             Verb::$verb,
             $name,
             $names,
             &[$(OptionName::$option),*],
             Answers { $($field: $value,)* ..WHOLE },
-        )
+        )),*]
     };
 }
 
 /// The commands, in the order of `Verb`, in which help lists them.
-pub static COMMANDS: &[Row] = &[
-    command!(
-        Import,
-        "import",
-        ("FILE", None, None, None),
-        [Map, Names, Fill, KeepColumns, Quiet]
-    ),
-    command!(Plan, "plan", TABLE, [Keep, Csv, Json], is_on_plan: true),
-    command!(
-        Check,
-        "check",
-        ("TABLE", Some("PLAN"), None, None),
-        [Csv, Json]
-    ),
-    command!(Icd, "icd", TABLE, [Plan, Csv, Text, Json, Stamp], is_on_plan: true),
-    command!(Draw, "draw", TABLE, [Plan, Group, Slots, Width, Html], is_on_plan: true),
-    command!(Slots, "slots", TABLE, [Plan, Group, All, Code, Board, Csv, Json, Stamp], is_on_plan: true),
-    command!(Buses, "buses", TABLE, [Plan, Csv, Json, Stamp], is_on_plan: true),
-    command!(Load, "load", TABLE, [Plan, Limit, Csv, Json, Stamp], trouble: 2, is_on_plan: true),
-    command!(Margin, "margin", TABLE, [Plan, Csv, Json, Stamp], is_on_plan: true),
-    command!(Lint, "lint", TABLE, [Csv, Json, Stamp], trouble: 2),
-    command!(Diff, "diff", ("TABLE", Some("OTHER"), None, None),
-        [Plan, OtherPlan, All, Csv, Json, Stamp], trouble: 2),
-    command!(Replay, "replay", ("TABLE", Some("SCRIPT"), None, Some("FURTHER")),
-        [Plan, Quiet, Only, Csv], form: AnswerForm::ByLine),
-    command!(Simulate, "simulate", ("TABLE", Some("LOG"), None, Some("LOGS")),
-        [Plan, Time, Tick, Dates, From, Map, Channel, Ignore, Reversed, Until, Sent, Summary, Quiet, Csv, Json], form: AnswerForm::ByLine),
-    command!(Live, "live", ("TABLE", Some("WORDS"), Some(("FRAMES", MOST_FRAMES)), Some("FURTHER")),
-        [Plan, Quiet], form: AnswerForm::Station),
-    command!(Survey, "survey", ("LOG", None, None, Some("LOGS")),
-        [Table, Time, Tick, Dates, From, Until, Map, Channel, Ignore, Reversed, Rate, Rows, Slack, Quiet, Csv, Json], trouble: 2),
-    command!(Judge, "judge", ("TABLE", Some("IN"), None, Some("OUT")),
+pub static COMMANDS: &[Row] = commands! {
+    Import, "import", ("FILE", None, None, None), [Map, Names, Fill, KeepColumns, Quiet];
+    Plan, "plan", TABLE, [Keep, Csv, Json], is_on_plan: true;
+    Check, "check", ("TABLE", Some("PLAN"), None, None), [Csv, Json];
+    Icd, "icd", TABLE, [Plan, Csv, Text, Json, Stamp], is_on_plan: true;
+    Draw, "draw", TABLE, [Plan, Group, Slots, Width, Html], is_on_plan: true;
+    Slots, "slots", TABLE, [Plan, Group, All, Code, Board, Csv, Json, Stamp], is_on_plan: true;
+    Buses, "buses", TABLE, [Plan, Csv, Json, Stamp], is_on_plan: true;
+    Load, "load", TABLE, [Plan, Limit, Csv, Json, Stamp], trouble: 2, is_on_plan: true;
+    Margin, "margin", TABLE, [Plan, Csv, Json, Stamp], is_on_plan: true;
+    Lint, "lint", TABLE, [Csv, Json, Stamp], trouble: 2;
+    Diff, "diff", ("TABLE", Some("OTHER"), None, None), [Plan, OtherPlan, All, Csv, Json, Stamp], trouble: 2;
+    Replay, "replay", ("TABLE", Some("SCRIPT"), None, Some("FURTHER")),
+        [Plan, Quiet, Only, Csv], form: AnswerForm::ByLine;
+    Simulate, "simulate", ("TABLE", Some("LOG"), None, Some("LOGS")),
+        [Plan, Time, Tick, Dates, From, Map, Channel, Ignore, Reversed, Until, Sent, Summary, Quiet, Csv, Json],
+        form: AnswerForm::ByLine;
+    Live, "live", ("TABLE", Some("WORDS"), Some("FRAMES"), Some("FURTHER")), [Plan, Quiet], form: AnswerForm::Station;
+    Survey, "survey", ("LOG", None, None, Some("LOGS")),
+        [Table, Time, Tick, Dates, From, Until, Map, Channel, Ignore, Reversed, Rate, Rows, Slack, Quiet, Csv, Json],
+        trouble: 2;
+    Judge, "judge", ("TABLE", Some("IN"), None, Some("OUT")),
         [Plan, In, Tolerance, Events, Time, Tick, Dates, From, Until, Align, Shift, Drift, Map, Channel, Ignore, Reversed, Quiet, Csv, Json],
-        trouble: 2),
-    command!(Word, "word", ("HEX", None, None, None), [Csv, Json]),
-    command!(
-        Encode,
-        "encode",
-        ("LABEL", None, None, None),
-        [Sdi, Ssm, Data, Bnr, Bits, Bcd, Csv, Json]
-    ),
-    command!(Lines, "lines", ("FILE", None, None, Some("FILTER")), [Csv, Json], form: AnswerForm::ByLine),
-];
+        trouble: 2;
+    Word, "word", ("HEX", None, None, None), [Csv, Json];
+    Encode, "encode", ("LABEL", None, None, None), [Sdi, Ssm, Data, Bnr, Bits, Bcd, Csv, Json];
+    Lines, "lines", ("FILE", None, None, Some("FILTER")), [Csv, Json], form: AnswerForm::ByLine;
+};
 
 /// The row of a command.
 #[derive(Clone, Copy)]
@@ -140,8 +125,8 @@ pub struct CommandForm {
     pub name: &'static str,
     pub first: &'static str,
     pub second: Option<&'static str>,
-    /// What help calls the number, and its maximum.
-    pub number: Option<(&'static str, u32)>,
+    /// What help calls the number of frames.
+    pub number: Option<&'static str>,
     pub more: Option<&'static str>,
     pub options: &'static [OptionName],
 }
@@ -168,20 +153,14 @@ impl Verb {
     pub fn is_run(self) -> bool
         ensures { result ≡ is_run self }
     {
-        match COMMANDS[self as usize].4.form {
-            AnswerForm::Station => true,
-            _ => false,
-        }
+        matches!(COMMANDS[self as usize].4.form, AnswerForm::Station)
     }
 
     /// Whether the command prints nothing before it has its whole answer.
     pub fn is_whole(self) -> bool
         ensures { result ≡ is_whole self }
     {
-        match COMMANDS[self as usize].4.form {
-            AnswerForm::Whole => true,
-            _ => false,
-        }
+        matches!(COMMANDS[self as usize].4.form, AnswerForm::Whole)
     }
 
     /// The status of a refusal: 2 of a command whose status 1 says that it found something, and 1 of all others.

@@ -1,22 +1,21 @@
 //! What the arguments ask for.
-ghost use Rattle.std.specs.Prelude.{◌≡◌, ◌<◌, ◌^◌, ℕ, List, Option, IfOk, Some, false, not, option_map, true};
-ghost use Rattle.clap.specs.Words.{HasKind, Text, found_of, one_of, rows_of, subcommand_rows_of};
-ghost use Rattle.a429_arguments.specs.CommandLine.{IsRow, is_flag, name_id, number_id};
+ghost use Rattle.std.specs.Prelude.{Bool, IfOk, List, Option, Some, false, not, option_map, true, ◌≡◌};
+ghost use Rattle.clap.specs.Words.{HasKind, Text, found_of, rows_of, subcommand_rows_of};
+ghost use Rattle.a429_arguments.specs.CommandLine.{is_flag, name_id, row_of};
 ghost use Rattle.a429_arguments.specs.Texts.{texts_of};
-ghost use Rattle.a429_arguments.specs.Given.{form_of, has_given, long_number_given, number_given, dates_of, drift_of, named_unit, order_of, origin_of, shift_of, text_given, unit_of, values_of};
+ghost use Rattle.a429_arguments.specs.Given.{form_of, has_given, is_unset, long_number_given, number_given, dates_of, drift_of, order_of, origin_of, shift_of, text_given, unit_of};
 ghost use Rattle.a429_arguments.specs.Requests.{AskedBytes, IsRead, asked_of};
-ghost use Rattle.a429_arguments.specs.RequestRows.{AreGivenTexts, AsksFor, IsAskedBy, IsFound, IsGivenNumber, IsGivenText};
-ghost use Rattle.a429_arguments.specs.Numbers.{number_of};
+ghost use Rattle.a429_arguments.specs.RequestRows.{AreGivenTexts, AsksFor, IsFound, IsGivenText};
 ghost use Rattle.a429_arguments.specs.Usage.{ComesTo, elsewhere, found_kinds, is_live, is_run, kinds_of_words, live_kinds_of_words};
 
 use crate::command_line::{build_command, words_error};
-use crate::forms::{CommandForm, Verb, command_named};
-use crate::options::OptionName;
+use crate::forms::{MOST_FRAMES, Verb, command_named};
+use crate::options::{OptionKind, OptionName};
 use crate::rules::fault_of;
 use crate::times::{
     Drift, LogOrigin, Shift, dates_in, drift_in, order_in, origin_in, shift_in, unit_in,
 };
-use crate::values::{has, number_up_to, short_number_up_to, text_given};
+use crate::values::{number_up_to, short_number_up_to};
 use a429_logs::{BitOrder, DateOrder, TimeUnit};
 use a429_text::SheetForm;
 use clap::error::ErrorKind;
@@ -39,45 +38,52 @@ pub struct Asked<'a> {
 }
 
 impl<'a> Asked<'a> {
+    /// The texts that are given with an option, in their order. With a flag the text `true`.
+    pub(crate) fn given_texts(&self, option: OptionName) -> &[&'a str]
+        ensures { texts_of result.now ≡ (asked_of self.now).given option }
+    {
+        let none = &self.more[..0];
+        let texts = self.found.get_strs(option.id()).unwrap_or(none);
+        if is_unset(option.kind(), texts) {
+            none
+        } else {
+            texts
+        }
+    }
+
     /// The texts that are given with an option that is no flag, in their order.
     pub fn texts(&self, option: OptionName) -> &[&'a str]
         ensures { is_flag option ≡ false → texts_of result.now ≡ (asked_of self.now).given option }
     {
-        self.found.get_strs(option.id()).unwrap_or(&self.more[..0])
+        self.given_texts(option)
     }
 
     /// The text that is given with an option, if one is: the first of several. With a flag the text `true`.
     pub fn text(&self, option: OptionName) -> Option<&'a str>
         ensures { option_map (λ t. t.now) result ≡ text_given (asked_of self.now).given option }
     {
-        text_given(&self.found, option)
+        self.given_texts(option).first().copied()
     }
 
     /// Whether an option is given.
     pub fn has(&self, option: OptionName) -> bool
         ensures { result ≡ has_given (asked_of self.now).given option }
     {
-        has(&self.found, option)
+        self.text(option).is_some()
     }
 
     /// The number that is given with an option, if its text is a whole number below 2^32.
     pub fn number(&self, option: OptionName) -> Option<u32>
         ensures { result ≡ number_given (asked_of self.now).given option }
     {
-        match self.text(option) {
-            Some(text) => short_number_up_to(text, u32::MAX),
-            None => None,
-        }
+        short_number_up_to(self.text(option)?, u32::MAX)
     }
 
     /// The number that is given with an option, if its text is a whole number below 2^64.
     pub fn long_number(&self, option: OptionName) -> Option<u64>
         ensures { result ≡ long_number_given (asked_of self.now).given option }
     {
-        match self.text(option) {
-            Some(text) => number_up_to(text, u64::MAX),
-            None => None,
-        }
+        number_up_to(self.text(option)?, u64::MAX)
     }
 
     /// The form of what is printed: columns, unless `--csv` or `--json` is given.
@@ -93,23 +99,13 @@ impl<'a> Asked<'a> {
         }
     }
 
-    /// The unit that `--time` gives, if it is given.
-    fn named_unit(&self) -> Option<TimeUnit>
-        ensures { result ≡ named_unit (asked_of self.now).given }
-    {
-        match self.text(OptionName::Time) {
-            Some(text) => unit_in(text),
-            None => None,
-        }
-    }
-
     /// The unit of the times in a log, if `--tick` or `--time` gives one.
     pub fn unit(&self) -> Option<TimeUnit>
         ensures { result ≡ unit_of (asked_of self.now).given }
     {
         match self.number(OptionName::Tick) {
             Some(nanoseconds) => Some(TimeUnit::Ticks(nanoseconds)),
-            None => self.named_unit(),
+            None => unit_in(self.text(OptionName::Time)?),
         }
     }
 
@@ -117,50 +113,53 @@ impl<'a> Asked<'a> {
     pub fn dates(&self) -> Option<DateOrder>
         ensures { result ≡ dates_of (asked_of self.now).given }
     {
-        match self.text(OptionName::Dates) {
-            Some(text) => dates_in(text),
-            None => None,
-        }
+        dates_in(self.text(OptionName::Dates)?)
     }
 
     /// The order in which the bits of words in a log are written: that of the word, unless `--reversed` is given.
     pub fn order(&self) -> BitOrder
         ensures { result ≡ order_of (asked_of self.now).given }
     {
-        match self.text(OptionName::Reversed) {
-            Some(text) => order_in(text).unwrap_or(BitOrder::AsWritten),
-            None => BitOrder::AsWritten,
-        }
+        self.text(OptionName::Reversed)
+            .and_then(order_in)
+            .unwrap_or(BitOrder::AsWritten)
     }
 
     /// From when on they are counted: from 0, unless `--from` is given.
     pub fn origin(&self) -> LogOrigin
         ensures { result ≡ origin_of (asked_of self.now).given }
     {
-        match self.text(OptionName::From) {
-            Some(text) => origin_in(text).unwrap_or(LogOrigin::Time(0)),
-            None => LogOrigin::Time(0),
-        }
+        self.text(OptionName::From)
+            .and_then(origin_in)
+            .unwrap_or(LogOrigin::Time(0))
     }
 
     /// By how much the times of what was sent are moved: by 0, unless `--shift` is given.
     pub fn shift(&self) -> Shift
         ensures { result ≡ shift_of (asked_of self.now).given }
     {
-        match self.text(OptionName::Shift) {
-            Some(text) => shift_in(text).unwrap_or(Shift::Later(0)),
-            None => Shift::Later(0),
-        }
+        self.text(OptionName::Shift)
+            .and_then(shift_in)
+            .unwrap_or(Shift::Later(0))
     }
 
     /// By how much the clock of what was sent is fast: by nothing, unless `--drift` is given.
     pub fn drift(&self) -> Drift
         ensures { result ≡ drift_of (asked_of self.now).given }
     {
-        match self.text(OptionName::Drift) {
-            Some(text) => drift_in(text).unwrap_or(Drift::Fast(0)),
-            None => Drift::Fast(0),
-        }
+        self.text(OptionName::Drift)
+            .and_then(drift_in)
+            .unwrap_or(Drift::Fast(0))
+    }
+}
+
+/// Whether these texts are found of a flag that is not given.
+fn is_unset(kind: OptionKind, texts: &[&str]) -> bool
+    ensures { result ≡ is_unset kind (texts_of texts.now) }
+{
+    match (kind, texts.first()) {
+        (OptionKind::Flag, Some(text)) => *text != "true",
+        _ => false,
     }
 }
 
@@ -191,62 +190,53 @@ pub fn other_call_error(alloc: Global, message: &str) -> Error
 /// go together.
 fn read_matches<'a>(alloc: Global, matches: &mut ArgMatches<'a>) -> Result<Asked<'a>, Error>
     ensures asked { (r : AskedBytes) → IsFound (subcommand_rows_of matches.old) r → IsRead r result }
-    ensures kinds { ComesTo (found_kinds (subcommand_rows_of matches.old) (is_live (subcommand_rows_of matches.old))) is_run result }
-    ensures live_kinds { ComesTo (found_kinds (subcommand_rows_of matches.old) (not (is_live (subcommand_rows_of matches.old))))
-        (λ verb. not (is_run verb)) result }
+    // For both calls: `is_other` says of whether the command is `live` whether the other call does it.
+    ensures kinds { (is_other : Bool → Bool) → ComesTo (found_kinds (subcommand_rows_of matches.old)
+        (is_other (is_live (subcommand_rows_of matches.old)))) (λ verb. is_other (is_run verb)) result }
 {
-    // by the rules of the command line the name of a command is there
-    let Some((name, found)) = matches.remove_subcommand() else {
-        return Err(Error::from(AllocError));
-    };
-    let Some(form) = command_named(name) else {
-        return Err(Error::from(AllocError));
-    };
-    match fault_of(form.verb, &found) {
-        None => Ok(read_asked(alloc, &form, found)?),
-        Some(fault) => Err(words_error(alloc, Some(&form), ErrorKind::InvalidValue, fault)),
+    let asked = read_asked(alloc, matches)?;
+    match fault_of(&asked) {
+        None => Ok(asked),
+        Some(fault) => Err(words_error(
+            alloc,
+            Some(&asked.verb.form()),
+            ErrorKind::InvalidValue,
+            fault,
+        )),
     }
 }
 
-/// What a command of this form is asked for, by what was found of its arguments.
-fn read_asked<'a>(
-    alloc: Global,
-    form: &CommandForm,
-    found: ArgMatches<'a>,
-) -> Result<Asked<'a>, AllocError>
-    requires { IsRow form.now }
-    ensures verb { IfOk result (λ q. q.verb ≡ form.now.verb) }
-    ensures asked { IfOk result (λ q. (r : AskedBytes) → r.verb ≡ form.now.verb
-        → IsAskedBy (rows_of (found_of found.entry)) r → asked_of q ≡ r) }
+/// What the arguments ask for, by what was found of them, whether or not it breaks a rule. Error: an allocation failed.
+fn read_asked<'a>(alloc: Global, matches: &mut ArgMatches<'a>) -> Result<Asked<'a>, AllocError>
+    ensures found { IfOk result (λ q. subcommand_rows_of matches.old ≡ Some ((row_of q.verb).name, rows_of (found_of q.found))) }
+    ensures asked { IfOk result (λ q. (r : AskedBytes) → IsFound (subcommand_rows_of matches.old) r → asked_of q ≡ r) }
 {
+    // by the rules of the command line the name of a command is there
+    let Some((name, found)) = matches.remove_subcommand() else {
+        return Err(AllocError);
+    };
+    let Some(form) = command_named(name) else {
+        return Err(AllocError);
+    };
     let more = names_in(alloc, &found, form.more)?;
     Ok(Asked {
         verb: form.verb,
         first: name_in(&found, Some(form.first)),
         second: name_in(&found, form.second),
-        number: frames_in(&found, form.number),
+        // its rule lets no other text through
+        number: short_number_up_to(name_in(&found, form.number), MOST_FRAMES).unwrap_or(0),
         more,
         found,
     })
 }
 
-/// The name that is given, if the command takes it. By the rules of the command line it is there then.
+/// The text that is given, if the command takes it. By the rules of the command line it is there then.
 fn name_in<'a>(found: &ArgMatches<'a>, id: Option<&str>) -> &'a str
     ensures { (text : Text) → IsGivenText (rows_of (found_of found.now)) (name_id id.entry) text → result.now ≡ text }
 {
     match id {
         Some(id) => found.get_str(id).unwrap_or(""),
         None => "",
-    }
-}
-
-/// The number that is given, if the command is given one: that of its text, which the rules of the command line let through.
-fn frames_in(found: &ArgMatches<'_>, number: Option<(&str, u32)>) -> u32
-    ensures { (n : ℕ) → IsGivenNumber (rows_of (found_of found.now)) (number_id number.entry) n → result ≡ n }
-{
-    match number {
-        Some((id, _)) => found.get_one(id).unwrap_or(0),
-        None => 0,
     }
 }
 

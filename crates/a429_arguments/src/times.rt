@@ -43,16 +43,12 @@ pub enum Drift {
 pub fn unit_in(text: &str) -> Option<TimeUnit>
     ensures { result ≡ unit_in text.now }
 {
-    if text == "us" {
-        Some(TimeUnit::Microseconds)
-    } else if text == "ms" {
-        Some(TimeUnit::Milliseconds)
-    } else if text == "s" {
-        Some(TimeUnit::Seconds)
-    } else if text == "ns" {
-        Some(TimeUnit::Nanoseconds)
-    } else {
-        None
+    match text {
+        "us" => Some(TimeUnit::Microseconds),
+        "ms" => Some(TimeUnit::Milliseconds),
+        "s" => Some(TimeUnit::Seconds),
+        "ns" => Some(TimeUnit::Nanoseconds),
+        _ => None,
     }
 }
 
@@ -60,12 +56,10 @@ pub fn unit_in(text: &str) -> Option<TimeUnit>
 pub fn order_in(text: &str) -> Option<BitOrder>
     ensures { result ≡ order_in text.now }
 {
-    if text == "label" {
-        Some(BitOrder::LabelReversed)
-    } else if text == "word" {
-        Some(BitOrder::WordReversed)
-    } else {
-        None
+    match text {
+        "label" => Some(BitOrder::LabelReversed),
+        "word" => Some(BitOrder::WordReversed),
+        _ => None,
     }
 }
 
@@ -73,12 +67,10 @@ pub fn order_in(text: &str) -> Option<BitOrder>
 pub fn dates_in(text: &str) -> Option<DateOrder>
     ensures { result ≡ dates_in text.now }
 {
-    if text == "dmy" {
-        Some(DateOrder::DayFirst)
-    } else if text == "mdy" {
-        Some(DateOrder::MonthFirst)
-    } else {
-        None
+    match text {
+        "dmy" => Some(DateOrder::DayFirst),
+        "mdy" => Some(DateOrder::MonthFirst),
+        _ => None,
     }
 }
 
@@ -86,12 +78,9 @@ pub fn dates_in(text: &str) -> Option<DateOrder>
 pub fn origin_in(text: &str) -> Option<LogOrigin>
     ensures { result ≡ origin_in text.now }
 {
-    if text == "first" {
-        return Some(LogOrigin::First);
-    }
-    match number_up_to(text, LAST_ORIGIN) {
-        Some(time) => Some(LogOrigin::Time(time)),
-        None => None,
+    match text {
+        "first" => Some(LogOrigin::First),
+        _ => Some(LogOrigin::Time(number_up_to(text, LAST_ORIGIN)?)),
     }
 }
 
@@ -108,14 +97,8 @@ pub fn shift_in(text: &str) -> Option<Shift>
     ensures { result ≡ shift_in text.now }
 {
     match after_minus(text) {
-        Some(digits) => match number_up_to(digits, LAST_SHIFT) {
-            Some(time) => Some(Shift::Earlier(time)),
-            None => None,
-        },
-        None => match number_up_to(text, LAST_SHIFT) {
-            Some(time) => Some(Shift::Later(time)),
-            None => None,
-        },
+        Some(digits) => Some(Shift::Earlier(number_up_to(digits, LAST_SHIFT)?)),
+        None => Some(Shift::Later(number_up_to(text, LAST_SHIFT)?)),
     }
 }
 
@@ -125,13 +108,7 @@ pub fn drift_in(text: &str) -> Option<Drift>
     ensures { result ≡ drift_in text.now }
 {
     match after_minus(text) {
-        Some(digits) => match number_up_to(digits, LAST_DRIFT) {
-            Some(parts) => Some(Drift::Slow(parts)),
-            None => None,
-        },
-        None => match number_up_to(text, LAST_DRIFT) {
-            Some(parts) => Some(Drift::Fast(parts)),
-            None => None,
-        },
+        Some(digits) => Some(Drift::Slow(number_up_to(digits, LAST_DRIFT)?)),
+        None => Some(Drift::Fast(number_up_to(text, LAST_DRIFT)?)),
     }
 }

@@ -4,7 +4,7 @@
 //! The last `=` counts: `a=b=500` is for the group `a=b`.
 ghost use Rattle.std.specs.Prelude.{◌≡◌, false, option_map};
 ghost use Rattle.a429_arguments.specs.Texts.{texts_of};
-ghost use Rattle.a429_arguments.specs.Tolerances.{FitTogether, HasToleranceForm, NamesGroup, TolerancesAreFor, first_general_number, first_own_number, general_number, is_general_again, is_tolerance, microseconds_of, own_number, tolerance_for, tolerance_group};
+ghost use Rattle.a429_arguments.specs.Tolerances.{FitTogether, HasToleranceForm, NamesGroup, TolerancesAreFor, first_number, is_general_again, is_tolerance, microseconds_of, number_for, tolerance_for, tolerance_group};
 ghost use Rattle.a429_text.specs.Renames.{halves};
 
 use crate::values::short_number_up_to;
@@ -34,50 +34,27 @@ fn microseconds_in(text: &str) -> Option<u32>
 pub fn tolerance_group<'a>(text: &'a str) -> Option<&'a str>
     ensures { option_map (λ group. group.now) result ≡ tolerance_group text.now }
 {
-    match halves(text) {
-        Some((group, _)) => Some(group),
-        None => None,
-    }
+    let (group, _) = halves(text)?;
+    Some(group)
 }
 
-/// The number that a text gives the group of this name alone, in microseconds.
-fn own_number(text: &str, group: &[u8]) -> Option<u32>
-    ensures { result ≡ own_number group.now text.now }
+/// The number that a text gives the group of this name alone, or all groups, in microseconds.
+fn number_for(text: &str, group: Option<&[u8]>) -> Option<u32>
+    ensures { result ≡ number_for (option_map (λ name. name.now) group.entry) text.now }
 {
-    match halves(text) {
-        Some((own, number)) if own.as_bytes() == group => microseconds_in(number),
+    match (halves(text), group) {
+        (Some((own, number)), Some(group)) if own.as_bytes() == group => microseconds_in(number),
+        (None, None) => microseconds_in(text),
         _ => None,
     }
 }
 
-/// The number that a text gives all groups, in microseconds.
-fn general_number(text: &str) -> Option<u32>
-    ensures { result ≡ general_number text.now }
-{
-    match tolerance_group(text) {
-        Some(_) => None,
-        None => microseconds_in(text),
-    }
-}
-
-/// The number of the first text that gives the group of this name one of its own.
-fn first_own_number(texts: &[&str], group: &[u8]) -> Option<u32>
-    ensures { result ≡ first_own_number group.now (texts_of texts.now) }
+/// The number of the first text that gives one.
+fn first_number(texts: &[&str], group: Option<&[u8]>) -> Option<u32>
+    ensures { result ≡ first_number (option_map (λ name. name.now) group.entry) (texts_of texts.now) }
 {
     for text in texts {
-        if let Some(number) = own_number(*text, group) {
-            return Some(number);
-        }
-    }
-    None
-}
-
-/// The number of the first text that gives all groups one.
-fn first_general_number(texts: &[&str]) -> Option<u32>
-    ensures { result ≡ first_general_number (texts_of texts.now) }
-{
-    for text in texts {
-        if let Some(number) = general_number(*text) {
+        if let Some(number) = number_for(*text, group) {
             return Some(number);
         }
     }
@@ -89,10 +66,7 @@ fn first_general_number(texts: &[&str]) -> Option<u32>
 pub fn tolerance_for(texts: &[&str], group: &[u8]) -> Option<u32>
     ensures { result ≡ tolerance_for (texts_of texts.now) group.now }
 {
-    match first_own_number(texts, group) {
-        Some(number) => Some(number),
-        None => first_general_number(texts),
-    }
+    first_number(texts, Some(group)).or(first_number(texts, None))
 }
 
 /// Whether a text is US, or GROUP=US with a byte in GROUP.
@@ -122,7 +96,7 @@ pub fn is_general_twice(texts: &[&str]) -> bool
 }
 
 /// What some texts say: the definitions, by examples.
-#[tactic(auto, unfolding(std::specs::Path::rsplit_once, crate::specs::Numbers::number_up_to))]
+#[tactic(auto, unfolding(std::specs::Path::rsplit_once, crate::specs::CommandLine::number_up_to))]
 pub fn tolerances_are_as_written()
     ensures numbers { TolerancesAreFor }
     ensures groups { NamesGroup }

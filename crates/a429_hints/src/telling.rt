@@ -342,7 +342,7 @@ fn say_names(form: &CommandForm, hint: &HintText) {
     if let Some(second) = form.second {
         hint.say_one(" {}", second);
     }
-    if let Some((number, _)) = form.number {
+    if let Some(number) = form.number {
         hint.say_one(" {}", number);
     }
     if let Some(more) = form.more {

@@ -1,8 +1,13 @@
-use Rattle.std.proofs.Common.{◌≡◌, ℕ, ◌+◌, length, map, string_bytes, arith, subst}
-use Rattle.std.proofs.lemmas.List.{map-append, length-map, length-append}
+use Rattle.std.proofs.Common.{List, [], arith, length, map, string_bytes, subst, ℕ, ◌++◌, ◌+◌, ◌∷◌, ◌≡◌}
+use Rattle.std.proofs.lemmas.List.{length-append, length-map, map-append}
 use Rattle.std.specs.declared.alloc.Global.{Global}
-use Rattle.a429_arguments.proofs.PushedWords.{are_from-push}
+use Rattle.a429_arguments.specs.GivenWords.{AreFrom}
 use Rattle.a429_arguments.proofs.given.given_words.Goals as goal
+
+-- a word that is read after others
+are_from-push : (gives : ℕ → List ℕ → Type 0) (k : ℕ) (words : List (List ℕ)) (word : List ℕ) → AreFrom gives k words → gives (k + length words) word → AreFrom gives k (words ++ word ∷ [])
+are_from-push gives k [] word are given = (subst (λ (n : ℕ). gives n word) (omega arith) given, tt)
+are_from-push gives k (w ∷ words) word are given = (are.0, are_from-push gives (k + 1) words word are.1 (subst (λ (n : ℕ). gives n word) (omega arith) given))
 
 pub loop-place-preserved : goal.loop-place-preserved
 loop-place-preserved g c =

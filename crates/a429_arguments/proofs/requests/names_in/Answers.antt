@@ -5,7 +5,7 @@ use Rattle.clap.specs.Words.{Text, all_of, found_of, rows_of}
 use Rattle.clap.proofs.WalkLemmas.{raw_values-rows}
 use Rattle.a429_arguments.specs.Given.{values_of}
 use Rattle.a429_arguments.specs.Texts.{texts_of}
-use Rattle.a429_arguments.proofs.GivenTexts.{texts_or_none}
+use Rattle.a429_arguments.proofs.Found.{texts_or_none}
 use Rattle.a429_arguments.proofs.requests.names_in.Goals as goal
 
 pub returns-in-Some : goal.returns-in-Some
