@@ -9,14 +9,16 @@ use Rattle.a429_import.specs.declared.fault.ImportColumn.{ImportColumn}
 use Rattle.a429_import.specs.declared.fault.ImportColumn.TheVariants.{Group}
 use Rattle.a429_import.specs.declared.fault.ImportFault.{ImportFault}
 use Rattle.a429_import.specs.declared.fault.ImportFault.TheVariants.{NoMemory, Csv, Table}
+use Rattle.a429_import.specs.declared.known.Known.{Known}
 use Rattle.a429_import.specs.declared.lines.CsvLine.{CsvLine}
 use Rattle.a429_import.specs.declared.notes.Notes.{Notes}
 use Rattle.a429_import.specs.declared.reading.LinesRead.{LinesRead}
-use Rattle.a429_import.specs.declared.reading.RowsRead.{RowsRead}
 use Rattle.a429_import.specs.declared.rows.ImportRow.{ImportRow}
-use Rattle.a429_import.specs.ImportReading.{AreBelow, AreRead, AreTaken, HasNoRow, HasRows, HaveFault, HaveRows, IsAdded, IsHeadingOf, IsHeld, IsReadRow}
+use Rattle.a429_import.specs.ImportReading.{AreBelow, AreRead, AreTaken, HasNoRow, HaveFault, HaveRows, IsAdded, IsHeadingOf, IsHeld, IsReadRow}
 use Rattle.a429_import.specs.ImportRows.{CsvFault, limited, note_count, rows_after, rows_stated, unless_wrong, without_notes, wrong_column}
+use Rattle.a429_import.specs.ImportClashes.{Agree}
 use Rattle.a429_import.specs.ImportLimits.{too_many}
+use Rattle.a429_import.specs.Known.{Knows}
 use Rattle.a429_import.specs.Imports.{IsImportOf, States, has_text}
 use Rattle.a429_import.specs.KeptFields.{KeepsTexts, kept_of, lines_kept}
 use Rattle.a429_import.proofs.ImportNotes.{still_refused}
@@ -46,41 +48,40 @@ fault_stays (Table f) (heading ∷ below) line h = absurd h
 abbrev fault_of : ℕ → Option ImportColumn → Option ImportFault
 fault_of number o = option_map (λ column. Csv number Column (Some column)) o
 
-none_below : (heading : List (List ℕ)) (read : RowsRead) (notes : Notes) → HasRows read [] → HasNoRow notes → AreBelow heading [] read notes
-none_below heading read notes empty none =
-    let nothing : List ImportRow = [] in
-    let stated : rows_after heading [] [] ≡ Ok nothing = refl in
+none_below : (heading : List (List ℕ)) (known : Known) (notes : Notes) → Knows known → known.rows.items ≡ [] → HasNoRow notes → AreBelow heading [] known notes
+none_below heading known notes knows empty none =
+    let stated : rows_after heading [] [] ≡ Ok known.rows.items = ap (λ rows. Ok rows) (sym empty) in
     let count = none.count in
     let sum : 0 + vec_len notes.rows ≡ 0 = omega (arith, count) in
     record {
-      rows = [];
       stated = stated;
-      held = subst (λ o. IsHeld o nothing (rows_after heading [] [])) (sym none.held) stated;
+      held = subst (λ o. IsHeld o known.rows.items (rows_after heading [] [])) (sym none.held) stated;
       labelled = none.labelled;
       count = sum;
-      agree = tt;
-      has = empty;
+      agree = subst Agree (sym empty) tt;
+      knows = knows;
     }
 
-heading_by : (new : LinesRead) (heading : Heading) (wrong : Option ImportColumn) → wrong_column (fields_of heading.line.fields) ≡ wrong → new.heading ≡ Some heading → HasRows new.rows []
+heading_by : (new : LinesRead) (heading : Heading) (wrong : Option ImportColumn) → wrong_column (fields_of heading.line.fields) ≡ wrong → new.heading ≡ Some heading → Knows new.known → new.known.rows.items ≡ []
     → HasNoRow new.notes → KeepsTexts new.kept (fields_of heading.line.fields) [] → AreRead (fault_of heading.line.number wrong) new (heading.line ∷ [])
 unfolding rows_stated
-heading_by new heading None is headed empty none kept =
+heading_by new heading None is headed knows empty none kept =
     let P : Option Heading → Type 0 = λ o. HaveRows o new (heading.line ∷ []) in
-    subst P (sym headed) ([], refl, record { named = is; are = none_below (fields_of heading.line.fields) new.rows new.notes empty none; kept = kept })
-heading_by new heading (Some column) is headed empty none kept = ap (unless_wrong heading.line []) is
+    subst P (sym headed) ([], refl, record { named = is; are = none_below (fields_of heading.line.fields) new.known new.notes knows empty none; kept = kept })
+heading_by new heading (Some column) is headed knows empty none kept = ap (unless_wrong heading.line []) is
 
-heading_only : (old new : LinesRead) (heading : Heading) (lines : List CsvLine) (fault : Option ImportFault) → HaveRows None old lines → new.heading ≡ Some heading → new.rows ≡ old.rows
+heading_only : (old new : LinesRead) (heading : Heading) (lines : List CsvLine) (fault : Option ImportFault) → HaveRows None old lines → new.heading ≡ Some heading → new.known ≡ old.known
     → new.notes ≡ old.notes → new.kept ≡ old.kept → fault ≡ fault_of heading.line.number (wrong_column (fields_of heading.line.fields)) → AreRead fault new (lines ++ heading.line ∷ [])
 heading_only old new heading lines fault known headed rows notes keeps is =
-    let empty : HasRows new.rows [] = subst (λ r. HasRows r []) (sym rows) known.1 in
-    let none : HasNoRow new.notes = subst HasNoRow (sym notes) known.2 in
-    let kept : KeepsTexts new.kept (fields_of heading.line.fields) [] = subst (λ k. KeepsTexts k (fields_of heading.line.fields) []) (sym keeps) (known.3 (fields_of heading.line.fields)) in
+    let knows : Knows new.known = subst Knows (sym rows) known.1 in
+    let empty : new.known.rows.items ≡ [] = ap (λ (k : Known). k.rows.items) rows ∙ known.2 in
+    let none : HasNoRow new.notes = subst HasNoRow (sym notes) known.3 in
+    let kept : KeepsTexts new.kept (fields_of heading.line.fields) [] = subst (λ k. KeepsTexts k (fields_of heading.line.fields) []) (sym keeps) (known.4 (fields_of heading.line.fields)) in
     let P : Option ImportFault → Type 0 = λ f. AreRead f new (heading.line ∷ []) in
-    subst (λ ls. AreRead fault new (ls ++ heading.line ∷ [])) (sym known.0) (subst P (sym is) (heading_by new heading (wrong_column (fields_of heading.line.fields)) refl headed empty none kept))
+    subst (λ ls. AreRead fault new (ls ++ heading.line ∷ [])) (sym known.0) (subst P (sym is) (heading_by new heading (wrong_column (fields_of heading.line.fields)) refl headed knows empty none kept))
 
 pub heading_read : (old new : LinesRead) (heading : Heading) (line : CsvLine) (lines : List CsvLine) (fault : Option ImportFault) → HaveRows None old lines → new.heading ≡ Some heading → heading.line ≡ line
-    → new.rows ≡ old.rows → new.notes ≡ old.notes → new.kept ≡ old.kept → fault ≡ fault_of line.number (wrong_column (fields_of line.fields)) → AreRead fault new (lines ++ line ∷ [])
+    → new.known ≡ old.known → new.notes ≡ old.notes → new.kept ≡ old.kept → fault ≡ fault_of line.number (wrong_column (fields_of line.fields)) → AreRead fault new (lines ++ line ∷ [])
 heading_read old new heading line lines fault known headed of rows notes kept is =
     subst (λ (l : CsvLine). AreRead fault new (lines ++ l ∷ [])) of
     (heading_only old new heading lines fault known headed rows notes kept (is ∙ ap (λ (l : CsvLine). fault_of l.number (wrong_column (fields_of l.fields))) (sym of)))
@@ -96,7 +97,7 @@ below_refused heading below (Table f) named h = absurd h
 
 -- one more line, which may have a fault
 pub line_read : (heading : Heading) (old new : LinesRead) (line : CsvLine) (lines : List CsvLine) (result : Result (Unit {0}) ImportFault) (known : HaveRows (Some heading) old lines) → new.heading ≡ Some heading
-    → AreTaken result (fields_of heading.line.fields) (known.0 ++ line ∷ []) new.rows new.notes → OnOk result (KeepsTexts new.kept (fields_of heading.line.fields) (known.0 ++ line ∷ []))
+    → AreTaken result (fields_of heading.line.fields) (known.0 ++ line ∷ []) new.known new.notes → OnOk result (KeepsTexts new.kept (fields_of heading.line.fields) (known.0 ++ line ∷ []))
     → AreRead (result_err result) new (lines ++ line ∷ [])
 line_read heading old new line lines (Ok u) known headed are kept =
     let P : Option Heading → Type 0 = λ o. HaveRows o new (heading.line ∷ known.0 ++ line ∷ []) in
@@ -137,7 +138,7 @@ no_lines read lines e known is =
     let empty : IsImportOf none (Err (Csv 1 Column (Some Group))) = refl in
     subst (λ ls. IsImportOf ls (Err e)) (sym known.0) (subst (λ (x : ImportFault). IsImportOf none (Err x)) (sym is) empty)
 
-pub rows_read : (heading : Heading) (read : LinesRead) (lines : List CsvLine) (known : HaveRows (Some heading) read lines) → rows_stated lines ≡ Ok known.2.are.rows
+pub rows_read : (heading : Heading) (read : LinesRead) (lines : List CsvLine) (known : HaveRows (Some heading) read lines) → rows_stated lines ≡ Ok read.known.rows.items
 unfolding rows_stated
 rows_read heading read lines known = ap rows_stated known.1 ∙ ap (unless_wrong heading.line known.0) known.2.named ∙ known.2.are.stated
 
@@ -149,7 +150,7 @@ notes_read heading read lines known =
 
 -- the lines of sources are those of the rows
 pub kept_read : (heading : Heading) (read : LinesRead) (lines : List CsvLine) (known : HaveRows (Some heading) read lines) (source : List ℕ) → lines_kept read.kept source ≡ kept_of lines source
-kept_read heading read lines known source = ap (λ o. unwrap_or o []) (known.2.kept.texts source) ∙ ap (λ (ls : List CsvLine). kept_of ls source) (sym known.1)
+kept_read heading read lines known source = ap (λ o. unwrap_or o []) (known.2.kept source) ∙ ap (λ (ls : List CsvLine). kept_of ls source) (sym known.1)
 
 -- the fault makes no difference
 pub other_fault : (heading : Option Heading) (read : LinesRead) (fault : Option ImportFault) (lines : List CsvLine) → HaveRows heading read lines → HaveRows heading (record read { fault = fault }) lines
@@ -174,10 +175,7 @@ fault_kept (Some e) read lines known = known
 -- ---- one more row
 
 -- rows that were taken, unless they have one too many of something
-pub added : (column : Option ImportColumn) (read : RowsRead) (all : List ImportRow) (row : ImportRow) → column ≡ too_many all row → HasRows read all → IsAdded column read (λ line. limited line all (too_many all row))
-added None read all row is has = (all, (λ line. ap (limited line all) (sym is)), has)
-added (Some column) read all row is has = λ line. ap (limited line all) (sym is)
-
-pub added_as : (column : Option ImportColumn) (read : RowsRead) (f g : ℕ → Result (List ImportRow) CsvFault) → ((line : ℕ) → f line ≡ g line) → IsAdded column read g → IsAdded column read f
-added_as None read f g same h = (h.0, (λ line. same line ∙ h.1 line), h.2)
-added_as (Some column) read f g same h = λ line. same line ∙ h line
+pub added : (column : Option ImportColumn) (known : Known) (row : ImportRow) (stated : ℕ → Result (List ImportRow) CsvFault) → column ≡ too_many known.rows.items row → Knows known
+    → ((line : ℕ) → stated line ≡ limited line known.rows.items (too_many known.rows.items row)) → IsAdded column known stated
+added None known row stated is knows are = ((λ line. are line ∙ ap (limited line known.rows.items) (sym is)), knows)
+added (Some column) known row stated is knows are = λ line. are line ∙ ap (limited line known.rows.items) (sym is)

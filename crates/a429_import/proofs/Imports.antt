@@ -1,6 +1,6 @@
 -- What is imported from lines.
 use Rattle.std.proofs.Common.{◌≡◌, ◌∙◌, ℕ, Bool, true, false, List, [], ◌∷◌, Option, None, Some, Result, Ok, Err, ◌++◌, ap, ap₂, codes, cond, map, refl, subst, sym}
-use Rattle.std.specs.Prelude.{◌||◌}
+use Rattle.std.specs.Prelude.{◌||◌, IfOk}
 use Rattle.std.specs.Str.{IsUtf8}
 use Rattle.csv.specs.Records.{fields_of}
 use Rattle.toml.specs.Data.{Data, table}
@@ -23,7 +23,6 @@ use Rattle.a429_import.specs.declared.filled_reading.SheetRead.{SheetRead}
 use Rattle.a429_import.specs.declared.firsts.Part.{Part}
 use Rattle.a429_import.specs.declared.firsts.Part.TheVariants.{Receivers, Sources, Groups}
 use Rattle.a429_import.specs.declared.import.Imported.{Imported}
-use Rattle.a429_import.specs.declared.import.MadeTable.{MadeTable}
 use Rattle.a429_import.specs.declared.import.ImportOptions.{ImportOptions}
 use Rattle.a429_import.specs.declared.lines.CsvLine.{CsvLine}
 use Rattle.a429_import.specs.declared.reading.LinesRead.{LinesRead}
@@ -38,7 +37,7 @@ use Rattle.a429_import.specs.ImportTables.{part_tree, record_stated, root_member
 use Rattle.a429_import.specs.KeptFields.{kept_comments, kept_of}
 use Rattle.a429_import.specs.PrintedTables.{PrintsTables}
 use Rattle.a429_import.specs.TableTexts.{IsTableText, before_at, column_comments, made_comment, piece_of, pieces, row_before}
-use Rattle.a429_import.specs.Imports.{AreNamedLines, IsFilledImport, IsImport, IsImportBy, IsImportFrom, IsImportIf, IsImportOf, IsTableBy, IsTableOf, IsTextFault, has_row_above, rows_by, table_made, is_misquoted_text, separated, text_fault_line}
+use Rattle.a429_import.specs.Imports.{AreNamedLines, IsFilledImport, IsImport, IsImportBy, IsImportFrom, IsImportIf, IsImportOf, IsTableBy, IsTableOf, IsTextFault, has_row_above, rows_by, is_misquoted_text, separated, text_fault_line}
 use Rattle.a429_import.specs.ImportReading.{HaveFault, StandsFor}
 use Rattle.a429_import.specs.NumberRanges.{HaveRanges}
 use Rattle.a429_import.specs.RenamedReading.{IsReadBy}
@@ -113,26 +112,26 @@ module _ (kept other : List ℕ → List ℕ) (same : (source : List ℕ) → ke
     sources_are = subst (λ ps. PrintsTables (codes "source") ps is.sources) (pieces_same before Sources rows) is.sources_are;
   }
 
-  table_same : (before : Option (List ImportRow)) (rows : List ImportRow) (result : Result MadeTable ImportFault) → IsTableOf kept before rows result → IsTableOf other before rows result
+  table_same : (before : Option (List ImportRow)) (rows : List ImportRow) (result : Result Imported ImportFault) → IsTableOf kept before rows result → IsTableOf other before rows result
   table_same before rows (Ok made) h = (h.0, h.1, text_same before rows made.text.items h.2)
   table_same before rows (Err NoMemory) h = tt
   table_same before rows (Err (Csv line kind column)) h = absurd h
   table_same before rows (Err (Table fault.NoMemory)) h = absurd h
   table_same before rows (Err (Table (fault.At kind place))) h = h
 
-  pub table_by_same : (makes_names : Bool) (rows : List ImportRow) (result : Result MadeTable ImportFault) → IsTableBy kept makes_names rows result → IsTableBy other makes_names rows result
+  pub table_by_same : (makes_names : Bool) (rows : List ImportRow) (result : Result Imported ImportFault) → IsTableBy kept makes_names rows result → IsTableBy other makes_names rows result
   table_by_same makes_names rows result h = table_same (cond makes_names (Some rows) None) (rows_by makes_names rows) result h
 
 -- ---- of lines
 
 -- the table of the rows that lines state
-pub table_import : (makes_names : Bool) (lines : List CsvLine) (rows : List ImportRow) (imported : Imported) → rows_stated lines ≡ Ok rows → imported.notes ≡ note_count lines
-    → IsTableBy (kept_of lines) makes_names rows (Ok (table_made imported)) → IsImportFrom makes_names lines (Ok imported)
+table_import : (makes_names : Bool) (lines : List CsvLine) (rows : List ImportRow) (imported : Imported) → rows_stated lines ≡ Ok rows → imported.notes ≡ note_count lines
+    → IsTableBy (kept_of lines) makes_names rows (Ok imported) → IsImportFrom makes_names lines (Ok imported)
 table_import false lines rows imported are count h = (rows, are, h.0, count, h.1, h.2)
 table_import true lines rows imported are count h = (rows, are, h, count)
 
 -- the fault of that table
-pub table_fault : (makes_names : Bool) (lines : List CsvLine) (rows : List ImportRow) (e : ImportFault) → rows_stated lines ≡ Ok rows → IsTableBy (kept_of lines) makes_names rows (Err e) → IsImportFrom makes_names lines (Err e)
+table_fault : (makes_names : Bool) (lines : List CsvLine) (rows : List ImportRow) (e : ImportFault) → rows_stated lines ≡ Ok rows → IsTableBy (kept_of lines) makes_names rows (Err e) → IsImportFrom makes_names lines (Err e)
 table_fault false lines rows NoMemory are h = tt
 table_fault false lines rows (Csv line kind column) are h = absurd h
 table_fault false lines rows (Table fault.NoMemory) are h = absurd h
@@ -140,6 +139,12 @@ table_fault false lines rows (Table (fault.At kind place)) are h = (rows, are, h
 table_fault true lines rows NoMemory are h = tt
 table_fault true lines rows (Csv line kind column) are h = absurd h
 table_fault true lines rows (Table f) are h = (rows, are, h)
+
+-- the table of these rows, or its fault
+pub import_from : (makes_names : Bool) (lines : List CsvLine) (rows : List ImportRow) (result : Result Imported ImportFault) (notes : ℕ) → rows_stated lines ≡ Ok rows → notes ≡ note_count lines
+    → IfOk result (λ (made : Imported). made.notes ≡ notes) → IsTableBy (kept_of lines) makes_names rows result → IsImportFrom makes_names lines result
+import_from makes_names lines rows (Ok made) notes are count has h = table_import makes_names lines rows made are (has ∙ count) h
+import_from makes_names lines rows (Err e) notes are count has h = table_fault makes_names lines rows e are h
 
 -- the fault of lines
 pub fault_import : (makes_names : Bool) (lines : List CsvLine) (e : ImportFault) → HaveFault e lines → IsImportFrom makes_names lines (Err e)

@@ -11,11 +11,9 @@ mod UntilLast
 pub mod ImportNotes
 pub mod ImportReading
 pub mod FirstPlaces
-pub mod NameChains
 pub mod Knowing
 pub mod KnownClashes
 pub mod KnownRows
-pub mod Flags
 mod Lookups
 pub mod FewRows
 pub mod RowLines

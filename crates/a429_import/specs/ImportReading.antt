@@ -12,11 +12,11 @@ use Rattle.a429_import.specs.declared.fault.CsvFaultKind.TheVariants.{Column, To
 use Rattle.a429_import.specs.declared.fault.ImportColumn.{ImportColumn}
 use Rattle.a429_import.specs.declared.fault.ImportFault.{ImportFault}
 use Rattle.a429_import.specs.declared.fault.ImportFault.TheVariants.{Csv}
+use Rattle.a429_import.specs.declared.known.Known.{Known}
 use Rattle.a429_import.specs.declared.lines.CsvLine.{CsvLine}
 use Rattle.a429_import.specs.declared.lines.LineCount.{LineCount}
 use Rattle.a429_import.specs.declared.notes.Notes.{Notes}
 use Rattle.a429_import.specs.declared.reading.LinesRead.{LinesRead}
-use Rattle.a429_import.specs.declared.reading.RowsRead.{RowsRead}
 use Rattle.a429_import.specs.declared.rows.ImportRow.{ImportRow}
 use Rattle.a429_import.specs.ImportClashes.{Agree}
 use Rattle.a429_import.specs.ImportMaps.{AreNamedBy}
@@ -64,20 +64,15 @@ abbrev pub HaveFault : ImportFault → List CsvLine → Type 0
 HaveFault fault [] = ⊥
 HaveFault fault (heading ∷ below) = States {X = List ImportRow} (λ rows. rows) (Err fault) (rows_stated (heading ∷ below))
 
--- what was read says these rows
-pub record HasRows (read : RowsRead) (rows : List ImportRow) : Type 0 where
-  pub known : Knows read.known rows
-  pub kept : read.kept.items ≡ rows
-
--- one more row is taken: the rows are then these; or they have one too many of what this column names
-abbrev pub IsAdded : Option ImportColumn → RowsRead → (ℕ → Result (List ImportRow) CsvFault) → Type 0
-IsAdded None read stated = (rows : List ImportRow) × ((line : ℕ) → stated line ≡ Ok rows) × HasRows read rows
-IsAdded (Some column) read stated = (line : ℕ) → stated line ≡ Err (line, TooMany, Some column)
+-- one more row is taken: what is known is then that of these rows; or they have one too many of what this column names
+abbrev pub IsAdded : Option ImportColumn → Known → (ℕ → Result (List ImportRow) CsvFault) → Type 0
+IsAdded None known stated = ((line : ℕ) → stated line ≡ Ok known.rows.items) × Knows known
+IsAdded (Some column) known stated = (line : ℕ) → stated line ≡ Err (line, TooMany, Some column)
 
 -- one more row is read, or refused
-abbrev pub IsTaken : Result (Unit {0}) ImportFault → RowsRead → Result (List ImportRow) CsvFault → Type 0
-IsTaken (Ok u) read stated = (rows : List ImportRow) × (stated ≡ Ok rows) × Agree rows × HasRows read rows
-IsTaken (Err fault) read stated = States {X = List ImportRow} (λ rows. rows) (Err fault) stated
+abbrev pub IsTaken : Result (Unit {0}) ImportFault → Known → Result (List ImportRow) CsvFault → Type 0
+IsTaken (Ok u) known stated = (stated ≡ Ok known.rows.items) × Agree known.rows.items × Knows known
+IsTaken (Err fault) known stated = States {X = List ImportRow} (λ rows. rows) (Err fault) stated
 
 -- no row was read, so none may be a note
 pub record HasNoRow (notes : Notes) : Type 0 where
@@ -101,29 +96,28 @@ IsHeld None rows stated = stated ≡ Ok rows
 IsHeld (Some fault) rows stated = States {X = List ImportRow} (λ rows. rows) (Err fault) stated
 
 -- the rows that lines below a heading say, if those below the last one with a label are notes
-pub record AreBelow (heading : List (List ℕ)) (below : List CsvLine) (read : RowsRead) (notes : Notes) : Type 0 where
-  pub rows : List ImportRow
-  pub stated : rows_after heading [] (without_notes heading below) ≡ Ok rows
-  pub held : IsHeld notes.held rows (rows_after heading [] below)
+pub record AreBelow (heading : List (List ℕ)) (below : List CsvLine) (known : Known) (notes : Notes) : Type 0 where
+  pub stated : rows_after heading [] (without_notes heading below) ≡ Ok known.rows.items
+  pub held : IsHeld notes.held known.rows.items (rows_after heading [] below)
   pub labelled : notes.is_labelled ≡ list_any (has_label heading) below
   pub count : length (without_notes heading below) + vec_len notes.rows ≡ length below
-  pub agree : Agree rows
-  pub has : HasRows read rows
+  pub agree : Agree known.rows.items
+  pub knows : Knows known
 
 -- lines below a heading are read, or refused
-abbrev pub AreTaken : Result (Unit {0}) ImportFault → List (List ℕ) → List CsvLine → RowsRead → Notes → Type 0
-AreTaken (Ok u) heading below read notes = AreBelow heading below read notes
-AreTaken (Err fault) heading below read notes = States {X = List ImportRow} (λ rows. rows) (Err fault) (rows_after heading [] (without_notes heading below))
+abbrev pub AreTaken : Result (Unit {0}) ImportFault → List (List ℕ) → List CsvLine → Known → Notes → Type 0
+AreTaken (Ok u) heading below known notes = AreBelow heading below known notes
+AreTaken (Err fault) heading below known notes = States {X = List ImportRow} (λ rows. rows) (Err fault) (rows_after heading [] (without_notes heading below))
 
 -- the same, below a heading without a fault
 pub record SayRows (heading : CsvLine) (below : List CsvLine) (read : LinesRead) : Type 0 where
   pub named : wrong_column (fields_of heading.fields) ≡ None
-  pub are : AreBelow (fields_of heading.fields) below read.rows read.notes
+  pub are : AreBelow (fields_of heading.fields) below read.known read.notes
   pub kept : KeepsTexts read.kept (fields_of heading.fields) below
 
 -- nothing was read yet, or a heading and the lines below it
 abbrev pub HaveRows : Option Heading → LinesRead → List CsvLine → Type 0
-HaveRows None read lines = (lines ≡ []) × HasRows read.rows [] × HasNoRow read.notes × ((heading : List (List ℕ)) → KeepsTexts read.kept heading [])
+HaveRows None read lines = (lines ≡ []) × Knows read.known × (read.known.rows.items ≡ []) × HasNoRow read.notes × ((heading : List (List ℕ)) → KeepsTexts read.kept heading [])
 HaveRows (Some heading) read lines = (below : List CsvLine) × (lines ≡ heading.line ∷ below) × SayRows heading.line below read
 
 abbrev pub AreRead : Option ImportFault → LinesRead → List CsvLine → Type 0

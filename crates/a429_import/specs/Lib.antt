@@ -31,7 +31,6 @@ pub mod ImportLimits
 pub mod ImportReading
 pub mod RenamedReading
 pub mod FilledReading
-pub mod Names
 pub mod Known
 pub mod KeptFields
 pub mod TableTexts

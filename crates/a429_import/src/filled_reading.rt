@@ -49,16 +49,16 @@ impl Filler {
 }
 
 impl SheetRead {
-    /// What is known before the first line. Error: an allocation failed.
-    pub fn new(alloc: Global, chains: usize) -> Result<SheetRead, AllocError>
-        ensures { IfOk result (λ read. (options : ImportOptions) → IsReadFilled options read []) }
+    /// What is known before the first line.
+    pub fn new(alloc: Global) -> SheetRead
+        ensures { (options : ImportOptions) → IsReadFilled options result [] }
     {
-        Ok(SheetRead {
+        SheetRead {
             filler: Filler::new(alloc),
-            lines: LinesRead::new(alloc, chains)?,
+            lines: LinesRead::new(alloc),
             room: KeyedRoom::new(alloc),
             refused: RefusedRows::new(alloc),
-        })
+        }
     }
 }
 

@@ -1,16 +1,15 @@
 //! An equipment table from rows of comma-separated values.
 ghost use Rattle.std.specs.Prelude.{◌≡◌, ◌||◌, [], IfOk, is_some, List, None, Some};
 ghost use Rattle.a429_import.specs.declared.lines.CsvLine.{CsvLine};
-ghost use Rattle.a429_import.specs.declared.rows.ImportRow.{ImportRow};
 ghost use Rattle.a429_import.specs.ImportAbove.{has_data_above};
 ghost use Rattle.a429_import.specs.FaultLines.{fault_line};
 ghost use Rattle.a429_import.specs.FilledReading.{IsReadFilled};
 ghost use Rattle.a429_import.specs.ImportForms.{from_heading, separator_in};
 ghost use Rattle.a429_import.specs.ImportMaps.{given_texts};
 ghost use Rattle.a429_import.specs.ImportQuotes.{has_wrong_quotes};
-ghost use Rattle.a429_import.specs.ImportReading.{HasRows, HaveRows, StandsFor};
+ghost use Rattle.a429_import.specs.ImportReading.{HaveRows, StandsFor};
 ghost use Rattle.a429_import.specs.Imports.{IsImport, IsImportFrom, IsTableBy, IsTableOf, IsTextFault, separated};
-ghost use Rattle.a429_import.specs.KeptFields.{AreKept, lines_kept};
+ghost use Rattle.a429_import.specs.KeptFields.{lines_kept};
 ghost use Rattle.a429_import.specs.Known.{Knows};
 ghost use Rattle.a429_import.specs.LineCounts.{IsEnd};
 ghost use Rattle.a429_import.specs.NumberRanges.{HaveRanges};
@@ -18,17 +17,16 @@ ghost use Rattle.a429_import.specs.Renamed.{all_renamed};
 ghost use Rattle.a429_import.specs.TableTexts.{AreSound, rows_before};
 
 use crate::above::line_above;
-use crate::comments::{Comments, MadeOf};
+use crate::comments::Comments;
 use crate::fault::{CsvFaultKind, ImportColumn, ImportFault, csv_fault};
 use crate::filled_reading::SheetRead;
 use crate::forms::{Form, form_of};
 use crate::kept::KeptTexts;
 use crate::known::Known;
 use crate::quotes::misquoted_line_of;
-use crate::reading::{LinesRead, RowsRead};
+use crate::reading::LinesRead;
 use crate::refused::{RefusedRows, misquoted_rows, titled_rows};
 use crate::renamed::{all_names, all_renamed};
-use crate::rows::ImportRow;
 use crate::tables::table_text;
 use crate::text_reading::read_lines;
 use crate::watch::Watch;
@@ -56,75 +54,71 @@ pub struct Imported {
     pub notes: usize,
 }
 
-/// An equipment table.
-#[derive(Drop)]
-struct MadeTable {
-    text: Vec<u8>,
-    /// What the text states.
-    equipment: Equipment,
-}
-
-/// The table that rows describe, with comments.
+/// The table that known rows describe, with comments and a number of notes.
 fn table_of_rows(
     alloc: Global,
     comments: Comments<'_>,
-    read: &RowsRead,
-) -> Result<MadeTable, ImportFault>
-    requires rows { (rows : List ImportRow) × HasRows read.now rows }
+    known: &Known,
+    notes: usize,
+) -> Result<Imported, ImportFault>
+    requires known { Knows known.now }
     requires comments { AreSound comments }
-    ensures { (rows : List ImportRow) → HasRows read.now rows → HaveRanges rows
-        → IsTableOf (lines_kept comments.entry.kept.now) (rows_before comments.entry.made_of) rows result }
+    ensures table { HaveRanges known.now.rows.items
+        → IsTableOf (lines_kept comments.entry.kept.now) (rows_before comments.entry.made_of) known.now.rows.items result }
+    ensures notes { IfOk result (λ made. made.notes ≡ notes) }
 {
-    let text = table_text(alloc, comments, &read.known, &read.kept)?;
+    let text = table_text(alloc, comments, known)?;
     match read_equipment(alloc, text.as_str().as_bytes()) {
-        Ok(equipment) => Ok(MadeTable {
+        Ok(equipment) => Ok(Imported {
             text: text.into_bytes(),
             equipment,
+            notes,
         }),
         Err(fault) => Err(ImportFault::from(fault)),
     }
 }
 
-/// The table that known rows describe with names.
+/// The same with names.
 fn table_with_names(
     alloc: Global,
     known: &Known,
     kept: &KeptTexts,
-    rows: &[ImportRow],
-) -> Result<MadeTable, ImportFault>
-    requires known { Knows known.now rows.now }
-    requires kept { AreKept kept.now }
-    ensures { HaveRanges rows.now → IsTableOf (lines_kept kept.now) (Some rows.now) (all_renamed rows.now) result }
+    notes: usize,
+) -> Result<Imported, ImportFault>
+    requires known { Knows known.now }
+    ensures table { HaveRanges known.now.rows.items
+        → IsTableOf (lines_kept kept.now) (Some known.now.rows.items) (all_renamed known.now.rows.items) result }
+    ensures notes { IfOk result (λ made. made.notes ≡ notes) }
 {
-    let names = all_names(alloc, known, rows)?;
-    let read = all_renamed(alloc, known, &names, rows)?;
+    let names = all_names(alloc, known)?;
+    let renamed = all_renamed(alloc, known, &names)?;
     let comments = Comments {
-        made_of: Some(MadeOf { known, rows }),
+        made_of: Some(known),
         kept,
     };
-    table_of_rows(alloc, comments, &read)
+    table_of_rows(alloc, comments, &renamed, notes)
 }
 
-/// The table that rows describe, with names if the flag is set.
+/// The same, with names if the flag is set.
 fn table_by(
     alloc: Global,
     makes_names: bool,
+    known: &Known,
     kept: &KeptTexts,
-    read: &RowsRead,
-) -> Result<MadeTable, ImportFault>
-    requires rows { (rows : List ImportRow) × HasRows read.now rows }
-    requires kept { AreKept kept.now }
-    ensures { (rows : List ImportRow) → HasRows read.now rows → HaveRanges rows
-        → IsTableBy (lines_kept kept.now) makes_names rows result }
+    notes: usize,
+) -> Result<Imported, ImportFault>
+    requires known { Knows known.now }
+    ensures table { HaveRanges known.now.rows.items → IsTableBy (lines_kept kept.now) makes_names known.now.rows.items result }
+    ensures notes { IfOk result (λ made. made.notes ≡ notes) }
 {
     if makes_names {
-        table_with_names(alloc, &read.known, kept, &read.kept)
+        table_with_names(alloc, known, kept, notes)
     } else {
         let comments = Comments {
             made_of: None,
             kept,
         };
-        table_of_rows(alloc, comments, read)
+        table_of_rows(alloc, comments, known, notes)
     }
 }
 
@@ -139,14 +133,9 @@ fn table_below_heading(
 {
     match &read.heading {
         None => Err(csv_fault(1, CsvFaultKind::Column, Some(ImportColumn::Group))),
-        Some(_heading) => match table_by(alloc, makes_names, &read.kept, &read.rows) {
-            Ok(MadeTable { text, equipment }) => Ok(Imported {
-                text,
-                equipment,
-                notes: read.notes.len(),
-            }),
-            Err(fault) => Err(fault),
-        },
+        Some(_heading) => {
+            table_by(alloc, makes_names, &read.known, &read.kept, read.notes.len())
+        }
     }
 }
 
@@ -211,8 +200,7 @@ fn table_of_text<W: Watch>(
     requires text { form.text.now ≡ from_heading (given_texts maps.now) text.now }
     ensures { IsTextFault (given_texts maps.now) text.now None → IsImport (given_texts maps.now) options text.now result }
 {
-    // A row with a new name has 11 bytes. So a chain has 12 names on average at most.
-    let mut read = SheetRead::new(alloc, text.len() / 128)?;
+    let mut read = SheetRead::new(alloc);
     let table = read_table(alloc, maps, options, text, form, watch, &mut read);
     keep_refused(refused, read);
     table

@@ -5,15 +5,13 @@ ghost use Rattle.csv.specs.Records.{fields_of};
 ghost use Rattle.a429_import.specs.declared.lines.CsvLine.{CsvLine};
 ghost use Rattle.a429_import.specs.ImportRows.{has_label};
 ghost use Rattle.a429_import.specs.ImportTables.{is_word};
-ghost use Rattle.a429_import.specs.KeptFields.{AreKept, KeepsTexts, TakesText, kept_heading, kept_in, kept_line, lines_kept, shown, shown_byte};
+ghost use Rattle.a429_import.specs.KeptFields.{KeepsTexts, TakesText, kept_at, kept_heading, kept_in, kept_line, lines_kept, shown, shown_byte};
 
 use crate::columns::Heading;
 use crate::fault::ImportColumn;
 use crate::fields::utf8_in;
 use crate::lines::CsvLine;
-use crate::names::Names;
 use crate::notes::has_label;
-use crate::texts::Texts;
 use a429_text::Text;
 use std::alloc::{AllocError, Global};
 
@@ -95,48 +93,59 @@ fn counts(heading: &Heading, line: &CsvLine, text: &[u8]) -> bool
     has_label(heading, line) && !text.is_empty()
 }
 
-/// For each source, what its first row says in the columns that go along, of those rows that say something there.
+/// What the first row of a source says in the columns that go along, of those rows that say something there.
+#[derive(Drop)]
+struct KeptText {
+    source: Vec<u8>,
+    lines: Vec<u8>,
+}
+
+/// For each source, what its first row says in the columns that go along.
 #[derive(Drop)]
 pub struct KeptTexts {
-    sources: Names,
-    texts: Texts,
+    texts: Vec<KeptText>,
 }
 
 impl KeptTexts {
-    /// What is known before the first row. Error: an allocation failed.
-    pub fn new(alloc: Global) -> Result<KeptTexts, AllocError>
-        ensures { IfOk result (λ kept. (heading : List (List ℕ)) → KeepsTexts kept heading []) }
+    /// What is known before the first row.
+    pub fn new(alloc: Global) -> KeptTexts
+        ensures { (heading : List (List ℕ)) → KeepsTexts result heading [] }
     {
-        Ok(KeptTexts {
-            sources: Names::new(alloc, 256)?,
-            texts: Texts::new(alloc),
-        })
+        KeptTexts {
+            texts: Vec::new(alloc),
+        }
+    }
+
+    /// The lines of a source. `None` if there are none.
+    fn find(&self, source: &[u8]) -> Option<&[u8]>
+        ensures { option_map (λ lines. lines.now) result ≡ kept_at self.now source.now }
+    {
+        for text in &self.texts {
+            if source == text.source.as_slice() {
+                return Some(text.lines.as_slice());
+            }
+        }
+        None
     }
 
     /// The lines of a source; nothing if there are none.
     pub fn text_of(&self, source: &[u8]) -> &[u8]
-        requires { AreKept self.now }
         ensures { result.now ≡ lines_kept self.now source.now }
     {
-        match self.sources.find(source) {
-            Some(place) => self.texts.get(place),
-            None => &[],
-        }
+        self.find(source).unwrap_or(&[])
     }
 
     /// Takes the lines of a source, unless it has some. Error: an allocation failed.
-    fn take(&mut self, source: &[u8], text: &[u8]) -> Result<(), AllocError>
-        requires { AreKept self.old }
-        ensures { OnOk result (TakesText self.old self.new source.now text.now) }
+    fn take(&mut self, alloc: Global, source: &[u8], lines: Vec<u8>) -> Result<(), AllocError>
+        ensures { OnOk result (TakesText self.old self.new source.now lines.items) }
     {
-        match self.sources.find(source) {
-            Some(_place) => Ok(()),
-            None => {
-                self.texts.push(text)?;
-                self.sources.push(source)?;
-                Ok(())
-            }
+        if self.find(source).is_none() {
+            self.texts.push(KeptText {
+                source: Vec::from_slice(alloc, source)?,
+                lines,
+            })?;
         }
+        Ok(())
     }
 
     /// Takes what one more row says, unless it may be a note. Error: an allocation failed.
@@ -146,13 +155,12 @@ impl KeptTexts {
         heading: &Heading,
         line: &CsvLine,
     ) -> Result<(), AllocError>
-        requires { AreKept self.old }
         ensures { OnOk result ((below : List CsvLine) → KeepsTexts self.old (fields_of heading.now.line.fields) below
             → KeepsTexts self.new (fields_of heading.now.line.fields) (below ++ line.now ∷ [])) }
     {
         let text = kept_in(alloc, &heading.line, line)?;
         if counts(heading, line, &text) {
-            self.take(heading.field_of(line, ImportColumn::Source), &text)
+            self.take(alloc, heading.field_of(line, ImportColumn::Source), text)
         } else {
             Ok(())
         }

@@ -1,14 +1,13 @@
 //! What rows say, one line after the other. No line is kept except the heading.
-ghost use Rattle.std.specs.Prelude.{◌≡◌, ◌++◌, ◌&&◌, [], ◌∷◌, IfOk, List, None, OnOk, Some, false, not};
+ghost use Rattle.std.specs.Prelude.{◌≡◌, ◌++◌, [], ◌∷◌, IfOk, List, None, OnOk};
 ghost use Rattle.std.specs.Result.{result_map_both};
 ghost use Rattle.csv.specs.Records.{fields_of};
 ghost use Rattle.a429_import.specs.declared.lines.CsvLine.{CsvLine};
-ghost use Rattle.a429_import.specs.declared.rows.ImportRow.{ImportRow};
 ghost use Rattle.a429_import.specs.ImportClashes.{Agree};
-ghost use Rattle.a429_import.specs.ImportReading.{AreBelow, AreRead, AreTaken, HasRows, HaveRows, IsAdded, IsHeadingOf, IsTaken, StandsFor, heading_fault};
-ghost use Rattle.a429_import.specs.ImportRows.{has_label, next_row, with_line, with_row};
+ghost use Rattle.a429_import.specs.ImportReading.{AreBelow, AreRead, AreTaken, HaveRows, IsAdded, IsHeadingOf, IsTaken, StandsFor, heading_fault};
+ghost use Rattle.a429_import.specs.ImportRows.{next_row, with_line, with_row};
 ghost use Rattle.a429_import.specs.ImportTexts.{row_view};
-ghost use Rattle.a429_import.specs.KeptFields.{AreKept, KeepsTexts};
+ghost use Rattle.a429_import.specs.KeptFields.{KeepsTexts};
 ghost use Rattle.a429_import.specs.Known.{Knows};
 
 use crate::clashes::first_clash;
@@ -19,22 +18,15 @@ use crate::known::Known;
 use crate::lines::CsvLine;
 use crate::notes::{Notes, has_label};
 use crate::refused::copy_of_line;
-use crate::rows::{ImportRow, RowFields, copy_of, row_of};
+use crate::rows::{RowFields, row_of};
 use std::alloc::{AllocError, Global};
-
-/// What rows say.
-#[derive(Drop)]
-pub struct RowsRead {
-    pub known: Known,
-    pub kept: Vec<ImportRow>,
-}
 
 /// What is known of lines that were read.
 #[derive(Drop)]
 pub struct LinesRead {
     pub heading: Option<Heading>,
     /// What the lines below the heading say.
-    pub rows: RowsRead,
+    pub known: Known,
     /// Those of them that may be notes.
     pub notes: Notes,
     /// What sources say in the columns that go along.
@@ -43,32 +35,19 @@ pub struct LinesRead {
     pub fault: Option<ImportFault>,
 }
 
-impl RowsRead {
-    /// What is known before the first row. Error: an allocation failed.
-    pub fn new(alloc: Global, chains: usize) -> Result<RowsRead, AllocError>
-        ensures { IfOk result (λ read. HasRows read []) }
-    {
-        Ok(RowsRead {
-            known: Known::new(alloc, chains)?,
-            kept: Vec::new(alloc),
-        })
-    }
-}
-
 impl LinesRead {
-    /// What is known before the first line. Error: an allocation failed.
-    pub fn new(alloc: Global, chains: usize) -> Result<LinesRead, AllocError>
-        ensures read { IfOk result (λ read. StandsFor read []) }
-        ensures heading { IfOk result (λ read. read.heading ≡ None) }
+    /// What is known before the first line.
+    pub fn new(alloc: Global) -> LinesRead
+        ensures read { StandsFor result [] }
+        ensures heading { result.heading ≡ None }
     {
-        let kept = KeptTexts::new(alloc)?;
-        Ok(LinesRead {
+        LinesRead {
             heading: None,
-            rows: RowsRead::new(alloc, chains)?,
+            known: Known::new(alloc),
             notes: Notes::new(alloc),
-            kept,
+            kept: KeptTexts::new(alloc),
             fault: None,
-        })
+        }
     }
 }
 
@@ -78,9 +57,9 @@ fn next_row<'a>(
     heading: &Heading,
     line: &'a CsvLine,
 ) -> Result<RowFields<'a>, (CsvFaultKind, Option<ImportColumn>)>
-    requires { (rows : List ImportRow) × Knows known.now rows }
-    ensures { (rows : List ImportRow) → Agree rows → Knows known.now rows
-        → result_map_both row_view (λ f. (line.now.number, f.0, f.1)) result ≡ next_row (fields_of heading.now.line.fields) rows line.now }
+    requires { Knows known.now }
+    ensures { Agree known.now.rows.items → result_map_both row_view (λ f. (line.now.number, f.0, f.1)) result
+        ≡ next_row (fields_of heading.now.line.fields) known.now.rows.items line.now }
 {
     match row_of(heading, line) {
         Ok(row) => match first_clash(known, &row) {
@@ -91,47 +70,36 @@ fn next_row<'a>(
     }
 }
 
-/// Adds a row. Error: an allocation failed.
-pub fn push_row(alloc: Global, read: &mut RowsRead, row: &RowFields<'_>) -> Result<(), AllocError>
-    requires { (rows : List ImportRow) × Knows read.old.known rows }
-    ensures { OnOk result ((rows : List ImportRow) → HasRows read.old rows → HasRows read.new (rows ++ row_view row.now ∷ [])) }
-{
-    read.known.note(row)?;
-    read.kept.push(copy_of(alloc, row)?)?;
-    Ok(())
-}
-
 /// Takes a row, unless it says nothing new. The answer is the column of which there is then one too many. Error: an allocation
 /// failed.
 fn take_row(
     alloc: Global,
-    read: &mut RowsRead,
+    known: &mut Known,
     row: &RowFields<'_>,
 ) -> Result<Option<ImportColumn>, AllocError>
-    requires { (rows : List ImportRow) × HasRows read.old rows }
-    ensures { IfOk result (λ column. (rows : List ImportRow) → HasRows read.old rows
-        → IsAdded column read.new (λ line. with_row line rows (row_view row.now))) }
+    requires { Knows known.old }
+    ensures { IfOk result (λ column. IsAdded column known.new (λ line. with_row line known.old.rows.items (row_view row.now))) }
 {
-    if read.known.has_all_of(row) {
+    if known.has_all_of(row) {
         return Ok(None);
     }
-    push_row(alloc, read, row)?;
-    Ok(read.known.too_many(row))
+    known.push(alloc, row)?;
+    Ok(known.too_many(row))
 }
 
 /// Takes a row that is no note.
 fn take_below(
     alloc: Global,
-    read: &mut RowsRead,
+    known: &mut Known,
     heading: &Heading,
     line: &CsvLine,
 ) -> Result<(), ImportFault>
-    requires { (rows : List ImportRow) × HasRows read.old rows }
-    ensures { (rows : List ImportRow) → Agree rows → HasRows read.old rows
-        → IsTaken result read.new (with_line (fields_of heading.now.line.fields) rows line.now) }
+    requires { Knows known.old }
+    ensures { Agree known.old.rows.items
+        → IsTaken result known.new (with_line (fields_of heading.now.line.fields) known.old.rows.items line.now) }
 {
-    match next_row(&read.known, heading, line) {
-        Ok(row) => match take_row(alloc, read, &row)? {
+    match next_row(known, heading, line) {
+        Ok(row) => match take_row(alloc, known, &row)? {
             None => Ok(()),
             Some(column) => Err(csv_fault(line.number, CsvFaultKind::TooMany, Some(column))),
         },
@@ -139,67 +107,47 @@ fn take_below(
     }
 }
 
-/// Takes a row that is no note. If rows above it are no notes either, since it has a label, the fault of the first of them is
-/// the answer.
-fn take_stated(
-    alloc: Global,
-    read: &mut RowsRead,
-    notes: &mut Notes,
-    heading: &Heading,
-    line: &CsvLine,
-    is_labelled: bool,
-) -> Result<(), ImportFault>
-    requires below { (below : List CsvLine) × AreBelow (fields_of heading.now.line.fields) below read.old notes.old }
-    requires label { is_labelled ≡ has_label (fields_of heading.now.line.fields) line.now }
-    requires stated { (notes.old.is_labelled && not is_labelled) ≡ false }
-    ensures { (below : List CsvLine) → AreBelow (fields_of heading.now.line.fields) below read.old notes.old
-        → AreTaken result (fields_of heading.now.line.fields) (below ++ line.now ∷ []) read.new notes.new }
-{
-    match notes.end(is_labelled) {
-        Some(fault) => Err(fault),
-        None => take_below(alloc, read, heading, line),
-    }
-}
-
-/// Takes a line below the heading, which may be a note.
+/// Takes a line below the heading, which may be a note. If it is none since it has a label, the rows above it are none either:
+/// the fault of the first of them is the answer.
 fn take_row_or_note(
     alloc: Global,
-    read: &mut RowsRead,
+    known: &mut Known,
     notes: &mut Notes,
     heading: &Heading,
     line: &CsvLine,
 ) -> Result<(), ImportFault>
-    requires { (below : List CsvLine) × AreBelow (fields_of heading.now.line.fields) below read.old notes.old }
-    ensures { (below : List CsvLine) → AreBelow (fields_of heading.now.line.fields) below read.old notes.old
-        → AreTaken result (fields_of heading.now.line.fields) (below ++ line.now ∷ []) read.new notes.new }
+    requires { (below : List CsvLine) × AreBelow (fields_of heading.now.line.fields) below known.old notes.old }
+    ensures { (below : List CsvLine) → AreBelow (fields_of heading.now.line.fields) below known.old notes.old
+        → AreTaken result (fields_of heading.now.line.fields) (below ++ line.now ∷ []) known.new notes.new }
 {
     let is_labelled = has_label(heading, line);
     if notes.may_take(is_labelled) {
         notes.hold(heading, line)?;
-        Ok(())
-    } else {
-        take_stated(alloc, read, notes, heading, line, is_labelled)
+        return Ok(());
+    }
+    match notes.end(is_labelled) {
+        Some(fault) => Err(fault),
+        None => take_below(alloc, known, heading, line),
     }
 }
 
 /// Takes a line below the heading, and what it says in the columns that go along.
 fn take_kept(
     alloc: Global,
-    read: &mut RowsRead,
+    known: &mut Known,
     notes: &mut Notes,
     kept: &mut KeptTexts,
     heading: &Heading,
     line: &CsvLine,
 ) -> Result<(), ImportFault>
-    requires below { (below : List CsvLine) × AreBelow (fields_of heading.now.line.fields) below read.old notes.old }
-    requires kept { AreKept kept.old }
-    ensures taken { (below : List CsvLine) → AreBelow (fields_of heading.now.line.fields) below read.old notes.old
-        → AreTaken result (fields_of heading.now.line.fields) (below ++ line.now ∷ []) read.new notes.new }
+    requires { (below : List CsvLine) × AreBelow (fields_of heading.now.line.fields) below known.old notes.old }
+    ensures taken { (below : List CsvLine) → AreBelow (fields_of heading.now.line.fields) below known.old notes.old
+        → AreTaken result (fields_of heading.now.line.fields) (below ++ line.now ∷ []) known.new notes.new }
     ensures kept { OnOk result ((below : List CsvLine) → KeepsTexts kept.old (fields_of heading.now.line.fields) below
         → KeepsTexts kept.new (fields_of heading.now.line.fields) (below ++ line.now ∷ [])) }
 {
     kept.note(alloc, heading, line)?;
-    take_row_or_note(alloc, read, notes, heading, line)
+    take_row_or_note(alloc, known, notes, heading, line)
 }
 
 /// The fault of a heading, if it lacks a column or has it twice.
@@ -235,7 +183,7 @@ fn next_line(
         Some(heading) => {
             let taken = take_kept(
                 alloc,
-                &mut read.rows,
+                &mut read.known,
                 &mut read.notes,
                 &mut read.kept,
                 heading,

@@ -54,7 +54,7 @@ pub fn before_line(read: &LinesRead) -> Before {
     Before {
         has_heading: read.heading.is_some(),
         has_fault: read.fault.is_some(),
-        kept: read.rows.kept.len(),
+        kept: read.known.rows.len(),
     }
 }
 
@@ -120,7 +120,7 @@ impl RefusedRows {
     ) -> Result<(), AllocError> {
         match &read.heading {
             Some(heading) if before.has_heading => {
-                let is_new = before.kept < read.rows.kept.len();
+                let is_new = before.kept < read.known.rows.len();
                 let is_refused = read.fault.is_some() && !before.has_fault;
                 self.note_below(heading, is_new, is_refused, line)
             }

@@ -9,7 +9,7 @@ use Rattle.a429_import.proofs.reading.next_line.Goals as goal
 pub returns-in_ok-copy-in-None-clause-read : goal.returns-in_ok-copy-in-None-clause-read
 returns-in_ok-copy-in-None-clause-read c = λ lines known.
     let old : LinesRead = c.args.read.now in
-    let new : LinesRead = record { heading = Some c.of.result; rows = old.rows; notes = old.notes; kept = old.kept; fault = old.fault } in
+    let new : LinesRead = record { heading = Some c.of.result; known = old.known; notes = old.notes; kept = old.kept; fault = old.fault } in
     let same = c.in_ok-copy-in-None.ensures in
     heading_read old new c.of.result c.args.line.now lines c.heading_fault-fault.result (subst (λ o. HaveRows o old lines) c.in-None.is known) refl (c.of.ensures ∙ same) refl refl refl
     (c.heading_fault-fault.ensures ∙ ap (λ (l : CsvLine). heading_fault l) same)
@@ -17,7 +17,7 @@ returns-in_ok-copy-in-None-clause-read c = λ lines known.
 pub returns-in-Some-clause-read : goal.returns-in-Some-clause-read
 returns-in-Some-clause-read c = λ lines known.
     let old : LinesRead = c.args.read.now in
-    let new : LinesRead = record { heading = old.heading; rows = c.take_kept-taken.new.read; notes = c.take_kept-taken.new.notes; kept = c.take_kept-taken.new.kept; fault = old.fault } in
+    let new : LinesRead = record { heading = old.heading; known = c.take_kept-taken.new.known; notes = c.take_kept-taken.new.notes; kept = c.take_kept-taken.new.kept; fault = old.fault } in
     let there : HaveRows (Some c.in-Some.heading) old lines = subst (λ o. HaveRows o old lines) c.in-Some.is known in
     subst (λ f. AreRead f new (lines ++ c.args.line.now ∷ [])) (sym c.err.ensures.value)
     (line_read c.in-Some.heading old new c.args.line.now lines c.take_kept-taken.result there c.in-Some.is (c.take_kept-taken.ensures.taken there.0 there.2.are)

@@ -6,7 +6,7 @@ use Rattle.a429_import.proofs.reading.take_line.Goals as goal
 pub returns-else-is_none-clause-read : goal.returns-else-is_none-clause-read
 returns-else-is_none-clause-read c = λ lines known.
     let old : LinesRead = c.args.read.now in
-    let new : LinesRead = record { heading = old.heading; rows = old.rows; notes = old.notes; kept = old.kept; fault = old.fault } in
+    let new : LinesRead = record { heading = old.heading; known = old.known; notes = old.notes; kept = old.kept; fault = old.fault } in
     line_skipped old.fault old new lines c.args.line.now (search rules) known
 
 pub returns-else-is_none-clause-heading : goal.returns-else-is_none-clause-heading

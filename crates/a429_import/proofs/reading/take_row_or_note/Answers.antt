@@ -12,4 +12,4 @@ returns-in_ok-hold c = λ below known.
     let note = is_note old.is_labelled c.has_label-is_labelled.result (sym c.may_take.ensures ∙ c.if-may_take.true) in
     let none : has_label heading c.args.line.now ≡ false = sym c.has_label-is_labelled.ensures ∙ note.1 in
     let hold = c.in_ok-hold.ensures in
-    note_taken heading below c.args.line.now c.args.read.now old known c.hold.new.self hold.count hold.labelled (hold.held none) note.0 none
+    note_taken heading below c.args.line.now c.args.known.now old known c.hold.new.self hold.count hold.labelled (hold.held none) note.0 none
