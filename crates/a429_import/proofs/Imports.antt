@@ -2,7 +2,6 @@
 use Rattle.std.proofs.Common.{◌≡◌, ◌∙◌, ℕ, Bool, true, false, List, [], ◌∷◌, Option, None, Some, Result, Ok, Err, ◌++◌, ap, ap₂, codes, cond, map, refl, subst, sym}
 use Rattle.std.specs.Prelude.{◌||◌, IfOk}
 use Rattle.std.specs.Str.{IsUtf8}
-use Rattle.csv.specs.Records.{fields_of}
 use Rattle.toml.specs.Data.{Data, table}
 use Rattle.toml.specs.Parse.{parse_document}
 use Rattle.a429_equipment.specs.TableRecord.{TableRecord}
@@ -14,21 +13,17 @@ use Rattle.a429_table.specs.Faults.{faults, first}
 use Rattle.a429_table.specs.Reading.{GivesUnlessMemory, document, judged, reading}
 use Rattle.a429_table.specs.Stated.{stated}
 use Rattle.a429_table.proofs.Documents.{document-text}
-use Rattle.a429_import.specs.declared.fault.CsvFaultKind.{CsvFaultKind}
-use Rattle.a429_import.specs.declared.fault.CsvFaultKind.TheVariants.{Form}
-use Rattle.a429_import.specs.declared.fault.ImportColumn.{ImportColumn}
+use Rattle.a429_import.specs.declared.fault.CsvFaultKind.TheVariants.{Column, Form}
+use Rattle.a429_import.specs.declared.fault.ImportColumn.TheVariants.{Group}
 use Rattle.a429_import.specs.declared.fault.ImportFault.{ImportFault}
 use Rattle.a429_import.specs.declared.fault.ImportFault.TheVariants.{NoMemory, Csv, Table}
-use Rattle.a429_import.specs.declared.filled_reading.SheetRead.{SheetRead}
 use Rattle.a429_import.specs.declared.firsts.Part.{Part}
 use Rattle.a429_import.specs.declared.firsts.Part.TheVariants.{Receivers, Sources, Groups}
 use Rattle.a429_import.specs.declared.import.Imported.{Imported}
 use Rattle.a429_import.specs.declared.import.ImportOptions.{ImportOptions}
 use Rattle.a429_import.specs.declared.lines.CsvLine.{CsvLine}
-use Rattle.a429_import.specs.declared.reading.LinesRead.{LinesRead}
 use Rattle.a429_import.specs.declared.rows.ImportRow.{ImportRow}
 use Rattle.a429_import.specs.ImportAbove.{has_data_above}
-use Rattle.a429_import.specs.FilledReading.{IsReadFilled, IsReadIf}
 use Rattle.a429_import.specs.ImportFaults.{of_table}
 use Rattle.a429_import.specs.ImportForms.{from_heading, separator_in}
 use Rattle.a429_import.specs.ImportQuotes.{has_wrong_quotes}
@@ -37,13 +32,9 @@ use Rattle.a429_import.specs.ImportTables.{part_tree, record_stated, root_member
 use Rattle.a429_import.specs.KeptFields.{kept_comments, kept_of}
 use Rattle.a429_import.specs.PrintedTables.{PrintsTables}
 use Rattle.a429_import.specs.TableTexts.{IsTableText, before_at, column_comments, made_comment, piece_of, pieces, row_before}
-use Rattle.a429_import.specs.Imports.{AreNamedLines, IsFilledImport, IsImport, IsImportBy, IsImportFrom, IsImportIf, IsImportOf, IsTableBy, IsTableOf, IsTextFault, has_row_above, rows_by, is_misquoted_text, separated, text_fault_line}
-use Rattle.a429_import.specs.ImportReading.{HaveFault, StandsFor}
+use Rattle.a429_import.specs.Imports.{AreLines, IsFilledImport, IsImport, IsImportBy, IsImportFrom, IsImportIf, IsSheetImport, IsTableBy, IsTableOf, IsTextFault, States, has_row_above, rows_by, is_misquoted_text, separated, text_fault_line}
 use Rattle.a429_import.specs.NumberRanges.{HaveRanges}
-use Rattle.a429_import.specs.RenamedReading.{IsReadBy}
 use Rattle.a429_import.proofs.ImportRecords.{tree_states}
-use Rattle.a429_import.proofs.FilledLines.{filled_of}
-use Rattle.a429_import.proofs.RenamedReading.{keyed_of, lines_of}
 
 -- bytes whose document is a root table are read as that is judged
 reading_is : (bytes : List ℕ) (root : Data) → document bytes ≡ Some root → reading bytes ≡ judged root (faults root)
@@ -147,46 +138,31 @@ import_from makes_names lines rows (Ok made) notes are count has h = table_impor
 import_from makes_names lines rows (Err e) notes are count has h = table_fault makes_names lines rows e are h
 
 -- the fault of lines
-pub fault_import : (makes_names : Bool) (lines : List CsvLine) (e : ImportFault) → HaveFault e lines → IsImportFrom makes_names lines (Err e)
-fault_import makes_names [] e h = absurd h
-fault_import false (heading ∷ below) NoMemory h = tt
-fault_import false (heading ∷ below) (Csv line kind column) h = h
-fault_import false (heading ∷ below) (Table f) h = absurd h
-fault_import true (heading ∷ below) NoMemory h = tt
-fault_import true (heading ∷ below) (Csv line kind column) h = h
-fault_import true (heading ∷ below) (Table f) h = absurd h
+pub fault_import : (makes_names : Bool) (lines : List CsvLine) (e : ImportFault) → States {X = List ImportRow} (λ rows. rows) (Err e) (rows_stated lines) → IsImportFrom makes_names lines (Err e)
+fault_import false lines NoMemory h = tt
+fault_import false lines (Csv line kind column) h = h
+fault_import false lines (Table f) h = absurd h
+fault_import true lines NoMemory h = tt
+fault_import true lines (Csv line kind column) h = h
+fault_import true lines (Table f) h = absurd h
 
 -- lines without a heading
-pub no_import : (makes_names : Bool) (lines : List CsvLine) (line : ℕ) (kind : CsvFaultKind) (column : Option ImportColumn) → IsImportOf lines (Err (Csv line kind column)) → IsImportFrom makes_names lines (Err (Csv line kind column))
-no_import false lines line kind column h = h
-no_import true lines line kind column h = h
+none_from : (makes_names : Bool) → IsImportFrom makes_names [] (Err (Csv 1 Column (Some Group)))
+unfolding rows_stated
+none_from false = refl
+none_from true = refl
 
--- lines with keys of sources
-pub import_by : (makes_names : Bool) (read : LinesRead) (lines : List CsvLine) (result : Result Imported ImportFault) → IsReadBy makes_names read lines
-    → ((all : List CsvLine) → StandsFor read all → IsImportFrom makes_names all result) → IsImportBy makes_names lines result
-import_by false read lines result known is = is lines known
-import_by true read lines result known is = let keyed = keyed_of read.heading read lines known in (keyed.0, keyed.1, is keyed.0 keyed.2)
-
--- lines whose empty fields are filled
-pub import_filled : (options : ImportOptions) (read : SheetRead) (lines : List CsvLine) (result : Result Imported ImportFault) → IsReadFilled options read lines
-    → ((all : List CsvLine) → StandsFor read.lines all → IsImportFrom options.makes_names all result) → IsFilledImport options.fills options.makes_names lines result
-import_filled options read lines result known is = by options.fills known
+pub none_imported : (maps : List (List ℕ)) (options : ImportOptions) (lines : List CsvLine) (e : ImportFault) → lines ≡ [] → e ≡ Csv 1 Column (Some Group) → IsSheetImport maps options lines (Err e)
+none_imported maps options lines e none is =
+    subst (λ (ls : List CsvLine). IsSheetImport maps options ls (Err e)) (sym none) (subst (λ (x : ImportFault). IsSheetImport maps options [] (Err x)) (sym is) (false, [], (refl, refl), by options.fills))
   where
-    by : (fills : Bool) → IsReadIf fills read.filler options.makes_names read.lines lines → IsFilledImport fills options.makes_names lines result
-    by false known = import_by options.makes_names read.lines lines result known is
-    by true known =
-        let filled = filled_of read.filler.heading (fields_of read.filler.above) options.makes_names read.lines lines known in
-        (filled.0, filled.1, import_by options.makes_names read.lines filled.0 result filled.2 is)
+    keyed : (makes_names : Bool) → IsImportBy makes_names [] (Err (Csv 1 Column (Some Group)))
+    keyed false = none_from false
+    keyed true = ([], refl, none_from true)
 
--- what lines are read as
-pub filled_lines_of : (options : ImportOptions) (read : SheetRead) (lines : List CsvLine) → IsReadFilled options read lines → (all : List CsvLine) × StandsFor read.lines all
-filled_lines_of options read lines known = by options.fills known
-  where
-    by : (fills : Bool) → IsReadIf fills read.filler options.makes_names read.lines lines → (all : List CsvLine) × StandsFor read.lines all
-    by false known = lines_of options.makes_names read.lines lines known
-    by true known =
-        let filled = filled_of read.filler.heading (fields_of read.filler.above) options.makes_names read.lines lines known in
-        lines_of options.makes_names read.lines filled.0 filled.2
+    by : (fills : Bool) → IsFilledImport fills options.makes_names [] (Err (Csv 1 Column (Some Group)))
+    by false = keyed options.makes_names
+    by true = ([], refl, keyed options.makes_names)
 
 -- ---- of a text
 
@@ -203,10 +179,10 @@ module _ (maps : List (List ℕ)) (options : ImportOptions) (text : List ℕ) wh
   abbrev is_unfit : Bool
   is_unfit = is_misquoted_text maps text || has_row_above maps text
 
-  of_rows : (lines : List CsvLine) (result : Result Imported ImportFault) → is_unfit ≡ false → AreNamedLines maps text lines → IsFilledImport options.fills options.makes_names lines result → IsImportIf is_unfit maps options text result
-  of_rows lines result fit are h = subst (λ (b : Bool). IsImportIf b maps options text result) (sym fit) (lines, are, h)
+  of_rows : (lines : List CsvLine) (result : Result Imported ImportFault) → is_unfit ≡ false → AreLines maps text lines → IsSheetImport maps options lines result → IsImportIf is_unfit maps options text result
+  of_rows lines result fit are (is_below, named, by, h) = subst (λ (b : Bool). IsImportIf b maps options text result) (sym fit) (named, (lines, is_below, are, by), h)
 
-  pub import_of : (lines : List CsvLine) (result : Result Imported ImportFault) → IsTextFault maps text None → AreNamedLines maps text lines → IsFilledImport options.fills options.makes_names lines result → IsImport maps options text result
+  pub import_of : (lines : List CsvLine) (result : Result Imported ImportFault) → IsTextFault maps text None → AreLines maps text lines → IsSheetImport maps options lines result → IsImport maps options text result
   import_of lines (Ok bytes) fit are h = of_rows lines (Ok bytes) fit are h
   import_of lines (Err NoMemory) fit are h = tt
   import_of lines (Err (Csv line kind column)) fit are h = of_rows lines (Err (Csv line kind column)) fit are h

@@ -6,9 +6,12 @@ use Rattle.std.specs.List.{AllZip, list_any, position_from}
 use Rattle.std.specs.Option.{option_or}
 use Rattle.std.specs.Str.{bytes_eq}
 use Rattle.std.proofs.lemmas.Iterator.Adapters.{position_from-zero}
-use Rattle.indexmap.specs.IndexMap.{keys}
+use Rattle.indexmap.proofs.CallerLemmas.{insert_entry-new}
+use Rattle.indexmap.specs.IndexMap.{get, get_by_text, insert_entry, keys}
 use Rattle.std.proofs.lemmas.List.{append-nil, length-map, map-append}
-use Rattle.std.proofs.lemmas.Option.{get_or_from_slice_get, same_Some, slice_get-map, slice_get_within}
+use Rattle.std.proofs.lemmas.Map.Text.{hash_map_text_same}
+use Rattle.std.specs.String.{string_eq}
+use Rattle.std.proofs.lemmas.Option.{same_Some, slice_get-map, slice_get_within}
 use Rattle.std.proofs.lemmas.Slice.Eq.{bytes_eq-Decides}
 use Rattle.std.proofs.Math.ListN.{get_or-append}
 use Rattle.std.proofs.Math.Seq.{get_or-append_seam}
@@ -237,23 +240,39 @@ place_among name n (k ∷ ks) = ap (cond (bytes_eq name (string_bytes k)) (Some 
 pub place_found : (named : NamedRows) (name : List ℕ) → position (λ k. bytes_eq name (string_bytes k)) (keys named.firsts) ≡ place_of named name
 place_found named name = position_from-zero (λ k. bytes_eq name (string_bytes k)) (keys named.firsts) ∙ place_among name 0 (keys named.firsts)
 
-pub known_again : (named : NamedRows) (name : List ℕ) (number : ℕ) → is_some (place_of named name) ≡ true → KnowsMore named named name number
-known_again named name number some = by (place_of named name) refl some
-  where
-    by : (o : Option ℕ) → place_of named name ≡ o → is_some o ≡ true → KnowsMore named named name number
-    by None is some = cc some
-    by (Some place) is some = λ part rows row own same known.
-        let at : place_of named (name_in part row) ≡ Some place = ap (place_of named) (sym own) ∙ is in
-        known_kept part named rows row _ known (known_at part named rows (name_in part row) place known at).number
+no_place : (o : Option ℕ) → is_some o ≡ false → o ≡ None
+no_place None none = refl
+no_place (Some place) none = cc none
 
-pub known_more : (old new : NamedRows) (key : String Global) (name : List ℕ) (number : ℕ) → place_of old name ≡ None → string_bytes key ≡ name → new.firsts.entries ≡ old.firsts.entries ++ (key, number) ∷ [] → KnowsMore old new name number
-known_more old new key name number nowhere is more = λ part rows row own same known.
+some_place_of : (o : Option ℕ) → is_some o ≡ true → (place : ℕ) × (o ≡ Some place)
+some_place_of None some = cc some
+some_place_of (Some place) some = (place, refl)
+
+pub known_again : (named : NamedRows) (name : List ℕ) (number : ℕ) → is_some (place_of named name) ≡ true → KnowsMore named named name number
+known_again named name number some = λ part rows row own same known.
+    let (place, there) = some_place_of (place_of named name) some in
+    let at : place_of named (name_in part row) ≡ Some place = ap (place_of named) (sym own) ∙ there in
+    known_kept part named rows row _ known (known_at part named rows (name_in part row) place known at).number
+
+pub known_more : (old new : NamedRows) (key : String Global) (name : List ℕ) (number : ℕ) → is_some (place_of old name) ≡ false → is_some (get_by_text old.firsts name) ≡ false → string_bytes key ≡ name
+    → new.firsts.entries ≡ insert_entry string_eq old.firsts.entries key number → KnowsMore old new name number
+known_more old new key name number none absent is inserted = λ part rows row own same known.
+    let nowhere = no_place (place_of old name) none in
     let at : place_of old (name_in part row) ≡ None = ap (place_of old) (sym own) ∙ nowhere in
+    let free : get string_eq old.firsts key ≡ None = (hash_map_text_same key name old.firsts.entries (sym is)).0 ∙ no_place (get_by_text old.firsts name) absent in
+    let more : new.firsts.entries ≡ old.firsts.entries ++ (key, number) ∷ [] = inserted ∙ insert_entry-new string_eq old.firsts key number free in
     let names : names_of new ≡ names_of old ++ string_bytes key ∷ [] =
     ap (λ es. map string_bytes (map (λ e. e.0) es)) more ∙ ap (map string_bytes) (map-append (λ e. e.0) old.firsts.entries ((key, number) ∷ [])) ∙ map-append string_bytes (keys old.firsts) (key ∷ []) in
     let numbers : numbers_of new ≡ numbers_of old ++ number ∷ [] = ap (map (λ e. e.1)) more ∙ map-append (λ e. e.1) old.firsts.entries ((key, number) ∷ []) in
     known_added part old new rows row known (names ∙ ap (λ n. names_of old ++ n ∷ []) (is ∙ own)) (numbers ∙ ap (λ (n : ℕ). numbers_of old ++ n ∷ []) same)
     (unknown part old rows (name_in part row) known at) at
+
+pub place_within : (named : NamedRows) (name : List ℕ) (place : ℕ) → place_of named name ≡ Some place → place < length (names_of named)
+place_within named name place found =
+    let f = found_here (bytes_eq name) 0 (names_of named) place found in
+    let few = slice_get_within (names_of named) f.at f.element f.there in
+    let at = f.counted in
+    omega (arith, few, at)
 
 -- ---- all parts
 

@@ -1,15 +1,15 @@
 -- The outputs of groups, with one more row.
-use Rattle.std.proofs.Common.{◌≡◌, ◌∙◌, ℕ, zero, suc, ◌+◌, Bool, true, false, cond, List, [], ◌∷◌, ◌++◌, map, get_or, set, Option, None, Some, ap, ap₂, arith, inl, inr, refl, sym}
+use Rattle.std.proofs.Common.{◌≡◌, ◌∙◌, ℕ, zero, suc, ◌+◌, ◌<◌, length, take, Bool, true, false, cond, List, [], ◌∷◌, ◌++◌, map, get_or, set, Option, None, Some, ap, ap₂, arith, inl, inr, refl, sym}
 use Rattle.std.specs.Prelude.{min, nat_lt, slice_get}
 use Rattle.std.specs.List.{count_by, position_from}
 use Rattle.std.specs.Option.{option_map}
 use Rattle.std.specs.Str.{bytes_eq}
 use Rattle.std.proofs.lemmas.Bool.{cases_lt, le-leb, lt-ltb}
-use Rattle.std.proofs.lemmas.List.{map-append}
+use Rattle.std.proofs.lemmas.List.{length-map, map-append}
 use Rattle.std.proofs.lemmas.List.Sums.{sum_by-cons, sum_by_push}
-use Rattle.std.proofs.lemmas.Option.{none-some, same_Some, slice_get-map}
+use Rattle.std.proofs.lemmas.Option.{none-some, same_Some, slice_get-map, slice_get_within}
 use Rattle.std.proofs.lemmas.Slice.Eq.{bytes_eq-Decides}
-use Rattle.a429_word.proofs.Lists.{false_unless}
+use Rattle.a429_word.proofs.Lists.{false_unless, take_next}
 use Rattle.a429_import.specs.declared.firsts.Part.TheVariants.{Groups}
 use Rattle.a429_import.specs.declared.named_rows.NamedRows.{NamedRows}
 use Rattle.a429_import.specs.declared.rows.ImportRow.{ImportRow}
@@ -20,6 +20,9 @@ use Rattle.a429_import.proofs.Knowing.{firsts_new, firsts_old, known_at, unknown
 
 count_push : (p : ImportRow → Bool) (rows : List ImportRow) (row : ImportRow) → count_by p (rows ++ row ∷ []) ≡ count_by p rows + cond (p row) 1 0
 count_push p rows row = sum_by_push (λ r. cond (p r) 1 0) rows row
+
+pub count_more : (p : ImportRow → Bool) (rows : List ImportRow) (i : ℕ) (row : ImportRow) → slice_get rows i ≡ Some row → count_by p (take (i + 1) rows) ≡ count_by p (take i rows) + cond (p row) 1 0
+count_more p rows i row there = ap (count_by p) (take_next rows i row there) ∙ count_push p (take i rows) row
 
 capped : (c : ℕ) → min 129 (c + 1) ≡ one_output (min 129 c)
 capped c = elim (cases_lt c 129) [
@@ -108,3 +111,12 @@ outputs_more named rows row outputs None known are nowhere =
     outputs_own rows row row ((bytes_eq-Decides row.texts.group row.texts.group).1 refl) ∙ ap (λ (n : ℕ). one_output (min 129 n)) zero_before in
     ap₂ (λ (xs : List ℕ) (n : ℕ). xs ++ n ∷ []) (are ∙ map_same (outputs_of rows) (outputs_of all) fs others) (sym own) ∙ sym (map-append (outputs_of all) fs (row ∷ []))
     ∙ ap (map (outputs_of all)) (sym (firsts_new Groups rows row none))
+
+-- a group that is known has its number of outputs
+pub group_within : (named : NamedRows) (rows : List ImportRow) (name : List ℕ) (place : ℕ) (outputs : List ℕ) → KnowsFirsts Groups named rows → outputs ≡ map (outputs_of rows) (firsts Groups rows)
+    → place_of named name ≡ Some place → place < length outputs
+group_within named rows name place outputs known are found =
+    let k = known_at Groups named rows name place known found in
+    let few = slice_get_within (firsts Groups rows) place k.row k.first in
+    let many : length outputs ≡ length (firsts Groups rows) = ap length are ∙ length-map (firsts Groups rows) (outputs_of rows) in
+    omega (arith, few, many)

@@ -31,7 +31,7 @@ pub mod KeyedLines
 pub mod FilledLines
 pub mod ChosenNames
 mod NamesApart
-pub mod RenamedReading
+pub mod SheetReading
 pub mod PrintedTables
 mod KeptFields
 mod SkippedTexts

@@ -7,7 +7,6 @@ use Rattle.csv.specs.Records.{fields_of}
 use Rattle.csv.specs.declared.parser.State.TheVariants as st
 use Rattle.csv.specs.declared.reader.Reader.{Reader}
 use Rattle.csv.specs.declared.reader.Trim.TheVariants as trim
-use Rattle.a429_import.specs.declared.columns.Heading.{Heading}
 use Rattle.a429_import.specs.declared.fault.CsvFaultKind.TheVariants.{Column, TooMany}
 use Rattle.a429_import.specs.declared.fault.ImportColumn.{ImportColumn}
 use Rattle.a429_import.specs.declared.fault.ImportFault.{ImportFault}
@@ -19,7 +18,6 @@ use Rattle.a429_import.specs.declared.notes.Notes.{Notes}
 use Rattle.a429_import.specs.declared.reading.LinesRead.{LinesRead}
 use Rattle.a429_import.specs.declared.rows.ImportRow.{ImportRow}
 use Rattle.a429_import.specs.ImportClashes.{Agree}
-use Rattle.a429_import.specs.ImportMaps.{AreNamedBy}
 use Rattle.a429_import.specs.ImportRows.{CsvFault, has_label, rows_after, rows_stated, without_notes, wrong_column}
 use Rattle.a429_import.specs.Imports.{States, separated}
 use Rattle.a429_import.specs.ImportSteps.{state_of}
@@ -58,11 +56,6 @@ IsReadRow P (Err e) = ⊥
 -- the fault of a heading that lacks a column or has it twice
 abbrev pub heading_fault : CsvLine → Option ImportFault
 heading_fault heading = option_map {T = ImportColumn} {U = ImportFault} (λ column. Csv heading.number Column (Some column)) (wrong_column (fields_of heading.fields))
-
--- these lines, of which there is at least one, have this fault
-abbrev pub HaveFault : ImportFault → List CsvLine → Type 0
-HaveFault fault [] = ⊥
-HaveFault fault (heading ∷ below) = States {X = List ImportRow} (λ rows. rows) (Err fault) (rows_stated (heading ∷ below))
 
 -- one more row is taken: what is known is then that of these rows; or they have one too many of what this column names
 abbrev pub IsAdded : Option ImportColumn → Known → (ℕ → Result (List ImportRow) CsvFault) → Type 0
@@ -115,24 +108,17 @@ pub record SayRows (heading : CsvLine) (below : List CsvLine) (read : LinesRead)
   pub are : AreBelow (fields_of heading.fields) below read.known read.notes
   pub kept : KeepsTexts read.kept (fields_of heading.fields) below
 
--- nothing was read yet, or a heading and the lines below it
-abbrev pub HaveRows : Option Heading → LinesRead → List CsvLine → Type 0
-HaveRows None read lines = (lines ≡ []) × Knows read.known × (read.known.rows.items ≡ []) × HasNoRow read.notes × ((heading : List (List ℕ)) → KeepsTexts read.kept heading [])
-HaveRows (Some heading) read lines = (below : List CsvLine) × (lines ≡ heading.line ∷ below) × SayRows heading.line below read
+-- no line was read
+pub record KnowsNothing (read : LinesRead) : Type 0 where
+  pub knows : Knows read.known
+  pub rows : read.known.rows.items ≡ []
+  pub notes : HasNoRow read.notes
+  pub kept : (heading : List (List ℕ)) → KeepsTexts read.kept heading []
 
-abbrev pub AreRead : Option ImportFault → LinesRead → List CsvLine → Type 0
-AreRead None read lines = HaveRows read.heading read lines
-AreRead (Some fault) read lines = HaveFault fault lines
+-- a heading and the lines below it have this fault, or what is known is right for them
+abbrev pub AreRead : Option ImportFault → LinesRead → CsvLine → List CsvLine → Type 0
+AreRead None read heading below = SayRows heading below read
+AreRead (Some fault) read heading below = States {X = List ImportRow} (λ rows. rows) (Err fault) (rows_stated (heading ∷ below))
 
--- what is known is right for these lines
-abbrev pub StandsFor : LinesRead → List CsvLine → Type 0
-StandsFor read lines = AreRead read.fault read lines
-
--- the heading is the first of these lines, if there is one
-abbrev pub IsHeadingOf : Option Heading → List CsvLine → Type 0
-IsHeadingOf None lines = lines ≡ []
-IsHeadingOf (Some heading) lines = (below : List CsvLine) × (lines ≡ heading.line ∷ below)
-
--- this is so of these lines with the names of the heading by texts HEADING=COLUMN; the flag says whether there is a heading
-abbrev pub IsOfNamed : List (List ℕ) → Bool → (List CsvLine → Type 0) → List CsvLine → Type 0
-IsOfNamed maps is_below P lines = (named : List CsvLine) × AreNamedBy maps is_below lines named × P named
+abbrev pub StandsFor : CsvLine → LinesRead → List CsvLine → Type 0
+StandsFor heading read below = AreRead read.fault read heading below

@@ -123,6 +123,10 @@ abbrev pub IsFilledImport : Bool → Bool → List CsvLine → Result Imported I
 IsFilledImport false makes_names lines result = IsImportBy makes_names lines result
 IsFilledImport true makes_names lines result = (filled : List CsvLine) × AreFilledBelow lines filled × IsImportBy makes_names filled result
 
+-- the same of lines whose heading gets its names by texts HEADING=COLUMN
+abbrev pub IsSheetImport : List (List ℕ) → ImportOptions → List CsvLine → Result Imported ImportFault → Type 0
+IsSheetImport maps options lines result = (is_below : Bool) × (named : List CsvLine) × AreNamedBy maps is_below lines named × IsFilledImport options.fills options.makes_names named result
+
 -- the line of the fault that comes before those of rows
 abbrev pub text_fault_line : List (List ℕ) → List ℕ → Option ℕ
 text_fault_line maps text = fault_line (separated (separator_in maps text)) maps (from_heading maps text) text

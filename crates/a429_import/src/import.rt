@@ -1,34 +1,32 @@
 //! An equipment table from rows of comma-separated values.
-ghost use Rattle.std.specs.Prelude.{◌≡◌, ◌||◌, [], IfOk, is_some, List, None, Some};
+ghost use Rattle.std.specs.Prelude.{◌≡◌, [], ◌∷◌, IfOk, List, None, Some};
 ghost use Rattle.a429_import.specs.declared.lines.CsvLine.{CsvLine};
-ghost use Rattle.a429_import.specs.ImportAbove.{has_data_above};
 ghost use Rattle.a429_import.specs.FaultLines.{fault_line};
-ghost use Rattle.a429_import.specs.FilledReading.{IsReadFilled};
 ghost use Rattle.a429_import.specs.ImportForms.{from_heading, separator_in};
 ghost use Rattle.a429_import.specs.ImportMaps.{given_texts};
-ghost use Rattle.a429_import.specs.ImportQuotes.{has_wrong_quotes};
-ghost use Rattle.a429_import.specs.ImportReading.{HaveRows, StandsFor};
-ghost use Rattle.a429_import.specs.Imports.{IsImport, IsImportFrom, IsTableBy, IsTableOf, IsTextFault, separated};
+ghost use Rattle.a429_import.specs.ImportReading.{StandsFor};
+ghost use Rattle.a429_import.specs.Imports.{IsImport, IsImportFrom, IsSheetImport, IsTableBy, IsTableOf, IsTextFault, separated};
 ghost use Rattle.a429_import.specs.KeptFields.{lines_kept};
 ghost use Rattle.a429_import.specs.Known.{Knows};
 ghost use Rattle.a429_import.specs.LineCounts.{IsEnd};
 ghost use Rattle.a429_import.specs.NumberRanges.{HaveRanges};
 ghost use Rattle.a429_import.specs.Renamed.{all_renamed};
+ghost use Rattle.a429_import.specs.SheetReading.{ReadsSheet};
 ghost use Rattle.a429_import.specs.TableTexts.{AreSound, rows_before};
 
 use crate::above::line_above;
+use crate::columns::Heading;
 use crate::comments::Comments;
 use crate::fault::{CsvFaultKind, ImportColumn, ImportFault, csv_fault};
-use crate::filled_reading::SheetRead;
 use crate::forms::{Form, form_of};
 use crate::kept::KeptTexts;
 use crate::known::Known;
 use crate::quotes::misquoted_line_of;
 use crate::reading::LinesRead;
-use crate::refused::{RefusedRows, misquoted_rows, titled_rows};
+use crate::refused::{RefusedRows, misquoted_rows};
 use crate::renamed::{all_names, all_renamed};
 use crate::tables::table_text;
-use crate::text_reading::read_lines;
+use crate::sheet_reading::{BelowRead, SheetRead, read_lines};
 use crate::watch::Watch;
 use a429_equipment::Equipment;
 use a429_table::read_equipment;
@@ -122,35 +120,39 @@ fn table_by(
     }
 }
 
-/// The table that lines without a fault describe.
-fn table_below_heading(
+/// The table that lines below a heading describe.
+fn table_below(
     alloc: Global,
     makes_names: bool,
-    read: &LinesRead,
-) -> Result<Imported, ImportFault>
-    requires { (lines : List CsvLine) × HaveRows read.now.heading read.now lines }
-    ensures { (lines : List CsvLine) → HaveRows read.now.heading read.now lines → IsImportFrom makes_names lines result }
-{
-    match &read.heading {
-        None => Err(csv_fault(1, CsvFaultKind::Column, Some(ImportColumn::Group))),
-        Some(_heading) => {
-            table_by(alloc, makes_names, &read.known, &read.kept, read.notes.len())
-        }
-    }
-}
-
-/// The table that lines describe.
-fn table_of_lines(
-    alloc: Global,
-    makes_names: bool,
+    heading: &Heading,
     read: &mut LinesRead,
 ) -> Result<Imported, ImportFault>
-    requires { (lines : List CsvLine) × StandsFor read.old lines }
-    ensures { (lines : List CsvLine) → StandsFor read.old lines → IsImportFrom makes_names lines result }
+    requires { (below : List CsvLine) × StandsFor heading.now.line read.old below }
+    ensures { (below : List CsvLine) → StandsFor heading.now.line read.old below
+        → IsImportFrom makes_names (heading.now.line ∷ below) result }
 {
     match read.fault.take() {
         Some(fault) => Err(fault),
-        None => table_below_heading(alloc, makes_names, read),
+        None => table_by(alloc, makes_names, &read.known, &read.kept, read.notes.len()),
+    }
+}
+
+/// The table that the lines of a sheet describe.
+fn table_of_sheet(
+    alloc: Global,
+    maps: &[&str],
+    options: ImportOptions,
+    read: &mut SheetRead,
+) -> Result<Imported, ImportFault>
+    requires { (lines : List CsvLine) × ReadsSheet options (given_texts maps.now) read.old lines }
+    ensures { (lines : List CsvLine) → ReadsSheet options (given_texts maps.now) read.old lines
+        → IsSheetImport (given_texts maps.now) options lines result }
+{
+    match &read.heading {
+        None => Err(csv_fault(1, CsvFaultKind::Column, Some(ImportColumn::Group))),
+        Some(heading) => {
+            table_below(alloc, options.makes_names, heading, &mut read.below.lines)
+        }
     }
 }
 
@@ -166,22 +168,18 @@ fn read_table<W: Watch>(
 ) -> Result<Imported, ImportFault>
     requires separator { form.separator ≡ separator_in (given_texts maps.now) text.now }
     requires text { form.text.now ≡ from_heading (given_texts maps.now) text.now }
-    requires read { IsReadFilled options read.old [] }
+    requires read { ReadsSheet options (given_texts maps.now) read.old [] }
     ensures { IsTextFault (given_texts maps.now) text.now None → IsImport (given_texts maps.now) options text.now result }
 {
     read_lines(alloc, maps, options, text, form, watch, read)?;
     watch.show_done(text.len(), text.len());
-    table_of_lines(alloc, options.makes_names, &mut read.lines)
+    table_of_sheet(alloc, maps, options, read)
 }
 
 /// Keeps what a hint needs of a refused sheet.
 fn keep_refused(refused: &mut Option<RefusedRows>, read: SheetRead) {
-    let SheetRead {
-        lines,
-        refused: rows,
-        ..
-    } = read;
-    let LinesRead { heading, .. } = lines;
+    let SheetRead { heading, below } = read;
+    let BelowRead { refused: rows, .. } = below;
     *refused = Some(rows.ended(heading));
 }
 
@@ -216,24 +214,15 @@ fn unfit_line(
     refused: &mut Option<RefusedRows>,
 ) -> Result<Option<u64>, AllocError>
     requires { IsEnd text.now form.text.now }
-    ensures line { IfOk result (λ line. line
+    ensures { IfOk result (λ line. line
         ≡ fault_line (separated form.entry.separator) (given_texts maps.now) form.entry.text.now text.now) }
-    ensures wrong { IfOk result (λ line. is_some line ≡ (has_wrong_quotes (separated form.entry.separator) form.entry.text.now text.now
-        || has_data_above (separated form.entry.separator) (given_texts maps.now) form.entry.text.now text.now)) }
 {
     match misquoted_line_of(text, form) {
         Some(line) => {
             *refused = Some(misquoted_rows(alloc));
             Ok(Some(line))
         }
-        None => {
-            let above = line_above(alloc, maps, text, form)?;
-            if above.is_some() {
-                let rows = titled_rows(alloc, text, form)?;
-                *refused = Some(rows);
-            }
-            Ok(above)
-        }
+        None => line_above(alloc, maps, text, form, refused),
     }
 }
 

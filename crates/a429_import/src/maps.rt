@@ -210,20 +210,3 @@ pub fn named_by(alloc: Global, maps: &[&str], heading: CsvLine) -> Result<CsvLin
         fields: names_of(alloc, maps, &heading)?,
     })
 }
-
-/// A line with its names, if it is the heading; another line as it is. Error: an allocation failed.
-pub fn named_line(
-    alloc: Global,
-    maps: &[&str],
-    is_below: bool,
-    line: CsvLine,
-) -> Result<CsvLine, AllocError>
-    ensures { IfOk result (λ named. (lines before : List CsvLine) → AreNamedBy (given_texts maps.now) is_below lines before
-        → AreNamedBy (given_texts maps.now) true (lines ++ line ∷ []) (before ++ named ∷ [])) }
-{
-    if is_below {
-        Ok(line)
-    } else {
-        named_by(alloc, maps, line)
-    }
-}

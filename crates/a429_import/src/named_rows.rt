@@ -57,7 +57,7 @@ impl NamedRows {
         ensures place { IfOk result (λ place. place ≡ place_of self.old name.now) }
         ensures known { OnOk result (KnowsMore self.old self.new name.now number) }
     {
-        let place = self.find(name);
+        let place = self.firsts.get_index_of(name);
         if place.is_none() {
             self.firsts.insert(String::from_str(alloc, name)?, number)?;
         }

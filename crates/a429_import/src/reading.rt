@@ -1,10 +1,10 @@
-//! What rows say, one line after the other. No line is kept except the heading.
-ghost use Rattle.std.specs.Prelude.{◌≡◌, ◌++◌, [], ◌∷◌, IfOk, List, None, OnOk};
+//! What rows say, one line after the other. No line is kept.
+ghost use Rattle.std.specs.Prelude.{◌≡◌, ◌++◌, [], ◌∷◌, IfOk, List, OnOk};
 ghost use Rattle.std.specs.Result.{result_map_both};
 ghost use Rattle.csv.specs.Records.{fields_of};
 ghost use Rattle.a429_import.specs.declared.lines.CsvLine.{CsvLine};
 ghost use Rattle.a429_import.specs.ImportClashes.{Agree};
-ghost use Rattle.a429_import.specs.ImportReading.{AreBelow, AreRead, AreTaken, HaveRows, IsAdded, IsHeadingOf, IsTaken, StandsFor, heading_fault};
+ghost use Rattle.a429_import.specs.ImportReading.{AreBelow, AreTaken, IsAdded, IsTaken, KnowsNothing, StandsFor, heading_fault};
 ghost use Rattle.a429_import.specs.ImportRows.{next_row, with_line, with_row};
 ghost use Rattle.a429_import.specs.ImportTexts.{row_view};
 ghost use Rattle.a429_import.specs.KeptFields.{KeepsTexts};
@@ -17,15 +17,13 @@ use crate::kept::KeptTexts;
 use crate::known::Known;
 use crate::lines::CsvLine;
 use crate::notes::{Notes, has_label};
-use crate::refused::copy_of_line;
 use crate::rows::{RowFields, row_of};
 use std::alloc::{AllocError, Global};
 
-/// What is known of lines that were read.
+/// What is known of lines below a heading.
 #[derive(Drop)]
 pub struct LinesRead {
-    pub heading: Option<Heading>,
-    /// What the lines below the heading say.
+    /// What they say.
     pub known: Known,
     /// Those of them that may be notes.
     pub notes: Notes,
@@ -38,11 +36,9 @@ pub struct LinesRead {
 impl LinesRead {
     /// What is known before the first line.
     pub fn new(alloc: Global) -> LinesRead
-        ensures read { StandsFor result [] }
-        ensures heading { result.heading ≡ None }
+        ensures { KnowsNothing result }
     {
         LinesRead {
-            heading: None,
             known: Known::new(alloc),
             notes: Notes::new(alloc),
             kept: KeptTexts::new(alloc),
@@ -151,7 +147,7 @@ fn take_kept(
 }
 
 /// The fault of a heading, if it lacks a column or has it twice.
-fn heading_fault(line: &CsvLine) -> Option<ImportFault>
+pub fn heading_fault(line: &CsvLine) -> Option<ImportFault>
     ensures { result ≡ heading_fault line.now }
 {
     match wrong_column(line) {
@@ -160,50 +156,21 @@ fn heading_fault(line: &CsvLine) -> Option<ImportFault>
     }
 }
 
-/// Takes one more line, which is the heading if there is none yet. The answer is the fault that it has, if any. Error: an
-/// allocation failed for the heading.
-fn next_line(
-    alloc: Global,
-    read: &mut LinesRead,
-    line: &CsvLine,
-) -> Result<Option<ImportFault>, AllocError>
-    requires { (lines : List CsvLine) × HaveRows read.old.heading read.old lines }
-    ensures read { IfOk result (λ fault. (lines : List CsvLine) → HaveRows read.old.heading read.old lines
-        → AreRead fault read.new (lines ++ line.now ∷ [])) }
-    ensures heading { OnOk result ((lines : List CsvLine) → IsHeadingOf read.old.heading lines
-        → IsHeadingOf read.new.heading (lines ++ line.now ∷ [])) }
-{
-    match &read.heading {
-        None => {
-            let copy = copy_of_line(line)?;
-            let fault = heading_fault(&copy);
-            read.heading = Some(Heading::of(copy));
-            Ok(fault)
-        }
-        Some(heading) => {
-            let taken = take_kept(
-                alloc,
-                &mut read.known,
-                &mut read.notes,
-                &mut read.kept,
-                heading,
-                line,
-            );
-            Ok(taken.err())
-        }
-    }
-}
-
-/// Takes one more line, unless one before it has a fault. Error: an allocation failed for the heading.
-pub fn take_line(alloc: Global, read: &mut LinesRead, line: &CsvLine) -> Result<(), AllocError>
-    requires { (lines : List CsvLine) × StandsFor read.old lines }
-    ensures read { OnOk result ((lines : List CsvLine) → StandsFor read.old lines → StandsFor read.new (lines ++ line.now ∷ [])) }
-    ensures heading { OnOk result ((lines : List CsvLine) → StandsFor read.old lines → IsHeadingOf read.old.heading lines
-        → IsHeadingOf read.new.heading (lines ++ line.now ∷ [])) }
+/// Takes one more line below a heading, unless one before it has a fault.
+pub fn take_line(alloc: Global, heading: &Heading, read: &mut LinesRead, line: &CsvLine)
+    requires { (below : List CsvLine) × StandsFor heading.now.line read.old below }
+    ensures { (below : List CsvLine) → StandsFor heading.now.line read.old below
+        → StandsFor heading.now.line read.new (below ++ line.now ∷ []) }
 {
     if read.fault.is_none() {
-        let fault = next_line(alloc, read, line)?;
-        read.fault = fault;
+        let taken = take_kept(
+            alloc,
+            &mut read.known,
+            &mut read.notes,
+            &mut read.kept,
+            heading,
+            line,
+        );
+        read.fault = taken.err();
     }
-    Ok(())
 }

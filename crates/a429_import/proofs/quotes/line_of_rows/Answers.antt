@@ -17,19 +17,19 @@ line_at-requires c =
     let is = c.from_place.ensures ∙ ap (λ (xs : List ℕ). drop c.in-Some.place xs) c.without_mark-rows.ensures in
     subst (λ (xs : List ℕ). IsEnd text xs) (sym is) (end_of_end c.in-Some.place text rows (end_of text c.args.form.text.now rows c.requires (mark_end c.args.form.text.now)))
 
-pub returns-in-Some-clause-line : goal.returns-in-Some-clause-line
-returns-in-Some-clause-line c =
+pub returns-in-Some : goal.returns-in-Some
+returns-in-Some c =
     let cfg : Config = separated c.args.form.separator in
     let text : List ℕ = c.args.text.now in
     let lines : List ℕ = c.without_mark-rows.result.now in
     ap Some (c.line_at.ensures ∙ ap (λ (xs : List ℕ). line_of text (from_row xs)) c.from_place.ensures)
     ∙ sym (ap (option_map (λ (p : ℕ). line_of text (from_row (drop p lines)))) c.in-Some.is)
-    ∙ line_found true cfg text c.args.form.text.now lines c.misquoted_place.result (c.without_mark-rows.ensures ∙ sym (same_mark c.args.form.text.now)) c.misquoted_place.ensures.field
+    ∙ line_found true cfg text c.args.form.text.now lines c.misquoted_place.result (c.without_mark-rows.ensures ∙ sym (same_mark c.args.form.text.now)) c.misquoted_place.ensures
 
-pub returns-in-None-clause-line : goal.returns-in-None-clause-line
-returns-in-None-clause-line c =
+pub returns-in-None : goal.returns-in-None
+returns-in-None c =
     let cfg : Config = separated c.args.form.separator in
     let text : List ℕ = c.args.text.now in
     let lines : List ℕ = c.without_mark-rows.result.now in
     sym (ap (option_map (λ (p : ℕ). line_of text (from_row (drop p lines)))) c.in-None.is)
-    ∙ line_found true cfg text c.args.form.text.now lines c.misquoted_place.result (c.without_mark-rows.ensures ∙ sym (same_mark c.args.form.text.now)) c.misquoted_place.ensures.field
+    ∙ line_found true cfg text c.args.form.text.now lines c.misquoted_place.result (c.without_mark-rows.ensures ∙ sym (same_mark c.args.form.text.now)) c.misquoted_place.ensures
