@@ -128,12 +128,12 @@ some_number passes (row ∷ rows) (n ∷ numbers) same = is_some_cond (passes ro
 lines_count : (cfg : Config) (text : List ℕ) (n : ℕ) (s : State) (end : List ℕ) → length (lines_from cfg text (length (records_from cfg n s end)) s end) ≡ length (records_from cfg n s end)
 unfolding records_from lines_from
 lines_count cfg text zero s end = refl
-lines_count cfg text (suc n) s end = by (next_record cfg s [] [] end) refl
+lines_count cfg text (suc n) s end = by (next_record cfg s [] [] end) refl (λ p. lines_count cfg text n p.1 p.2)
   where
-    by : (o : Option Read) → next_record cfg s [] [] end ≡ o → length (lines_from cfg text (length (records_next (records_from cfg n) o)) s end) ≡ length (records_next (records_from cfg n) o)
-    by None is = refl
-    by (Some p) is =
-        ap (λ q. length (and_next (line_of text (from_row end)) (lines_from cfg text (length (records_from cfg n p.1 p.2))) q)) is ∙ ap suc (lines_count cfg text n p.1 p.2)
+    by : (o : Option Read) → next_record cfg s [] [] end ≡ o → ((p : Read) → length (lines_from cfg text (length (records_from cfg n p.1 p.2)) p.1 p.2) ≡ length (records_from cfg n p.1 p.2))
+        → length (lines_from cfg text (length (records_next (records_from cfg n) o)) s end) ≡ length (records_next (records_from cfg n) o)
+    by None is later = refl
+    by (Some p) is later = ap (λ q. length (and_next (line_of text (from_row end)) (lines_from cfg text (length (records_from cfg n p.1 p.2))) q)) is ∙ ap suc (later p)
 
 some_data : (cfg : Config) (heading : List (List ℕ)) (text : List ℕ) → is_some (data_line cfg heading text) ≡ has_data cfg heading text
 some_data cfg heading text =

@@ -1,11 +1,9 @@
 -- All records of a text are those that its reader gives.
 use Rattle.std.proofs.Common.{Bor, ◌≡◌, ◌∙◌, ◌∷◌, ◌++◌, ◌+◌, ◌-◌, ◌≤◌, [], ℕ, true, false, zero, suc, Bool, List, None, Option, Some, ap, ap₂, arith, get_or, length, map, refl, subst, sym}
-use Rattle.std.specs.Prelude.{◌||◌, ◌==◌, if◌then◌else◌}
-use Rattle.std.specs.List.{list_any}
+use Rattle.std.specs.Prelude.{◌==◌, if◌then◌else◌}
 use Rattle.std.specs.Option.{option_map_or}
 use Rattle.std.proofs.lemmas.Bool.{eqb-true}
-use Rattle.std.proofs.lemmas.List.{length-map, map-append}
-use Rattle.std.proofs.lemmas.List.Folds.{list_any-append}
+use Rattle.std.proofs.lemmas.List.{length-map}
 use Rattle.std.proofs.lemmas.Option.{none-some, same_Some}
 use Rattle.csv.specs.Machine.{Read, ends_at_end, field_after, fields_after, is_end, next_record, step}
 use Rattle.csv.specs.Reading.{AreRecords, Reached, ReadRecord, records, records_from, records_next, strip_bom}
@@ -18,7 +16,7 @@ use Rattle.csv.proofs.ReadFacts.{rows-end}
 use Rattle.a429_import.specs.declared.lines.CsvLine.{CsvLine}
 use Rattle.a429_import.specs.declared.lines.LineCount.{LineCount}
 use Rattle.a429_import.specs.FaultLines.{data_line, number_of}
-use Rattle.a429_import.specs.ImportAbove.{first_row, has_data, is_data}
+use Rattle.a429_import.specs.ImportAbove.{first_row, is_data}
 use Rattle.a429_import.specs.ImportReading.{HasRead}
 use Rattle.a429_import.specs.Imports.{separated}
 use Rattle.a429_import.specs.ImportWords.{trimmed}

@@ -1,5 +1,5 @@
 -- What is known of lines, after one more line.
-use Rattle.std.proofs.Common.{◌≡◌, ◌∙◌, ◌+◌, ◌-◌, ℕ, List, [], ◌∷◌, ◌++◌, Option, None, Some, option_map, Result, Ok, Err, true, false, ap, append-nil, arith, length, refl, subst, sym}
+use Rattle.std.proofs.Common.{◌≡◌, ◌∙◌, ◌+◌, ℕ, List, [], ◌∷◌, ◌++◌, Option, None, Some, option_map, Result, Ok, Err, Bool, true, false, ap, append-nil, arith, refl, subst, sym}
 use Rattle.std.specs.Prelude.{OnOk, filter, is_some, unwrap_or, vec_len}
 use Rattle.std.specs.Result.{result_err}
 use Rattle.csv.specs.Records.{fields_of}

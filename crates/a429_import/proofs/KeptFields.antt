@@ -1,11 +1,11 @@
 -- Columns that go along as comments: their fields, row by row, and the rows of each source.
-use Rattle.std.proofs.Common.{◌≡◌, ◌∙◌, ℕ, zero, suc, ◌<◌, ◌+◌, ◌&&◌, Bool, true, false, cond, List, [], ◌∷◌, ◌++◌, get_or, length, length-append, take, ap, ap₂, append-nil, append_assoc, arith, refl, sym, inl, inr}
+use Rattle.std.proofs.Common.{◌≡◌, ◌∙◌, ℕ, zero, suc, ◌<◌, ◌&&◌, Bool, true, false, cond, List, [], ◌∷◌, ◌++◌, get_or, length, take, ap, append-nil, append_assoc, arith, refl, sym, inl, inr}
 use Rattle.std.specs.Prelude.{Option, Some, None, is_some, option_map}
-use Rattle.std.specs.List.{find, position_from}
+use Rattle.std.specs.List.{find}
 use Rattle.std.specs.Option.{option_or}
 use Rattle.std.specs.Str.{bytes_eq}
 use Rattle.std.proofs.lemmas.Bool.{cases_Bool}
-use Rattle.std.proofs.lemmas.Option.{none-some, same_Some}
+use Rattle.std.proofs.lemmas.Option.{none-some}
 use Rattle.std.proofs.lemmas.List.Folds.{find-append}
 use Rattle.std.proofs.lemmas.Slice.Eq.{bytes_eq-Decides}
 use Rattle.csv.specs.Records.{fields_of}
@@ -13,7 +13,6 @@ use Rattle.a429_import.specs.declared.kept.KeptText.{KeptText}
 use Rattle.a429_import.specs.declared.kept.KeptTexts.{KeptTexts}
 use Rattle.a429_import.specs.declared.lines.CsvLine.{CsvLine}
 use Rattle.a429_import.specs.declared.fault.ImportColumn.TheVariants.{Source}
-use Rattle.a429_import.specs.ImportFields.{field_in}
 use Rattle.a429_import.specs.ImportRows.{column_field, has_label}
 use Rattle.a429_import.specs.ImportTables.{is_word}
 use Rattle.a429_import.specs.KeptFields.{KeepsTexts, TakesText, is_kept, kept_at, kept_heading, kept_in, kept_line, or_text}

@@ -1,5 +1,5 @@
 -- What is known of the lines of a sheet, and what is imported from them.
-use Rattle.std.proofs.Common.{◌≡◌, ◌∙◌, Bool, true, false, List, [], ◌∷◌, ◌++◌, Option, None, Some, Result, Ok, Err, ap, refl, subst, sym, ℕ}
+use Rattle.std.proofs.Common.{◌≡◌, ◌∙◌, Bool, true, false, List, [], ◌∷◌, ◌++◌, None, Some, Result, ap, refl, subst, sym, ℕ}
 use Rattle.csv.specs.Records.{fields_of}
 use Rattle.a429_import.specs.declared.columns.Heading.{Heading}
 use Rattle.a429_import.specs.declared.fault.ImportFault.{ImportFault}
@@ -8,7 +8,6 @@ use Rattle.a429_import.specs.declared.import.ImportOptions.{ImportOptions}
 use Rattle.a429_import.specs.declared.lines.CsvLine.{CsvLine}
 use Rattle.a429_import.specs.declared.reading.LinesRead.{LinesRead}
 use Rattle.a429_import.specs.declared.sheet_reading.BelowRead.{BelowRead}
-use Rattle.a429_import.specs.declared.sheet_reading.SheetRead.{SheetRead}
 use Rattle.a429_import.specs.ImportMaps.{IsNamedBy}
 use Rattle.a429_import.specs.Imports.{IsFilledImport, IsImportBy, IsImportFrom, IsSheetImport}
 use Rattle.a429_import.specs.ImportReading.{HasNoRow, KnowsNothing, StandsFor, heading_fault}

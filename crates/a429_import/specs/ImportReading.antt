@@ -1,6 +1,6 @@
 -- What is known of lines that were read: what the rows among them say, or their first fault (profile: import).
 use Rattle.std.specs.Borrow.{Bor}
-use Rattle.std.specs.Prelude.{◌≡◌, ◌+◌, ℕ, Bool, true, false, List, [], ◌∷◌, Option, None, Some, drop, length, map, option_map, Result, Ok, Err, vec_len}
+use Rattle.std.specs.Prelude.{◌≡◌, ◌+◌, ℕ, true, false, List, [], ◌∷◌, Option, None, Some, drop, length, map, option_map, Result, Ok, Err, vec_len}
 use Rattle.std.specs.List.{AllByRecursion, list_any}
 use Rattle.csv.specs.Reading.{Reached, Ready, source_of, strip_bom}
 use Rattle.csv.specs.Records.{fields_of}

@@ -63,16 +63,12 @@ fn part_clash(part: Part, earlier: &ImportRow, row: &RowFields<'_>) -> Option<Im
         Part::Sources => source_clash(earlier, row),
         Part::Receivers
             if earlier.texts.receiver.as_str() == row.texts.receiver
-                && earlier.texts.filters.as_str() != row.texts.filters =>
-        {
+                && earlier.texts.filters.as_str() != row.texts.filters => {
             Some(ImportColumn::Filters)
         }
         Part::Groups
             if earlier.texts.group.as_str() == row.texts.group
-                && earlier.numbers.rate != row.numbers.rate =>
-        {
-            Some(ImportColumn::Rate)
-        }
+                && earlier.numbers.rate != row.numbers.rate => { Some(ImportColumn::Rate) }
         _ => None,
     }
 }

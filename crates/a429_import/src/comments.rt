@@ -29,16 +29,12 @@ pub struct Comments<'a> {
 
 /// The first row of the receiver, the source or the group at a place before names are made. `None` if no names are made, or
 /// if there are fewer.
-pub fn row_before<'a>(
-    made_of: Option<&'a Known>,
-    part: Part,
-    place: usize,
-) -> Option<&'a ImportRow>
+pub fn row_before<'a>(made_of: Option<&'a Known>, part: Part, place: usize) -> Option<&'a ImportRow>
     requires { IfSome made_of (λ known. Knows known.now) }
     ensures { option_copied result ≡ before_at (rows_before made_of.entry) part place }
 {
     match made_of {
-        Some(known) if place < known.named(part).len() => Some(known.first_row(part, place)),
+        Some(known) if place < known.count(part) => Some(known.first_row(part, place)),
         _ => None,
     }
 }

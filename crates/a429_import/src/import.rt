@@ -25,8 +25,8 @@ use crate::quotes::misquoted_line_of;
 use crate::reading::LinesRead;
 use crate::refused::{RefusedRows, misquoted_rows};
 use crate::renamed::{all_names, all_renamed};
-use crate::tables::table_text;
 use crate::sheet_reading::{BelowRead, SheetRead, read_lines};
+use crate::tables::table_text;
 use crate::watch::Watch;
 use a429_equipment::Equipment;
 use a429_table::read_equipment;
@@ -133,7 +133,13 @@ fn table_below(
 {
     match read.fault.take() {
         Some(fault) => Err(fault),
-        None => table_by(alloc, makes_names, &read.known, &read.kept, read.notes.len()),
+        None => table_by(
+            alloc,
+            makes_names,
+            &read.known,
+            &read.kept,
+            read.notes.len(),
+        ),
     }
 }
 
@@ -150,9 +156,7 @@ fn table_of_sheet(
 {
     match &read.heading {
         None => Err(csv_fault(1, CsvFaultKind::Column, Some(ImportColumn::Group))),
-        Some(heading) => {
-            table_below(alloc, options.makes_names, heading, &mut read.below.lines)
-        }
+        Some(heading) => { table_below(alloc, options.makes_names, heading, &mut read.below.lines) }
     }
 }
 

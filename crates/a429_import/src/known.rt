@@ -80,6 +80,13 @@ impl Known {
         }
     }
 
+    /// The number of names of the receivers, the sources or the groups.
+    pub fn count(&self, part: Part) -> usize
+        ensures { result ≡ length (names_of (named_of part self.now)) }
+    {
+        self.named(part).len()
+    }
+
     /// The first row of the receiver, the source or the group at a place.
     pub fn first_row(&self, part: Part, place: usize) -> &ImportRow
         requires known { Knows self.now }

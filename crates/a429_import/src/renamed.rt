@@ -184,7 +184,7 @@ fn plains_of(alloc: Global, part: Part, known: &Known) -> Result<Vec<Vec<u8>>, A
     ensures { IfOk result (λ plains. texts_of plains.items ≡ plains_of part known.now.rows.items) }
 {
     let mut plains = Vec::new(alloc);
-    for place in 0..known.named(part).len() {
+    for place in 0..known.count(part) {
         plains.push(plain_of(alloc, part, known.first_row(part, place))?)?;
     }
     Ok(plains)
@@ -198,7 +198,7 @@ fn names_in(alloc: Global, part: Part, known: &Known) -> Result<Vec<Vec<u8>>, Al
 {
     let plains = plains_of(alloc, part, known)?;
     let mut names = Vec::new(alloc);
-    for place in 0..known.named(part).len() {
+    for place in 0..known.count(part) {
         let name = chosen(alloc, &plains, &names, part, known.first_row(part, place))?;
         names.push(name)?;
     }

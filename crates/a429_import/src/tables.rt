@@ -290,8 +290,15 @@ fn put_tables(
         part,
         rows: &known.rows,
     };
-    for place in 0..known.named(part).len() {
-        put_stated(alloc, shown, comments, named, place, known.first_row(part, place))?;
+    for place in 0..known.count(part) {
+        put_stated(
+            alloc,
+            shown,
+            comments,
+            named,
+            place,
+            known.first_row(part, place),
+        )?;
     }
     Ok(())
 }
@@ -314,8 +321,8 @@ fn head_table(alloc: Global, known: &Known) -> Result<Table, AllocError>
 {
     let mut table = Table::new(alloc);
     put_number(alloc, &mut table, "version", 2)?;
-    put_empty(alloc, &mut table, "source", known.named(Part::Sources).len())?;
-    put_empty(alloc, &mut table, "receiver", known.named(Part::Receivers).len())?;
+    put_empty(alloc, &mut table, "source", known.count(Part::Sources))?;
+    put_empty(alloc, &mut table, "receiver", known.count(Part::Receivers))?;
     put_empty(alloc, &mut table, "group", known.group_count())?;
     Ok(table)
 }
@@ -335,7 +342,14 @@ pub fn table_text(
     let mut shown = String::new(alloc);
     put_document(alloc, &mut shown, &head)?;
     put_tables(alloc, &mut shown, comments, known, "group", Part::Groups)?;
-    put_tables(alloc, &mut shown, comments, known, "receiver", Part::Receivers)?;
+    put_tables(
+        alloc,
+        &mut shown,
+        comments,
+        known,
+        "receiver",
+        Part::Receivers,
+    )?;
     put_tables(alloc, &mut shown, comments, known, "source", Part::Sources)?;
     Ok(shown)
 }

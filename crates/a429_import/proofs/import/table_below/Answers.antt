@@ -1,4 +1,4 @@
-use Rattle.std.proofs.Common.{◌≡◌, ◌∙◌, ◌∷◌, None, Some, subst, sym}
+use Rattle.std.proofs.Common.{◌∙◌, ◌∷◌, subst, sym}
 use Rattle.a429_import.specs.ImportReading.{AreRead, SayRows}
 use Rattle.a429_import.specs.KeptFields.{kept_of, lines_kept}
 use Rattle.a429_import.proofs.ImportRanges.{stated_in_range}
@@ -10,7 +10,7 @@ pub table_by-requires : goal.table_by-requires
 table_by-requires c =
     let read = c.args.read.now in
     let there : SayRows c.args.heading.now.line c.requires.0 read = subst (λ f. AreRead f read c.args.heading.now.line c.requires.0) (sym c.take.ensures.value ∙ c.in-None.is) c.requires.1 in
-    there.are.knows
+    record { known = there.are.knows }
 
 pub returns-in-Some : goal.returns-in-Some
 returns-in-Some c = λ below known.

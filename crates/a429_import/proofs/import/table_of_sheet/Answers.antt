@@ -1,4 +1,4 @@
-use Rattle.std.proofs.Common.{Some, None, subst}
+use Rattle.std.proofs.Common.{subst}
 use Rattle.a429_import.specs.ImportMaps.{given_texts}
 use Rattle.a429_import.specs.SheetReading.{ReadsHeaded}
 use Rattle.a429_import.proofs.Imports.{none_imported}

@@ -1,9 +1,8 @@
-use Rattle.std.proofs.Common.{List, Some, subst, sym}
+use Rattle.std.proofs.Common.{List, Some, subst}
 use Rattle.a429_import.specs.declared.rows.ImportRow.{ImportRow}
 use Rattle.a429_import.specs.Imports.{IsTableOf}
 use Rattle.a429_import.specs.KeptFields.{lines_kept}
 use Rattle.a429_import.specs.NumberRanges.{HaveRanges}
-use Rattle.a429_import.specs.Renamed.{all_renamed}
 use Rattle.a429_import.proofs.ChosenNames.{same_ranges}
 use Rattle.a429_import.proofs.import.table_with_names.Goals as goal
 

@@ -1,4 +1,4 @@
-use Rattle.std.proofs.Common.{◌≡◌, ◌∙◌, ◌||◌, ◌+◌, Bool, List, None, Some, ℕ, ap, ap₂, cond, drop, false, get_or, refl, sym, true}
+use Rattle.std.proofs.Common.{◌≡◌, ◌∙◌, ◌+◌, Bool, List, None, Some, ℕ, ap, ap₂, cond, drop, false, get_or, sym, true}
 use Rattle.csv.specs.Machine.{step}
 use Rattle.csv.specs.declared.parser.Config.{Config}
 use Rattle.csv.specs.declared.parser.State.{State}

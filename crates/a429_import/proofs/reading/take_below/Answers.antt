@@ -16,8 +16,7 @@ returns-in-None c = λ agree.
     let number : ℕ = c.args.line.now.number in
     let next : next_row heading rows c.args.line.now ≡ Ok row = sym (c.in-Ok.ensures agree) in
     let added : IsAdded None c.take_row.new.known (λ line. with_row line rows row) =
-    subst (λ (o : Option ImportColumn). IsAdded o c.take_row.new.known (λ line. with_row line rows row)) c.in-None.is c.in_ok-take_row-in-Ok.ensures in
-    (
+    subst (λ (o : Option ImportColumn). IsAdded o c.take_row.new.known (λ line. with_row line rows row)) c.in-None.is c.in_ok-take_row-in-Ok.ensures in (
       ap (λ (r : Result ImportRow CsvFault). r >>= λ (x : ImportRow). with_row number rows x) next ∙ added.0 number,
       agree_with number rows row c.take_row.new.known.rows.items agree (next_agrees heading rows c.args.line.now row next) (added.0 number),
       added.1,

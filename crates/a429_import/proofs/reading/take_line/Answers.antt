@@ -6,11 +6,6 @@ use Rattle.a429_import.specs.ImportReading.{AreRead, SayRows}
 use Rattle.a429_import.proofs.ImportReading.{line_read, line_skipped, unfaulted}
 use Rattle.a429_import.proofs.reading.take_line.Goals as goal
 
-pub take_kept-requires : goal.take_kept-requires
-take_kept-requires c =
-    let known = unfaulted c.args.heading.now.line c.args.read.now.fault c.args.read.now c.requires.0 c.if-is_none.ensures c.requires.1 in
-    (c.requires.0, known.are)
-
 pub returns-then-is_none : goal.returns-then-is_none
 returns-then-is_none c = λ below known.
     let heading : CsvLine = c.args.heading.now.line in

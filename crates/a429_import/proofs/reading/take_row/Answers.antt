@@ -1,4 +1,4 @@
-use Rattle.std.proofs.Common.{◌∙◌, ◌∷◌, ◌++◌, [], Bool, List, Ok, ap, cond, subst, sym}
+use Rattle.std.proofs.Common.{◌∙◌, ◌∷◌, ◌++◌, [], Bool, List, Ok, ap, cond, sym}
 use Rattle.a429_import.specs.declared.rows.ImportRow.{ImportRow}
 use Rattle.a429_import.specs.ImportLimits.{too_many}
 use Rattle.a429_import.specs.ImportRows.{limited, with_row}
@@ -18,5 +18,5 @@ returns c =
     let rows : List ImportRow = c.args.known.now.rows.items in
     let row : ImportRow = row_view c.args.row.now in
     let all : List ImportRow = rows ++ row ∷ [] in
-    added c.too_many.result c.push.new.known row (λ line. with_row line rows row) c.too_many.ensures c.in_ok-push.ensures.known
+    added c.too_many.result c.push.new.self row (λ line. with_row line rows row) c.too_many.ensures c.in_ok-push.ensures.known
     (λ line. ap (λ (b : Bool). cond b (Ok rows) (limited line all (too_many all row))) (sym c.has_all_of.ensures ∙ c.if-has_all_of.false) ∙ ap (λ (rs : List ImportRow). limited line rs (too_many rs row)) (sym c.in_ok-push.ensures.rows))

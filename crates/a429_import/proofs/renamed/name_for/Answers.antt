@@ -1,11 +1,11 @@
-use Rattle.std.proofs.Common.{◌≡◌, ◌∙◌, [], List, ℕ, ap, map, sym}
+use Rattle.std.proofs.Common.{◌∙◌, [], List, ℕ, ap, map}
 use Rattle.std.specs.Prelude.{unwrap_or}
 use Rattle.std.specs.List.{position_from}
 use Rattle.std.specs.Str.{bytes_eq}
 use Rattle.a429_import.specs.declared.rows.ImportRow.{ImportRow}
 use Rattle.a429_import.specs.ImportFields.{field_in, utf8_in}
 use Rattle.a429_import.specs.ImportTables.{firsts, name_in}
-use Rattle.a429_import.specs.Known.{named_of, names_of, place_of}
+use Rattle.a429_import.specs.Known.{named_of, place_of}
 use Rattle.a429_import.specs.Renamed.{name_for}
 use Rattle.a429_import.specs.RenamedReading.{texts_of}
 use Rattle.a429_import.proofs.Knowing.{knows_part}

@@ -1,8 +1,7 @@
-use Rattle.std.proofs.Common.{◌∙◌, ◌++◌, ◌∷◌, [], List, ap, arith, length, map, sym}
+use Rattle.std.proofs.Common.{◌∙◌, ◌++◌, ◌∷◌, [], List, ap, arith, map, sym}
 use Rattle.std.proofs.lemmas.List.{append-nil, map-append}
 use Rattle.a429_import.specs.declared.rows.ImportRow.{ImportRow}
 use Rattle.a429_import.specs.ImportTables.{firsts}
-use Rattle.a429_import.specs.Known.{names_of}
 use Rattle.a429_import.specs.Renamed.{plain_of, plains_of}
 use Rattle.a429_import.specs.RenamedReading.{texts_of}
 use Rattle.a429_import.proofs.ChosenNames.{mapped_more, no_more}
@@ -21,6 +20,5 @@ loop-place-preserved c =
 pub returns : goal.returns
 returns c =
     let rows : List ImportRow = c.args.known.now.rows.items in
-    let end = c.len-place-end.ensures ∙ ap (λ n. length (names_of n)) c.named.ensures in
-    let none = no_more c.args.part c.args.known.now c.loop-place.place c.requires (omega (arith, end, c.loop-place-test.false)) in
+    let none = no_more c.args.part c.args.known.now c.loop-place.place c.requires (omega (arith, c.count-place-end.ensures, c.loop-place-test.false)) in
     sym (append-nil (texts_of c.loop-place.plains.items)) ∙ sym (ap (λ (rs : List ImportRow). texts_of c.loop-place.plains.items ++ map (plain_of c.args.part) rs) none) ∙ c.loop-place.invariant

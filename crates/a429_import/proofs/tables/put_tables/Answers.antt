@@ -1,11 +1,11 @@
-use Rattle.std.proofs.Common.{◌≤◌, ◌++◌, ◌∷◌, ◌∙◌, [], ℕ, List, Option, ap, arith, filter, length, map, refl, string_bytes, subst}
+use Rattle.std.proofs.Common.{◌≤◌, ◌++◌, ◌∷◌, [], ℕ, List, Option, arith, filter, length, map, refl, string_bytes, subst}
 use Rattle.std.specs.List.{enumerate_from}
 use Rattle.std.proofs.lemmas.List.FromFn.{length-enumerate_from}
 use Rattle.toml.specs.Data.{Data}
 use Rattle.a429_import.specs.declared.rows.ImportRow.{ImportRow}
 use Rattle.a429_import.specs.ImportTables.{firsts}
 use Rattle.a429_import.specs.KeptFields.{lines_kept}
-use Rattle.a429_import.specs.Known.{named_of, names_of}
+use Rattle.a429_import.specs.Known.{named_of}
 use Rattle.a429_import.specs.PrintedTables.{IsWithTables}
 use Rattle.a429_import.specs.TableTexts.{is_placed, piece_of, pieces, rows_before}
 use Rattle.a429_import.proofs.ChosenNames.{firsts_count}
@@ -29,7 +29,8 @@ loop-place-preserved c =
     let piece : ℕ × ImportRow → List ℕ × Data = piece_of kept before part rows in
     let more : List (List ℕ × Data) = map piece (filter (is_placed part) ((place, row) ∷ [])) in (
       done ++ more,
-      with_more c.args.key.now done more (string_bytes c.args.shown.now) (string_bytes c.loop-place.shown) (string_bytes c.put_stated.new.shown) has c.in_ok-put_stated.ensures,
+      with_more c.args.key.now done more (string_bytes c.args.shown.now) (string_bytes c.loop-place.shown) (string_bytes c.put_stated.new.shown) has
+          (subst (λ (rs : List ImportRow). IsWithTables (string_bytes c.loop-place.shown) (string_bytes c.put_stated.new.shown) c.args.key.now (map (piece_of kept before part rs) (filter (is_placed part) ((place, row) ∷ [])))) c.deref.ensures.value c.in_ok-put_stated.ensures),
       picked_more (is_placed part) piece (enumerate_from 0 (firsts part rows)) place (place, row) done (done ++ more) (pieces kept before part rows) (numbered_at (firsts part rows) place row c.first_row.ensures) left refl,
     )
 
@@ -42,8 +43,7 @@ returns c =
     let (done, has, left) = c.loop-place.invariant in
     let kept : List ℕ → List ℕ = lines_kept c.args.comments.kept.now in
     let before : Option (List ImportRow) = rows_before c.args.comments.made_of in
-    let end = c.len-place-end.ensures ∙ ap (λ n. length (names_of n)) c.named.ensures in
     let all : length (enumerate_from 0 (firsts part rows)) ≤ place =
-    let n = length-enumerate_from 0 (firsts part rows) in let m = firsts_count part (named_of part known) rows (knows_part part known c.requires.known) in omega (arith, n, m, end, c.loop-place-test.false) in
+    let n = length-enumerate_from 0 (firsts part rows) in let m = firsts_count part (named_of part known) rows (knows_part part known c.requires.known) in omega (arith, n, m, c.count-place-end.ensures, c.loop-place-test.false) in
     subst (IsWithTables (string_bytes c.args.shown.now) (string_bytes c.loop-place.shown) c.args.key.now)
     (picked_all (is_placed part) (piece_of kept before part rows) (enumerate_from 0 (firsts part rows)) place done (pieces kept before part rows) all left) has

@@ -1,5 +1,4 @@
-use mir.Val.{bool_byte}
-use Rattle.std.proofs.Common.{◌≡◌, ◌≤◌, ◌∙◌, ◌+◌, ℕ, Bool, true, false, List, ap, ap₂, arith, cond, length, not, sym}
+use Rattle.std.proofs.Common.{◌≡◌, ◌≤◌, ◌∙◌, ◌+◌, ℕ, Bool, List, ap, ap₂, arith, cond, length, not, sym}
 use Rattle.std.specs.Prelude.{◌==◌}
 use Rattle.std.specs.List.{count_by}
 use Rattle.std.proofs.lemmas.List.{take_all}
@@ -9,17 +8,14 @@ use Rattle.a429_import.specs.declared.rows.ImportRow.{ImportRow}
 use Rattle.a429_import.specs.ImportTables.{firsts, has_group}
 use Rattle.a429_import.proofs.ChosenNames.{firsts_count}
 use Rattle.a429_import.proofs.KnownRows.{count_more}
+use Rattle.a429_import.proofs.RowLines.{one_is}
 use Rattle.a429_import.proofs.known.Known.group_count.Goals as goal
-
-by_cases : (b : Bool) (n : ℕ) → n ≡ bool_byte b → n ≡ cond b 1 0
-by_cases true n is = is
-by_cases false n is = is
 
 pub loop-place-preserved : goal.loop-place-preserved
 loop-place-preserved c =
     let fs : List ImportRow = firsts Groups c.args.self.now.rows.items in
     let more = count_more has_group fs c.loop-place.place c.first_row-row.result.now c.first_row-row.ensures in
-    let one : c.from-count.result ≡ cond (has_group c.first_row-row.result.now) 1 0 = by_cases (not c.is_empty.result) c.from-count.result c.from-count.ensures ∙ ap (λ (b : Bool). cond (not b) 1 0) (c.is_empty.ensures ∙ ap (λ (t : List ℕ). length t == 0) c.as_str.ensures) in
+    let one : c.from-count.result ≡ cond (has_group c.first_row-row.result.now) 1 0 = c.from-count.ensures ∙ one_is (not c.is_empty.result) ∙ ap (λ (b : Bool). cond (not b) 1 0) (c.is_empty.ensures ∙ ap (λ (t : List ℕ). length t == 0) c.as_str.ensures) in
     ap₂ (λ (n m : ℕ). n + m) c.loop-place.invariant one ∙ sym more
 
 pub returns : goal.returns
