@@ -1,6 +1,6 @@
 -- What is imported from lines.
 use Rattle.std.proofs.Common.{◌≡◌, ◌∙◌, ℕ, Bool, true, false, List, [], ◌∷◌, Option, None, Some, Result, Ok, Err, ◌++◌, ap, ap₂, codes, cond, map, refl, subst, sym}
-use Rattle.std.specs.Prelude.{◌||◌, IfOk}
+use Rattle.std.specs.Prelude.{IfOk}
 use Rattle.std.specs.Str.{IsUtf8}
 use Rattle.toml.specs.Data.{Data, table}
 use Rattle.toml.specs.Parse.{parse_document}
@@ -23,16 +23,13 @@ use Rattle.a429_import.specs.declared.import.Imported.{Imported}
 use Rattle.a429_import.specs.declared.import.ImportOptions.{ImportOptions}
 use Rattle.a429_import.specs.declared.lines.CsvLine.{CsvLine}
 use Rattle.a429_import.specs.declared.rows.ImportRow.{ImportRow}
-use Rattle.a429_import.specs.ImportAbove.{has_data_above}
 use Rattle.a429_import.specs.ImportFaults.{of_table}
-use Rattle.a429_import.specs.ImportForms.{from_heading, separator_in}
-use Rattle.a429_import.specs.ImportQuotes.{has_wrong_quotes}
 use Rattle.a429_import.specs.ImportRows.{note_count, rows_stated}
 use Rattle.a429_import.specs.ImportTables.{part_tree, record_stated, root_members}
 use Rattle.a429_import.specs.KeptFields.{kept_comments, kept_of}
 use Rattle.a429_import.specs.PrintedTables.{PrintsTables}
 use Rattle.a429_import.specs.TableTexts.{IsTableText, before_at, column_comments, made_comment, piece_of, pieces, row_before}
-use Rattle.a429_import.specs.Imports.{AreLines, IsFilledImport, IsImport, IsImportBy, IsImportFrom, IsImportIf, IsSheetImport, IsTableBy, IsTableOf, IsTextFault, States, has_row_above, rows_by, is_misquoted_text, separated, text_fault_line}
+use Rattle.a429_import.specs.Imports.{AreLines, IsFilledImport, IsImport, IsImportBy, IsImportFrom, IsImportIf, IsSheetImport, IsTableBy, IsTableOf, States, is_unfit, rows_by, text_fault_line}
 use Rattle.a429_import.specs.NumberRanges.{HaveRanges}
 use Rattle.a429_import.proofs.ImportRecords.{tree_states}
 
@@ -166,35 +163,19 @@ none_imported maps options lines e none is =
 
 -- ---- of a text
 
-module _ (maps : List (List ℕ)) (text : List ℕ) (separator : ℕ) (rest : List ℕ) (by : separator ≡ separator_in maps text) (from : rest ≡ from_heading maps text) where
-  -- what is so by the form of a text is so of the text
-  by_form : (test : ℕ → List ℕ → Bool) (is : Bool) → is ≡ test separator rest → test (separator_in maps text) (from_heading maps text) ≡ is
-  by_form test is same = ap₂ test (sym by) (sym from) ∙ sym same
-
-  pub unfit_by : (unfit : Bool) → unfit ≡ (has_wrong_quotes (separated separator) rest text || has_data_above (separated separator) maps rest text) → (is_misquoted_text maps text || has_row_above maps text) ≡ unfit
-  unfit_by unfit same = by_form (λ s xs. has_wrong_quotes (separated s) xs text || has_data_above (separated s) maps xs text) unfit same
-
--- the rest of what is imported, if no fault comes before those of the rows
 module _ (maps : List (List ℕ)) (options : ImportOptions) (text : List ℕ) where
-  abbrev is_unfit : Bool
-  is_unfit = is_misquoted_text maps text || has_row_above maps text
-
-  of_rows : (lines : List CsvLine) (result : Result Imported ImportFault) → is_unfit ≡ false → AreLines maps text lines → IsSheetImport maps options lines result → IsImportIf is_unfit maps options text result
+  of_rows : (lines : List CsvLine) (result : Result Imported ImportFault) → is_unfit maps text ≡ false → AreLines maps text lines → IsSheetImport maps options lines result → IsImportIf (is_unfit maps text) maps options text result
   of_rows lines result fit are (is_below, named, by, h) = subst (λ (b : Bool). IsImportIf b maps options text result) (sym fit) (named, (lines, is_below, are, by), h)
 
-  pub import_of : (lines : List CsvLine) (result : Result Imported ImportFault) → IsTextFault maps text None → AreLines maps text lines → IsSheetImport maps options lines result → IsImport maps options text result
+  -- the rest of what is imported, if no fault comes before those of the rows
+  pub import_of : (lines : List CsvLine) (result : Result Imported ImportFault) → is_unfit maps text ≡ false → AreLines maps text lines → IsSheetImport maps options lines result → IsImport maps options text result
   import_of lines (Ok bytes) fit are h = of_rows lines (Ok bytes) fit are h
   import_of lines (Err NoMemory) fit are h = tt
   import_of lines (Err (Csv line kind column)) fit are h = of_rows lines (Err (Csv line kind column)) fit are h
   import_of lines (Err (Table f)) fit are h = of_rows lines (Err (Table f)) fit are h
 
   -- a text whose quotes are wrong, or with a row of data above its heading
-  unfit_import : (line : ℕ) → text_fault_line maps text ≡ Some line → is_unfit ≡ true → IsImport maps options text (Err (Csv line Form None))
-  unfit_import line at unfit =
-      let fault : Result Imported ImportFault = Err (Csv line Form None) in
-      subst (λ (b : Bool). IsImportIf b maps options text fault) (sym unfit) (line, at, refl)
-
--- the fault of such a text
-pub unfit_fault : (maps : List (List ℕ)) (text : List ℕ) (line : ℕ) (fault : ImportFault) → text_fault_line maps text ≡ Some line → (is_misquoted_text maps text || has_row_above maps text) ≡ true
-    → fault ≡ Csv line Form None → IsTextFault maps text (Some fault)
-unfit_fault maps text line fault at unfit is = λ options. subst (λ (f : ImportFault). IsImport maps options text (Err f)) (sym is) (unfit_import maps options text line at unfit)
+  pub unfit_import : (line : ℕ) (fault : ImportFault) → text_fault_line maps text ≡ Some line → is_unfit maps text ≡ true → fault ≡ Csv line Form None → IsImport maps options text (Err fault)
+  unfit_import line fault at unfit is =
+      let first : Result Imported ImportFault = Err (Csv line Form None) in
+      subst (λ (f : ImportFault). IsImport maps options text (Err f)) (sym is) (subst (λ (b : Bool). IsImportIf b maps options text first) (sym unfit) (line, at, refl))

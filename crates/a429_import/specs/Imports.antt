@@ -137,12 +137,11 @@ IsImportIf true maps options text result = (line : ℕ) × (text_fault_line maps
 IsImportIf false maps options text result =
     (lines : List CsvLine) × AreNamedLines maps text lines × IsFilledImport options.fills options.makes_names lines result
 
--- the same; an allocation may fail before all lines are known
+-- a text has such a fault
+abbrev pub is_unfit : List (List ℕ) → List ℕ → Bool
+is_unfit maps text = is_misquoted_text maps text || has_row_above maps text
+
+-- the import of a text; an allocation may fail before all lines are known
 abbrev pub IsImport : List (List ℕ) → ImportOptions → List ℕ → Result Imported ImportFault → Type 0
 IsImport maps options text (Err NoMemory) = Unit {0}
-IsImport maps options text result = IsImportIf (is_misquoted_text maps text || has_row_above maps text) maps options text result
-
--- the fault of a text that comes before those of its rows, if it has one
-abbrev pub IsTextFault : List (List ℕ) → List ℕ → Option ImportFault → Type 0
-IsTextFault maps text None = (is_misquoted_text maps text || has_row_above maps text) ≡ false
-IsTextFault maps text (Some fault) = (options : ImportOptions) → IsImport maps options text (Err fault)
+IsImport maps options text result = IsImportIf (is_unfit maps text) maps options text result

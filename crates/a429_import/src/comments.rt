@@ -4,7 +4,7 @@ ghost use Rattle.std.specs.Prelude.{◌≡◌, ◌++◌, ◌∷◌, [], IfSome, 
 ghost use Rattle.std.specs.Option.{option_copied};
 ghost use Rattle.std.specs.List.{list_all};
 ghost use Rattle.toml_parser.specs.Lexical.{is_non_eol};
-ghost use Rattle.a429_import.specs.KeptFields.{comment_line, comment_of, kept_comments, lines_kept};
+ghost use Rattle.a429_import.specs.KeptFields.{comment_line, kept_comments, lines_kept};
 ghost use Rattle.a429_import.specs.Known.{Knows};
 ghost use Rattle.a429_import.specs.TableTexts.{above_of, before_at, made_comment, name_comment, rows_before};
 
@@ -53,34 +53,18 @@ fn is_comment(bytes: &[u8]) -> bool
     bytes.iter().all(|byte| fits_comment(*byte))
 }
 
-/// Writes a comment. Error: an allocation failed.
-fn push_comment(shown: &mut String, line: &str) -> Result<(), AllocError>
-    ensures { OnOk result (string_bytes shown.new ≡ string_bytes shown.old ++ 35 ∷ (line.now ++ 10 ∷ [])) }
-{
-    shown.push_str("#")?;
-    shown.push_str(line)?;
-    shown.push_str("\n")
-}
-
-/// Writes a comment, unless a byte cannot be in one. Error: an allocation failed.
-fn push_fitting(shown: &mut String, line: &str) -> Result<(), AllocError>
-    ensures { OnOk result (string_bytes shown.new ≡ string_bytes shown.old ++ comment_of line.now) }
-{
-    if is_comment(line.as_bytes()) {
-        push_comment(shown, line)
-    } else {
-        Ok(())
-    }
-}
-
-/// Writes a comment, if the line can be one. Error: an allocation failed.
+/// Writes a comment, unless the line is no text or a byte cannot be in a comment. Error: an allocation failed.
 #[tactic(auto, unfolding(crate::specs::KeptFields::comment_line))]
 fn put_comment(shown: &mut String, line: &[u8]) -> Result<(), AllocError>
     ensures { OnOk result (string_bytes shown.new ≡ string_bytes shown.old ++ comment_line line.now) }
 {
     match utf8_in(line) {
-        Some(text) => push_fitting(shown, text),
-        None => Ok(()),
+        Some(text) if is_comment(text.as_bytes()) => {
+            shown.push_str("#")?;
+            shown.push_str(text)?;
+            shown.push_str("\n")
+        }
+        _ => Ok(()),
     }
 }
 

@@ -1,11 +1,11 @@
 //! An equipment table from rows of comma-separated values.
-ghost use Rattle.std.specs.Prelude.{◌≡◌, [], ◌∷◌, IfOk, List, None, Some};
+ghost use Rattle.std.specs.Prelude.{◌≡◌, [], ◌∷◌, false, IfOk, List, None, Some};
 ghost use Rattle.a429_import.specs.declared.lines.CsvLine.{CsvLine};
 ghost use Rattle.a429_import.specs.FaultLines.{fault_line};
 ghost use Rattle.a429_import.specs.ImportForms.{from_heading, separator_in};
 ghost use Rattle.a429_import.specs.ImportMaps.{given_texts};
 ghost use Rattle.a429_import.specs.ImportReading.{StandsFor};
-ghost use Rattle.a429_import.specs.Imports.{IsImport, IsImportFrom, IsSheetImport, IsTableBy, IsTableOf, IsTextFault, separated};
+ghost use Rattle.a429_import.specs.Imports.{IsImport, IsImportFrom, IsSheetImport, IsTableBy, IsTableOf, is_unfit, separated};
 ghost use Rattle.a429_import.specs.KeptFields.{lines_kept};
 ghost use Rattle.a429_import.specs.Known.{Knows};
 ghost use Rattle.a429_import.specs.LineCounts.{IsEnd};
@@ -173,7 +173,7 @@ fn read_table<W: Watch>(
     requires separator { form.separator ≡ separator_in (given_texts maps.now) text.now }
     requires text { form.text.now ≡ from_heading (given_texts maps.now) text.now }
     requires read { ReadsSheet options (given_texts maps.now) read.old [] }
-    ensures { IsTextFault (given_texts maps.now) text.now None → IsImport (given_texts maps.now) options text.now result }
+    ensures { is_unfit (given_texts maps.now) text.now ≡ false → IsImport (given_texts maps.now) options text.now result }
 {
     read_lines(alloc, maps, options, text, form, watch, read)?;
     watch.show_done(text.len(), text.len());
@@ -200,7 +200,7 @@ fn table_of_text<W: Watch>(
 ) -> Result<Imported, ImportFault>
     requires separator { form.separator ≡ separator_in (given_texts maps.now) text.now }
     requires text { form.text.now ≡ from_heading (given_texts maps.now) text.now }
-    ensures { IsTextFault (given_texts maps.now) text.now None → IsImport (given_texts maps.now) options text.now result }
+    ensures { is_unfit (given_texts maps.now) text.now ≡ false → IsImport (given_texts maps.now) options text.now result }
 {
     let mut read = SheetRead::new(alloc);
     let table = read_table(alloc, maps, options, text, form, watch, &mut read);
@@ -227,24 +227,6 @@ fn unfit_line(
             Ok(Some(line))
         }
         None => line_above(alloc, maps, text, form, refused),
-    }
-}
-
-/// The fault of a text that comes before those of the rows below its heading. Error: an allocation failed.
-fn text_fault(
-    alloc: Global,
-    maps: &[&str],
-    text: &[u8],
-    form: Form<'_>,
-    refused: &mut Option<RefusedRows>,
-) -> Result<Option<ImportFault>, AllocError>
-    requires separator { form.separator ≡ separator_in (given_texts maps.now) text.now }
-    requires text { form.text.now ≡ from_heading (given_texts maps.now) text.now }
-    ensures { IfOk result (λ fault. IsTextFault (given_texts maps.now) text.now fault) }
-{
-    match unfit_line(alloc, maps, text, form, refused)? {
-        Some(line) => Ok(Some(csv_fault(line, CsvFaultKind::Form, None))),
-        None => Ok(None),
     }
 }
 
@@ -279,8 +261,8 @@ pub fn import_table<W: Watch>(
 {
     let form = form_of(maps, bytes);
     watch.show_done(0, bytes.len());
-    match text_fault(alloc, maps, bytes, form, refused)? {
-        Some(fault) => Err(fault),
+    match unfit_line(alloc, maps, bytes, form, refused)? {
+        Some(line) => Err(csv_fault(line, CsvFaultKind::Form, None)),
         None => table_of_text(alloc, maps, options, bytes, form, watch, refused),
     }
 }

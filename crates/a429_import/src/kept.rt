@@ -1,6 +1,5 @@
 //! Columns of a sheet that go along as comments of the table.
 ghost use Rattle.std.specs.Prelude.{◌≡◌, ◌&&◌, ◌++◌, ◌∷◌, [], ℕ, IfOk, List, OnOk, option_map};
-ghost use Rattle.std.specs.Str.{is_utf8};
 ghost use Rattle.csv.specs.Records.{fields_of};
 ghost use Rattle.a429_import.specs.declared.lines.CsvLine.{CsvLine};
 ghost use Rattle.a429_import.specs.ImportRows.{has_label};
@@ -40,20 +39,13 @@ fn shown_byte(is_text: bool, is_heading: bool, byte: u8) -> u8
     }
 }
 
-/// Whether bytes are UTF-8.
-#[tactic(auto, unfolding(crate::specs::ImportFields::utf8_in))]
-fn is_utf8(bytes: &[u8]) -> bool
-    ensures { result ≡ is_utf8 bytes.now }
-{
-    utf8_in(bytes).is_some()
-}
-
 /// Writes a heading or a field as a comment has it: with spaces for control characters, and `?` for bytes above 127 if it is
 /// no UTF-8. In a heading `|` becomes `/`.
+#[tactic(auto, unfolding(crate::specs::ImportFields::utf8_in))]
 pub fn put_shown(text: &mut Text, is_heading: bool, bytes: &[u8])
     ensures { text.new ≡ text.old ++ shown is_heading bytes.now }
 {
-    let is_text = is_utf8(bytes);
+    let is_text = utf8_in(bytes).is_some();
     for byte in bytes {
         text.put_bytes(&[shown_byte(is_text, is_heading, *byte)]);
     }

@@ -3,16 +3,16 @@ ghost use Rattle.std.specs.Prelude.{◌≡◌, ◌++◌, ◌∷◌, ◌<◌, [],
 ghost use Rattle.a429_import.specs.declared.firsts.Part.TheVariants as part;
 ghost use Rattle.a429_import.specs.ImportLimits.{has_too_many_outputs, too_many};
 ghost use Rattle.a429_import.specs.ImportRows.{says_nothing};
-ghost use Rattle.a429_import.specs.ImportTables.{firsts, groups_of, has_group, name_in};
+ghost use Rattle.a429_import.specs.ImportTables.{firsts, groups_of, words};
 ghost use Rattle.a429_import.specs.ImportTexts.{row_view};
 ghost use Rattle.a429_import.specs.Known.{Knows, named_of, names_of, one_output, with_output};
 
 use crate::fault::ImportColumn;
 use crate::firsts::Part;
-use crate::limits::has_too_many_filters;
 use crate::named_rows::NamedRows;
 use crate::rows::{ImportRow, RowFields, copy_of};
 use a429_equipment::{GROUPS, OUTPUTS, RECEIVERS, SOURCES};
+use a429_filter::FILTERS;
 use std::alloc::{AllocError, Global};
 
 /// What is known of rows.
@@ -42,16 +42,18 @@ fn count_output(outputs: &mut Vec<u8>, group: Option<usize>) -> Result<(), Alloc
     ensures { OnOk result (outputs.new.items ≡ with_output outputs.old.items group) }
 {
     match group {
-        Some(place) if place < outputs.len() => {
-            outputs[place] = one_output(outputs[place]);
-            Ok(())
-        }
-        Some(_) => Ok(()),
-        None => {
-            outputs.push(1)?;
-            Ok(())
-        }
+        Some(place) if place < outputs.len() => outputs[place] = one_output(outputs[place]),
+        Some(_) => {}
+        None => outputs.push(1)?,
     }
+    Ok(())
+}
+
+/// Whether these are too many filters for a receiver.
+fn has_too_many_filters(text: &str) -> bool
+    ensures { result ≡ nat_lt 32 (length (words text.now)) }
+{
+    FILTERS < text.split(' ').filter(|part| !part.is_empty()).count()
 }
 
 impl Known {

@@ -105,8 +105,8 @@ fn push_titled(
     }
 }
 
-/// Whether HEADING of a text is a field of the heading.
-fn has_heading(heading: &CsvLine, text: &str) -> bool
+/// Whether HEADING of a text HEADING=COLUMN is a field of the heading.
+pub fn has_heading(heading: &CsvLine, text: &str) -> bool
     ensures { result ≡ list_any (λ field. is_about field text.now) (fields_of heading.now.fields) }
 {
     for place in 0..heading.len() {

@@ -3,13 +3,13 @@ ghost use Rattle.std.specs.Prelude.{◌≡◌, IfOk, None, option_map};
 ghost use Rattle.std.specs.Result.{result_err, result_map_both};
 ghost use Rattle.csv.specs.Records.{fields_of};
 ghost use Rattle.a429_import.specs.ImportFields.{filters_in, hold_in, label_in, rate_in, sdi_in, text_in};
-ghost use Rattle.a429_import.specs.ImportRows.{interval_at, names_group, numbers_of, output_at, row_of, stated_at, texts_of};
+ghost use Rattle.a429_import.specs.ImportRows.{column_form, interval_at, is_least, names_group, numbers_of, output_at, row_of, stated_at, texts_of};
 ghost use Rattle.a429_import.specs.ImportTexts.{row_view, text_view, texts_view};
 
 use crate::columns::Heading;
 use crate::fault::{CsvFaultKind, ImportColumn};
 use crate::fields::{filters_in, hold_in, if_group, label_in, sdi_in, text_in};
-use crate::intervals::interval_in;
+use crate::intervals::{IntervalForm, interval_in};
 use crate::lines::CsvLine;
 use crate::rates::rate_in;
 use a429_word::{Label, Sdi};
@@ -113,20 +113,21 @@ fn rate_at(heading: &Heading, line: &CsvLine) -> Result<u32, ImportColumn>
     if_group(names_group(heading, line), field, rate_in(field), 0).ok_or(ImportColumn::Rate)
 }
 
-fn least_at(heading: &Heading, line: &CsvLine) -> Result<u32, ImportColumn>
-    ensures { result ≡ interval_at line.now.separator (fields_of heading.now.line.fields) (fields_of line.now.fields) ImportColumn.MinUs }
+/// A limit of an interval, in the form of its column.
+fn limit_at(
+    heading: &Heading,
+    line: &CsvLine,
+    column: ImportColumn,
+    is_minimum: bool,
+    form: IntervalForm,
+) -> Result<u32, ImportColumn>
+    requires minimum { is_minimum ≡ is_least column }
+    requires form { form ≡ column_form (fields_of heading.now.line.fields) column }
+    ensures { result ≡ interval_at line.now.separator (fields_of heading.now.line.fields) (fields_of line.now.fields) column }
 {
-    let field = heading.field_of(line, ImportColumn::MinUs);
-    let limit = interval_in(true, heading.min_form, line.separator, field);
-    if_group(names_group(heading, line), field, limit, 0).ok_or(ImportColumn::MinUs)
-}
-
-fn most_at(heading: &Heading, line: &CsvLine) -> Result<u32, ImportColumn>
-    ensures { result ≡ interval_at line.now.separator (fields_of heading.now.line.fields) (fields_of line.now.fields) ImportColumn.MaxUs }
-{
-    let field = heading.field_of(line, ImportColumn::MaxUs);
-    let limit = interval_in(false, heading.max_form, line.separator, field);
-    if_group(names_group(heading, line), field, limit, 0).ok_or(ImportColumn::MaxUs)
+    let field = heading.field_of(line, column);
+    let limit = interval_in(is_minimum, form, line.separator, field);
+    if_group(names_group(heading, line), field, limit, 0).ok_or(column)
 }
 
 fn label_at(heading: &Heading, line: &CsvLine) -> Result<Label, ImportColumn>
@@ -172,8 +173,8 @@ pub fn row_numbers(heading: &Heading, line: &CsvLine) -> Result<RowNumbers, Impo
     let rate = rate_at(heading, line)?;
     let label = label_at(heading, line)?;
     let sdi = sdi_at(heading, line)?;
-    let min_us = least_at(heading, line)?;
-    let max_us = most_at(heading, line)?;
+    let min_us = limit_at(heading, line, ImportColumn::MinUs, true, heading.min_form)?;
+    let max_us = limit_at(heading, line, ImportColumn::MaxUs, false, heading.max_form)?;
     let hold = hold_at(heading, line)?;
     Ok(RowNumbers {
         rate,

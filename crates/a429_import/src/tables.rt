@@ -1,5 +1,6 @@
 //! The equipment table that rows describe, as TOML.
-ghost use Rattle.std.specs.Prelude.{◌≡◌, IfOk, OnOk, [], ◌∷◌, codes, filter, if◌then◌else◌, map, string_bytes};
+ghost use Rattle.std.specs.Prelude.{◌≡◌, ◌==◌, IfOk, OnOk, [], ◌∷◌, codes, filter, if◌then◌else◌, map, string_bytes};
+ghost use Rattle.std.specs.List.{slice_split};
 ghost use Rattle.std.specs.Option.{option_copied};
 ghost use Rattle.toml.specs.Data.{string};
 ghost use Rattle.toml.specs.View.{table_view, view};
@@ -18,7 +19,6 @@ use crate::firsts::Part;
 use crate::kept::KeptTexts;
 use crate::known::Known;
 use crate::rows::ImportRow;
-use crate::words::parts;
 use std::alloc::{AllocError, Global};
 use toml::{Table, Value};
 
@@ -42,6 +42,13 @@ fn words_of(alloc: Global, parts: &[&str]) -> Result<Vec<Value>, AllocError>
         push_word(alloc, &mut values, *part)?;
     }
     Ok(values)
+}
+
+/// The parts of a text between spaces, which may be empty. Error: an allocation failed.
+fn parts(alloc: Global, text: &str) -> Result<Vec<&str>, AllocError>
+    ensures { IfOk result (λ parts. map (λ part. part.now) parts.items ≡ slice_split (λ b. b == 32) text.now) }
+{
+    text.split(' ').collect(alloc)
 }
 
 /// The words of a text, which are separated by spaces.

@@ -7,7 +7,7 @@ use Rattle.std.proofs.lemmas.Iterator.{YieldsList}
 use Rattle.std.proofs.lemmas.Iterator.Consumers.{YieldsList-from_filter, count_from_yields_List}
 use Rattle.std.proofs.lemmas.Iterator.Splits.{YieldsList-from_str_split}
 use Rattle.a429_import.specs.ImportTables.{is_word, words}
-use Rattle.a429_import.proofs.limits.has_too_many_filters.Goals as goal
+use Rattle.a429_import.proofs.known.has_too_many_filters.Goals as goal
 
 pub returns : goal.returns
 unfolding words

@@ -1,7 +1,7 @@
 use Rattle.std.proofs.Common.{◌≡◌, [], take}
 use Rattle.csv.specs.Records.{fields_of, partial_of}
 use Rattle.a429_import.specs.FilledLines.{filled_from}
-use Rattle.a429_import.proofs.filled_lines.push_filled.Given as goal
+use Rattle.a429_import.proofs.filled_lines.filled_line.Given as goal
 
 abbrev pub invariant-loop-place : goal.invariant-loop-place
 invariant-loop-place l = record {

@@ -3,10 +3,10 @@ use Rattle.csv.specs.Records.{fields_of}
 use Rattle.a429_import.specs.FilledLines.{filled_below, filled_from}
 use Rattle.a429_import.specs.ImportFields.{field_in}
 use Rattle.a429_import.proofs.FilledLines.{filled_more}
-use Rattle.a429_import.proofs.filled_lines.push_filled.Goals as goal
+use Rattle.a429_import.proofs.filled_lines.filled_line.Goals as goal
 
 pub loop-place-init : goal.loop-place-init
-loop-place-init c = record { fields = c.requires.none; partial = c.requires.partial }
+loop-place-init c = record { fields = c.new-fields.ensures.fields; partial = c.new-fields.ensures.partial }
 
 pub loop-place-preserved : goal.loop-place-preserved
 loop-place-preserved c =
@@ -21,8 +21,9 @@ loop-place-preserved c =
     record {
       fields =
           c.in_ok-push_field.ensures.fields
-          ∙ ap₂ (λ (xs : List (List ℕ)) (part : List ℕ). xs ++ (part ++ c.filled_at.result.now) ∷ []) inv.fields inv.partial
-          ∙ ap (λ (f : List ℕ). filled_from 0 heading above (take i fields) ++ f ∷ []) c.filled_at.ensures
+          ∙ ap₂ (λ (xs : List (List ℕ)) (part : List ℕ). xs ++ (part ++ c.filled_below-field.result.now) ∷ []) inv.fields inv.partial
+          ∙ ap (λ (f : List ℕ). filled_from 0 heading above (take i fields) ++ f ∷ []) (c.filled_below-field.ensures ∙ ap₂ (λ (h a : List ℕ). filled_below h a c.field.result.now) c.field_at.ensures c.field_at-in-loop-place.ensures
+          ∙ ap (filled_below (field_in i heading) (field_in i above)) c.field.ensures)
           ∙ ap (λ (n : ℕ). filled_from 0 heading above (take i fields) ++ filled_below (field_in n heading) (field_in n above) (field_in i fields) ∷ []) (sym here)
           ∙ sym (filled_more 0 heading above fields i below) ∙ ap (λ (n : ℕ). filled_from 0 heading above (take n fields)) one;
       partial = c.in_ok-push_field.ensures.partial;
