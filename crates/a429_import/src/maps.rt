@@ -166,23 +166,6 @@ fn are_met(heading: &CsvLine, maps: &[&str]) -> bool
     true
 }
 
-/// Adds the names of the fields of a heading. Error: an allocation failed.
-fn push_all_titled(
-    alloc: Global,
-    names: &mut ByteRecord,
-    maps: &[&str],
-    heading: &CsvLine,
-) -> Result<(), AllocError>
-    requires none { fields_of names.old ≡ [] }
-    requires partial { partial_of names.old ≡ [] }
-    ensures { OnOk result (fields_of names.new ≡ map (titled (given_texts maps.now)) (fields_of heading.now.fields)) }
-{
-    for place in 0..heading.len() {
-        push_titled(alloc, names, maps, heading.field(place))?;
-    }
-    Ok(())
-}
-
 /// The names of the fields of a heading; none if one of the texts is not met. Error: an allocation failed.
 fn names_of(alloc: Global, maps: &[&str], heading: &CsvLine) -> Result<ByteRecord, AllocError>
     ensures { IfOk result (λ names. fields_of names ≡ names_by (given_texts maps.now) (fields_of heading.now.fields)) }
@@ -192,7 +175,9 @@ fn names_of(alloc: Global, maps: &[&str], heading: &CsvLine) -> Result<ByteRecor
     if !are_met(heading, maps) {
         return Ok(names);
     }
-    push_all_titled(alloc, &mut names, maps, heading)?;
+    for place in 0..heading.len() {
+        push_titled(alloc, &mut names, maps, heading.field(place))?;
+    }
     Ok(names)
 }
 

@@ -130,18 +130,6 @@ fn limit_at(
     if_group(names_group(heading, line), field, limit, 0).ok_or(column)
 }
 
-fn label_at(heading: &Heading, line: &CsvLine) -> Result<Label, ImportColumn>
-    ensures { result ≡ stated_at label_in (fields_of heading.now.line.fields) (fields_of line.now.fields) ImportColumn.Label }
-{
-    label_in(heading.field_of(line, ImportColumn::Label)).ok_or(ImportColumn::Label)
-}
-
-fn sdi_at(heading: &Heading, line: &CsvLine) -> Result<Option<Sdi>, ImportColumn>
-    ensures { result ≡ stated_at sdi_in (fields_of heading.now.line.fields) (fields_of line.now.fields) ImportColumn.Sdi }
-{
-    sdi_in(heading.field_of(line, ImportColumn::Sdi)).ok_or(ImportColumn::Sdi)
-}
-
 fn hold_at(heading: &Heading, line: &CsvLine) -> Result<Option<u32>, ImportColumn>
     ensures { result ≡ output_at hold_in None (fields_of heading.now.line.fields) (fields_of line.now.fields) ImportColumn.Hold }
 {
@@ -159,20 +147,14 @@ fn text_at<'a>(
     text_in(heading.field_of(line, column)).ok_or(column)
 }
 
-fn filters_at<'a>(heading: &Heading, line: &'a CsvLine) -> Result<&'a str, ImportColumn>
-    ensures { text_view result ≡ stated_at filters_in (fields_of heading.now.line.fields) (fields_of line.now.fields) ImportColumn.Filters }
-{
-    filters_in(heading.field_of(line, ImportColumn::Filters)).ok_or(ImportColumn::Filters)
-}
-
 /// The numbers of a row. Error: the first column with a wrong form.
 #[tactic(auto, unfolding(crate::specs::ImportRows::numbers_of))]
 pub fn row_numbers(heading: &Heading, line: &CsvLine) -> Result<RowNumbers, ImportColumn>
     ensures { result ≡ numbers_of line.now.separator (fields_of heading.now.line.fields) (fields_of line.now.fields) }
 {
     let rate = rate_at(heading, line)?;
-    let label = label_at(heading, line)?;
-    let sdi = sdi_at(heading, line)?;
+    let label = label_in(heading.field_of(line, ImportColumn::Label)).ok_or(ImportColumn::Label)?;
+    let sdi = sdi_in(heading.field_of(line, ImportColumn::Sdi)).ok_or(ImportColumn::Sdi)?;
     let min_us = limit_at(heading, line, ImportColumn::MinUs, true, heading.min_form)?;
     let max_us = limit_at(heading, line, ImportColumn::MaxUs, false, heading.max_form)?;
     let hold = hold_at(heading, line)?;
@@ -194,7 +176,8 @@ fn text_fields<'a>(heading: &Heading, line: &'a CsvLine) -> Result<TextFields<'a
     let group = text_at(heading, line, ImportColumn::Group)?;
     let source = text_at(heading, line, ImportColumn::Source)?;
     let receiver = text_at(heading, line, ImportColumn::Receiver)?;
-    let filters = filters_at(heading, line)?;
+    let filters = heading.field_of(line, ImportColumn::Filters);
+    let filters = filters_in(filters).ok_or(ImportColumn::Filters)?;
     Ok(TextFields {
         group,
         source,
