@@ -180,13 +180,6 @@ fn read_table<W: Watch>(
     table_of_sheet(alloc, maps, options, read)
 }
 
-/// Keeps what a hint needs of a refused sheet.
-fn keep_refused(refused: &mut Option<RefusedRows>, read: SheetRead) {
-    let SheetRead { heading, below } = read;
-    let BelowRead { refused: rows, .. } = below;
-    *refused = Some(rows.ended(heading));
-}
-
 /// The table that a text of this form describes, if no fault comes before those of its rows. If the rows are refused,
 /// `refused` gets them.
 fn table_of_text<W: Watch>(
@@ -204,7 +197,9 @@ fn table_of_text<W: Watch>(
 {
     let mut read = SheetRead::new(alloc);
     let table = read_table(alloc, maps, options, text, form, watch, &mut read);
-    keep_refused(refused, read);
+    let SheetRead { heading, below } = read;
+    let BelowRead { refused: rows, .. } = below;
+    *refused = Some(rows.ended(heading));
     table
 }
 

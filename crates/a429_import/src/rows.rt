@@ -106,13 +106,6 @@ fn names_group(heading: &Heading, line: &CsvLine) -> bool
     !heading.field_of(line, ImportColumn::Group).is_empty()
 }
 
-fn rate_at(heading: &Heading, line: &CsvLine) -> Result<u32, ImportColumn>
-    ensures { result ≡ output_at rate_in 0 (fields_of heading.now.line.fields) (fields_of line.now.fields) ImportColumn.Rate }
-{
-    let field = heading.field_of(line, ImportColumn::Rate);
-    if_group(names_group(heading, line), field, rate_in(field), 0).ok_or(ImportColumn::Rate)
-}
-
 /// A limit of an interval, in the form of its column.
 fn limit_at(
     heading: &Heading,
@@ -130,34 +123,20 @@ fn limit_at(
     if_group(names_group(heading, line), field, limit, 0).ok_or(column)
 }
 
-fn hold_at(heading: &Heading, line: &CsvLine) -> Result<Option<u32>, ImportColumn>
-    ensures { result ≡ output_at hold_in None (fields_of heading.now.line.fields) (fields_of line.now.fields) ImportColumn.Hold }
-{
-    let field = heading.field_of(line, ImportColumn::Hold);
-    if_group(names_group(heading, line), field, hold_in(field), None).ok_or(ImportColumn::Hold)
-}
-
-fn text_at<'a>(
-    heading: &Heading,
-    line: &'a CsvLine,
-    column: ImportColumn,
-) -> Result<&'a str, ImportColumn>
-    ensures { text_view result ≡ stated_at text_in (fields_of heading.now.line.fields) (fields_of line.now.fields) column }
-{
-    text_in(heading.field_of(line, column)).ok_or(column)
-}
-
 /// The numbers of a row. Error: the first column with a wrong form.
 #[tactic(auto, unfolding(crate::specs::ImportRows::numbers_of))]
 pub fn row_numbers(heading: &Heading, line: &CsvLine) -> Result<RowNumbers, ImportColumn>
     ensures { result ≡ numbers_of line.now.separator (fields_of heading.now.line.fields) (fields_of line.now.fields) }
 {
-    let rate = rate_at(heading, line)?;
+    let has_group = names_group(heading, line);
+    let rate = heading.field_of(line, ImportColumn::Rate);
+    let rate = if_group(has_group, rate, rate_in(rate), 0).ok_or(ImportColumn::Rate)?;
     let label = label_in(heading.field_of(line, ImportColumn::Label)).ok_or(ImportColumn::Label)?;
     let sdi = sdi_in(heading.field_of(line, ImportColumn::Sdi)).ok_or(ImportColumn::Sdi)?;
     let min_us = limit_at(heading, line, ImportColumn::MinUs, true, heading.min_form)?;
     let max_us = limit_at(heading, line, ImportColumn::MaxUs, false, heading.max_form)?;
-    let hold = hold_at(heading, line)?;
+    let hold = heading.field_of(line, ImportColumn::Hold);
+    let hold = if_group(has_group, hold, hold_in(hold), None).ok_or(ImportColumn::Hold)?;
     Ok(RowNumbers {
         rate,
         label,
@@ -173,9 +152,10 @@ pub fn row_numbers(heading: &Heading, line: &CsvLine) -> Result<RowNumbers, Impo
 fn text_fields<'a>(heading: &Heading, line: &'a CsvLine) -> Result<TextFields<'a>, ImportColumn>
     ensures { result_map_both texts_view (λ c. c) result ≡ texts_of (fields_of heading.now.line.fields) (fields_of line.now.fields) }
 {
-    let group = text_at(heading, line, ImportColumn::Group)?;
-    let source = text_at(heading, line, ImportColumn::Source)?;
-    let receiver = text_at(heading, line, ImportColumn::Receiver)?;
+    let group = text_in(heading.field_of(line, ImportColumn::Group)).ok_or(ImportColumn::Group)?;
+    let source = text_in(heading.field_of(line, ImportColumn::Source)).ok_or(ImportColumn::Source)?;
+    let receiver = heading.field_of(line, ImportColumn::Receiver);
+    let receiver = text_in(receiver).ok_or(ImportColumn::Receiver)?;
     let filters = heading.field_of(line, ImportColumn::Filters);
     let filters = filters_in(filters).ok_or(ImportColumn::Filters)?;
     Ok(TextFields {
