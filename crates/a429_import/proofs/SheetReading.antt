@@ -9,15 +9,19 @@ use Rattle.a429_import.specs.declared.lines.CsvLine.{CsvLine}
 use Rattle.a429_import.specs.declared.reading.LinesRead.{LinesRead}
 use Rattle.a429_import.specs.declared.sheet_reading.BelowRead.{BelowRead}
 use Rattle.a429_import.specs.ImportMaps.{IsNamedBy}
-use Rattle.a429_import.specs.Imports.{IsFilledImport, IsImportBy, IsImportFrom, IsSheetImport}
-use Rattle.a429_import.specs.ImportReading.{HasNoRow, KnowsNothing, StandsFor, heading_fault}
-use Rattle.a429_import.specs.KeptFields.{KeepsTexts}
+use Rattle.a429_import.specs.Imports.{IsFilledImport, IsImportBy, IsImportFrom, IsSheetImport, IsTableBy}
+use Rattle.a429_import.specs.ImportReading.{HasNoRow, KnowsNothing, SayRows, StandsFor, heading_fault}
+use Rattle.a429_import.specs.KeptFields.{KeepsTexts, kept_of, lines_kept}
 use Rattle.a429_import.specs.KeyedLines.{IsKeyedLine}
 use Rattle.a429_import.specs.Known.{Knows}
 use Rattle.a429_import.specs.declared.known.Known.{Known}
 use Rattle.a429_import.specs.SheetReading.{AreFilledIf, IsFilledIf, ReadsBelow, ReadsHeaded, ReadsKeyed, ReadsNothing}
 use Rattle.a429_import.proofs.FilledLines.{more_filled, none_filled}
-use Rattle.a429_import.proofs.ImportReading.{heading_only}
+use Rattle.std.specs.Prelude.{IfOk, vec_len}
+use Rattle.a429_import.specs.NumberRanges.{HaveRanges}
+use Rattle.a429_import.proofs.ImportRanges.{stated_in_range}
+use Rattle.a429_import.proofs.ImportReading.{heading_only, kept_read, notes_read, rows_read}
+use Rattle.a429_import.proofs.Imports.{import_from, table_by_same}
 use Rattle.a429_import.proofs.Knowing.{zip_push}
 
 -- lines with keys of sources
@@ -37,6 +41,16 @@ pub sheet_import : (options : ImportOptions) (maps : List (List ℕ)) (heading :
 sheet_import options maps heading read lines result (first, below, are, named, known) is =
     let filled = filled_import options.fills options.makes_names heading.line below known.filled (fields_of read.above) result known.are (keyed_import options.makes_names heading.line read.lines known.filled result known.reads is) in
     subst (λ (ls : List CsvLine). IsSheetImport maps options ls result) (sym are) (true, heading.line ∷ below, (refl, (heading.line, named, refl)), filled)
+
+-- the table of the rows that lines below a heading state
+pub table_stated : (makes_names : Bool) (heading : CsvLine) (read : LinesRead) (below : List CsvLine) (result : Result Imported ImportFault) (notes : ℕ) → SayRows heading below read → notes ≡ vec_len read.notes.rows
+    → IfOk result (λ (made : Imported). made.notes ≡ notes) → (HaveRanges read.known.rows.items → IsTableBy (lines_kept read.kept) makes_names read.known.rows.items result) → IsImportFrom makes_names (heading ∷ below) result
+table_stated makes_names heading read below result notes known counted has table =
+    let lines = heading ∷ below in
+    let rows = read.known.rows.items in
+    let are = rows_read heading read below known in
+    import_from makes_names lines rows result notes are (counted ∙ notes_read heading read below known) has
+    (table_by_same (lines_kept read.kept) (kept_of lines) (kept_read heading read below known) makes_names rows result (table (stated_in_range lines rows are)))
 
 -- what the lines of a sheet are read as
 lines_of : (makes_names : Bool) (heading : CsvLine) (read : LinesRead) (lines : List CsvLine) → ReadsKeyed makes_names heading read lines → (below : List CsvLine) × StandsFor heading read below

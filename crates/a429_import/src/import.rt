@@ -5,7 +5,7 @@ ghost use Rattle.a429_import.specs.FaultLines.{fault_line};
 ghost use Rattle.a429_import.specs.ImportForms.{from_heading, separator_in};
 ghost use Rattle.a429_import.specs.ImportMaps.{given_texts};
 ghost use Rattle.a429_import.specs.ImportReading.{StandsFor};
-ghost use Rattle.a429_import.specs.Imports.{IsImport, IsImportFrom, IsSheetImport, IsTableBy, IsTableOf, is_unfit, separated};
+ghost use Rattle.a429_import.specs.Imports.{IsImport, IsImportFrom, IsSheetImport, IsTableOf, is_unfit, separated};
 ghost use Rattle.a429_import.specs.KeptFields.{lines_kept};
 ghost use Rattle.a429_import.specs.Known.{Knows};
 ghost use Rattle.a429_import.specs.LineCounts.{IsEnd};
@@ -97,29 +97,6 @@ fn table_with_names(
     table_of_rows(alloc, comments, &renamed, notes)
 }
 
-/// The same, with names if the flag is set.
-fn table_by(
-    alloc: Global,
-    makes_names: bool,
-    known: &Known,
-    kept: &KeptTexts,
-    notes: usize,
-) -> Result<Imported, ImportFault>
-    requires known { Knows known.now }
-    ensures table { HaveRanges known.now.rows.items → IsTableBy (lines_kept kept.now) makes_names known.now.rows.items result }
-    ensures notes { IfOk result (λ made. made.notes ≡ notes) }
-{
-    if makes_names {
-        table_with_names(alloc, known, kept, notes)
-    } else {
-        let comments = Comments {
-            made_of: None,
-            kept,
-        };
-        table_of_rows(alloc, comments, known, notes)
-    }
-}
-
 /// The table that lines below a heading describe.
 fn table_below(
     alloc: Global,
@@ -132,15 +109,18 @@ fn table_below(
         → IsImportFrom makes_names (heading.now.line ∷ below) result }
 {
     match read.fault.take() {
-        Some(fault) => Err(fault),
-        None => table_by(
-            alloc,
-            makes_names,
-            &read.known,
-            &read.kept,
-            read.notes.len(),
-        ),
+        Some(fault) => return Err(fault),
+        None => {}
     }
+    let notes = read.notes.len();
+    if makes_names {
+        return table_with_names(alloc, &read.known, &read.kept, notes);
+    }
+    let comments = Comments {
+        made_of: None,
+        kept: &read.kept,
+    };
+    table_of_rows(alloc, comments, &read.known, notes)
 }
 
 /// The table that the lines of a sheet describe.
