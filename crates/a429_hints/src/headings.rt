@@ -9,7 +9,8 @@ use crate::lists::{LISTED, field_count, say_more};
 use crate::nearest::Nearest;
 use crate::retries::{say_command, say_map};
 use a429_import::{
-    CsvLine, IMPORT_COLUMNS, ImportColumn, column_in, is_about, is_column, is_column_named, is_met,
+    CsvLine, IMPORT_COLUMNS, ImportColumn, column_in, has_heading, is_column, is_column_named,
+    is_met,
 };
 use a429_text::renames::halves;
 use std::alloc::Global;
@@ -42,22 +43,12 @@ fn tell_unmet(titles: &CsvLine, text: &str, hint: &HintText) {
 fn tell_keep(titles: &CsvLine, text: &str, name: &str, hint: &HintText) {
     hint.begin(": ");
     hint.say_one("--keep-columns {?}", name);
-    if has_field(titles, text) {
+    if has_heading(titles, text) {
         return hint.end(
             ": only a column that is there once, and is not read as another, can go along",
         );
     }
     say_missing(titles, name, hint);
-}
-
-/// Whether HEADING of a text is a field of the heading.
-fn has_field(titles: &CsvLine, text: &str) -> bool {
-    for place in 0..field_count(titles) {
-        if is_about(titles.field(place), text) {
-            return true;
-        }
-    }
-    false
 }
 
 /// Says that the heading lacks a field, which field is nearest, and which fields it has.

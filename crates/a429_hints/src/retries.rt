@@ -28,10 +28,7 @@ fn field_of<'a>(
 ) -> &'a [u8] {
     match guess_for(guesses, column) {
         Some(guess) => row.field(guess.place),
-        None => match file.heading.place(column) {
-            Some(place) => row.field(place),
-            None => &[],
-        },
+        None => file.field(row, column),
     }
 }
 

@@ -1,18 +1,23 @@
 -- On which line the fault is that comes before those of rows.
-use Rattle.std.proofs.Common.{◌≡◌, ◌∙◌, ◌+◌, ◌<◌, ◌≤◌, ℕ, Bool, true, false, cond, List, [], ◌∷◌, ◌++◌, Option, None, Some, ap, ap₂, arith, drop, get_or, length, map, refl, sym}
+use Rattle.std.proofs.Common.{◌≡◌, ◌∙◌, ◌+◌, ◌<◌, ◌≤◌, ℕ, zero, suc, Bool, true, false, cond, List, [], ◌∷◌, ◌++◌, Option, None, Some, ap, ap₂, arith, drop, get_or, length, map, refl, sym}
+use Rattle.std.specs.Prelude.{◌||◌, is_some}
+use Rattle.std.specs.List.{list_any}
 use Rattle.std.specs.Option.{option_map, option_or}
 use Rattle.std.proofs.lemmas.List.{drop_all, drop_more, length-map, map-append}
-use Rattle.csv.specs.Machine.{step}
-use Rattle.csv.specs.Reading.{strip_bom}
+use Rattle.csv.specs.Machine.{Read, next_record, step}
+use Rattle.csv.specs.Reading.{records, records_from, records_next, strip_bom}
 use Rattle.csv.specs.Records.{fields_of}
 use Rattle.csv.specs.declared.parser.Config.{Config}
 use Rattle.csv.specs.declared.parser.State.{State}
 use Rattle.csv.specs.declared.parser.State.TheVariants as st
 use Rattle.a429_import.specs.declared.lines.CsvLine.{CsvLine}
-use Rattle.a429_import.specs.FaultLines.{number_of, wrong_from, wrong_line}
-use Rattle.a429_import.specs.ImportQuotes.{breaks_quotes, is_inside_quotes}
+use Rattle.a429_import.specs.FaultLines.{data_line, data_line_above, fault_line, number_of, quotes_line, wrong_from, wrong_in, wrong_line}
+use Rattle.a429_import.specs.ImportAbove.{first_row, has_data, has_data_above, is_data}
+use Rattle.a429_import.specs.ImportMaps.{names_by}
+use Rattle.a429_import.specs.ImportQuotes.{breaks_quotes, has_wrong_quotes, is_inside_quotes, is_misquoted, is_misquoted_from, text_before}
 use Rattle.a429_import.specs.ImportSteps.{ended_by, ends_field}
-use Rattle.a429_import.specs.RowLines.{from_row, line_of}
+use Rattle.a429_import.specs.RowLines.{and_next, from_row, line_of, lines_from, row_lines}
+use Rattle.a429_import.specs.ImportWords.{trimmed}
 
 -- ---- wrong quotes
 
@@ -85,3 +90,61 @@ unfolding number_of
 number_mapped passes f [] numbers = refl
 number_mapped passes f (row ∷ rows) [] = refl
 number_mapped passes f (row ∷ rows) (n ∷ numbers) = ap (λ (o : Option ℕ). cond (passes (f row)) (Some n) o) (number_mapped passes f rows numbers)
+
+-- ---- whether there is a fault
+
+is_some_cond : {X : Type 0} (b : Bool) (x : X) (o : Option X) → is_some (cond b (Some x) o) ≡ (b || is_some o)
+is_some_cond true x o = refl
+is_some_cond false x o = refl
+
+is_some_or : {X : Type 0} (a b : Option X) → is_some (option_or a b) ≡ (is_some a || is_some b)
+is_some_or None b = refl
+is_some_or (Some x) b = refl
+
+is_some_map : {X Y : Type 0} (f : X → Y) (o : Option X) → is_some (option_map f o) ≡ is_some o
+is_some_map f None = refl
+is_some_map f (Some x) = refl
+
+or_none : (b : Bool) → (b || false) ≡ b
+or_none true = refl
+or_none false = refl
+
+some_wrong : (of_rows : Bool) (cfg : Config) (s : State) (field text : List ℕ) → is_some (wrong_from of_rows cfg s field text) ≡ is_misquoted_from of_rows cfg s text
+unfolding wrong_from is_misquoted_from
+some_wrong of_rows cfg s field [] = is_some_cond (is_inside_quotes s) field None ∙ or_none (is_inside_quotes s)
+some_wrong of_rows cfg s field (b ∷ rest) =
+    is_some_cond (breaks_quotes of_rows s (step cfg s b).0) field _
+    ∙ ap (λ t. breaks_quotes of_rows s (step cfg s b).0 || t) (some_wrong of_rows cfg (step cfg s b).0 (cond (ends_field (ended_by (step cfg s b).1)) rest field) rest)
+
+some_line : (of_rows : Bool) (cfg : Config) (text end : List ℕ) → is_some (wrong_line of_rows cfg text end) ≡ is_misquoted of_rows cfg end
+some_line of_rows cfg text end = is_some_map (λ field. line_of text (from_row field)) (wrong_in of_rows cfg (strip_bom end)) ∙ some_wrong of_rows cfg st.StartRecord (strip_bom end) (strip_bom end)
+
+some_number : (passes : List (List ℕ) → Bool) (rows : List (List (List ℕ))) (numbers : List ℕ) → length rows ≡ length numbers → is_some (number_of passes rows numbers) ≡ list_any passes rows
+unfolding number_of
+some_number passes [] numbers same = refl
+some_number passes (row ∷ rows) [] same = absurd (omega (arith, same))
+some_number passes (row ∷ rows) (n ∷ numbers) same = is_some_cond (passes row) n _ ∙ ap (λ t. passes row || t) (some_number passes rows numbers (omega (arith, same)))
+
+lines_count : (cfg : Config) (text : List ℕ) (n : ℕ) (s : State) (end : List ℕ) → length (lines_from cfg text (length (records_from cfg n s end)) s end) ≡ length (records_from cfg n s end)
+unfolding records_from lines_from
+lines_count cfg text zero s end = refl
+lines_count cfg text (suc n) s end = by (next_record cfg s [] [] end) refl (λ p. lines_count cfg text n p.1 p.2)
+  where
+    by : (o : Option Read) → next_record cfg s [] [] end ≡ o → ((p : Read) → length (lines_from cfg text (length (records_from cfg n p.1 p.2)) p.1 p.2) ≡ length (records_from cfg n p.1 p.2))
+        → length (lines_from cfg text (length (records_next (records_from cfg n) o)) s end) ≡ length (records_next (records_from cfg n) o)
+    by None is later = refl
+    by (Some p) is later = ap (λ q. length (and_next (line_of text (from_row end)) (lines_from cfg text (length (records_from cfg n p.1 p.2))) q)) is ∙ ap suc (later p)
+
+some_data : (cfg : Config) (heading : List (List ℕ)) (text : List ℕ) → is_some (data_line cfg heading text) ≡ has_data cfg heading text
+some_data cfg heading text =
+    let rows = records cfg (strip_bom text) in
+    some_number (λ fields. is_data heading (map trimmed fields)) rows (row_lines cfg text (length rows) text) (sym (lines_count cfg text (length (strip_bom text) + 1) st.StartRecord (strip_bom text)))
+
+-- there is a line exactly if there is a fault
+pub some_fault : (cfg : Config) (maps : List (List ℕ)) (rest text : List ℕ) → is_some (fault_line cfg maps rest text) ≡ (has_wrong_quotes cfg rest text || has_data_above cfg maps rest text)
+some_fault cfg maps rest text =
+    is_some_or (quotes_line cfg rest text) (data_line_above cfg maps rest text)
+    ∙ ap₂ (λ a b. a || b)
+    (is_some_or (wrong_line false cfg (text_before rest text) (text_before rest text)) (wrong_line true cfg text rest)
+    ∙ ap₂ (λ a b. a || b) (some_line false cfg (text_before rest text) (text_before rest text)) (some_line true cfg text rest))
+    (some_data cfg (names_by maps (first_row cfg rest)) (text_before rest text))

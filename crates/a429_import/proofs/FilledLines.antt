@@ -1,16 +1,10 @@
 -- Lines whose empty fields are filled from above, with one more field or one more line.
-use Rattle.std.proofs.Common.{◌≡◌, ◌∙◌, ◌+◌, ◌<◌, ℕ, zero, suc, Bool, false, true, List, [], ◌∷◌, ◌++◌, Option, None, Some, get_or, length, take, ap, arith, refl, subst, sym}
+use Rattle.std.proofs.Common.{◌≡◌, ◌∙◌, ◌+◌, ◌<◌, ℕ, zero, suc, Bool, false, true, List, [], ◌∷◌, ◌++◌, get_or, length, take, ap, ap₂, arith, refl, subst, sym}
 use Rattle.csv.specs.Records.{fields_of}
-use Rattle.csv.specs.declared.record.ByteRecord.{ByteRecord}
-use Rattle.a429_import.specs.declared.filled_reading.Filler.{Filler}
 use Rattle.a429_import.specs.declared.lines.CsvLine.{CsvLine}
-use Rattle.a429_import.specs.declared.reading.LinesRead.{LinesRead}
-use Rattle.a429_import.specs.FilledLines.{AreFilled, AreFilledBelow, IsFilledLine, filled_below, filled_from}
-use Rattle.a429_import.specs.FilledReading.{FilledBelow, HasFilled, IsReadIf, last_fields}
+use Rattle.a429_import.specs.FilledLines.{AreFilled, IsFilledLine, filled_below, filled_from}
 use Rattle.a429_import.specs.ImportFields.{field_in}
-use Rattle.a429_import.specs.ImportReading.{StandsFor}
-use Rattle.a429_import.specs.RenamedReading.{IsReadBy}
-use Rattle.a429_import.proofs.RenamedReading.{read_nothing}
+use Rattle.a429_import.specs.SheetReading.{AreFilledIf, IsFilledIf, last_fields}
 
 -- ---- one more field
 
@@ -43,48 +37,14 @@ last_push : (above : List (List ℕ)) (lines : List CsvLine) (line : CsvLine) �
 last_push above [] line = refl
 last_push above (l ∷ lines) line = last_push (fields_of l.fields) lines line
 
-pub more_filled : (heading above last : List (List ℕ)) (makes_names : Bool) (old new : LinesRead) (lines : List CsvLine) (line filled : CsvLine) (known : FilledBelow heading above makes_names old lines)
-    → IsFilledLine heading above line filled → last ≡ fields_of filled.fields → IsReadBy makes_names new (known.first ∷ known.filled ++ filled ∷ [])
-    → FilledBelow heading last makes_names new (lines ++ line ∷ [])
-more_filled heading above last makes_names old new lines line filled known is last_is read = record {
-  first = known.first;
-  below = known.below ++ line ∷ [];
-  lines_are = ap (λ (ls : List CsvLine). ls ++ line ∷ []) known.lines_are;
-  heading_is = known.heading_is;
-  filled = known.filled ++ filled ∷ [];
-  are = filled_push heading [] known.below known.filled line filled known.are (subst (λ (a : List (List ℕ)). IsFilledLine heading a line filled) known.last is);
-  last = last_is ∙ sym (last_push [] known.filled filled);
-  read_by = read;
-}
+pub more_filled : (fills : Bool) (heading above last : List (List ℕ)) (lines filled : List CsvLine) (line more : CsvLine) → AreFilledIf fills heading lines above filled → IsFilledIf fills heading above line last more
+    → AreFilledIf fills heading (lines ++ line ∷ []) last (filled ++ more ∷ [])
+more_filled false heading above last lines filled line more are is = ap₂ (λ (ls : List CsvLine) (l : CsvLine). ls ++ l ∷ []) are is
+more_filled true heading above last lines filled line more are is = (
+  filled_push heading [] lines filled line more are.0 (subst (λ (a : List (List ℕ)). IsFilledLine heading a line more) are.1 is.0),
+  is.1 ∙ sym (last_push [] filled more),
+)
 
--- ---- the heading
-
-pub first_filled : (heading above : List (List ℕ)) (makes_names : Bool) (new : LinesRead) (lines : List CsvLine) (line : CsvLine) → lines ≡ [] → above ≡ [] → heading ≡ fields_of line.fields
-    → IsReadBy makes_names new (line ∷ []) → FilledBelow heading above makes_names new (lines ++ line ∷ [])
-first_filled heading above makes_names new lines line none nothing is read = record {
-  first = line;
-  below = [];
-  lines_are = ap (λ (ls : List CsvLine). ls ++ line ∷ []) none;
-  heading_is = is;
-  filled = [];
-  are = refl;
-  last = nothing;
-  read_by = read;
-}
-
--- ---- all lines
-
-pub filled_of : (o : Option ByteRecord) (above : List (List ℕ)) (makes_names : Bool) (read : LinesRead) (lines : List CsvLine) → HasFilled o above makes_names read lines
-    → (filled : List CsvLine) × AreFilledBelow lines filled × IsReadBy makes_names read filled
-filled_of None above makes_names read lines known = ([], subst (λ (ls : List CsvLine). AreFilledBelow ls []) (sym known.0) refl, known.2)
-filled_of (Some heading) above makes_names read lines known =
-    let are : AreFilled (fields_of known.first.fields) [] known.below known.filled = subst (λ (h : List (List ℕ)). AreFilled h [] known.below known.filled) known.heading_is known.are in
-    (known.first ∷ known.filled, subst (λ (ls : List CsvLine). AreFilledBelow ls (known.first ∷ known.filled)) (sym known.lines_are) (known.filled, are, refl), known.read_by)
-
--- ---- nothing was read
-
-pub nothing_read : (fills makes_names : Bool) (filler : Filler) (read : LinesRead) → filler.heading ≡ None → fields_of filler.above ≡ [] → StandsFor read [] → read.heading ≡ None
-    → IsReadIf fills filler makes_names read []
-nothing_read false makes_names filler read headed above stands none = read_nothing makes_names read stands none
-nothing_read true makes_names filler read headed above stands none =
-    subst (λ o. HasFilled o (fields_of filler.above) makes_names read []) (sym headed) (refl, above, read_nothing makes_names read stands none)
+pub none_filled : (fills : Bool) (heading above : List (List ℕ)) → above ≡ [] → AreFilledIf fills heading [] above []
+none_filled false heading above nothing = refl
+none_filled true heading above nothing = (refl, nothing)

@@ -1,11 +1,9 @@
 -- All records of a text are those that its reader gives.
 use Rattle.std.proofs.Common.{Bor, ◌≡◌, ◌∙◌, ◌∷◌, ◌++◌, ◌+◌, ◌-◌, ◌≤◌, [], ℕ, true, false, zero, suc, Bool, List, None, Option, Some, ap, ap₂, arith, get_or, length, map, refl, subst, sym}
-use Rattle.std.specs.Prelude.{◌||◌, ◌==◌, if◌then◌else◌}
-use Rattle.std.specs.List.{list_any}
+use Rattle.std.specs.Prelude.{◌==◌, if◌then◌else◌}
 use Rattle.std.specs.Option.{option_map_or}
 use Rattle.std.proofs.lemmas.Bool.{eqb-true}
-use Rattle.std.proofs.lemmas.List.{length-map, map-append}
-use Rattle.std.proofs.lemmas.List.Folds.{list_any-append}
+use Rattle.std.proofs.lemmas.List.{length-map}
 use Rattle.std.proofs.lemmas.Option.{none-some, same_Some}
 use Rattle.csv.specs.Machine.{Read, ends_at_end, field_after, fields_after, is_end, next_record, step}
 use Rattle.csv.specs.Reading.{AreRecords, Reached, ReadRecord, records, records_from, records_next, strip_bom}
@@ -18,7 +16,7 @@ use Rattle.csv.proofs.ReadFacts.{rows-end}
 use Rattle.a429_import.specs.declared.lines.CsvLine.{CsvLine}
 use Rattle.a429_import.specs.declared.lines.LineCount.{LineCount}
 use Rattle.a429_import.specs.FaultLines.{data_line, number_of}
-use Rattle.a429_import.specs.ImportAbove.{first_row, has_data, is_data}
+use Rattle.a429_import.specs.ImportAbove.{first_row, is_data}
 use Rattle.a429_import.specs.ImportReading.{HasRead}
 use Rattle.a429_import.specs.Imports.{separated}
 use Rattle.a429_import.specs.ImportWords.{trimmed}
@@ -92,8 +90,8 @@ first_of separator text s ys (row ∷ rows) fields reached same =
     ap (λ (zs : List (List (List ℕ))). get_or zs 0 []) same ∙ ap (map trimmed) (reached.2 ∙ sym (ap (λ (o : Option Read). option_map_or (λ (p : Read). p.0) o []) reached.1))
 
 -- the first line that is read has the fields of the first row
-pub first_is : (separator : ℕ) (text : List ℕ) (a : Reader (Bor (List ℕ))) (count : LineCount) (line : CsvLine) → HasRead separator text text a count (line ∷ []) → fields_of line.fields ≡ first_row (separated separator) text
-first_is separator text a count line has = first_of separator text a.state has.rest has.rows (fields_of line.fields) has.reached has.fields
+pub first_is : (separator : ℕ) (file text : List ℕ) (a : Reader (Bor (List ℕ))) (count : LineCount) (line : CsvLine) → HasRead separator file text a count (line ∷ []) → fields_of line.fields ≡ first_row (separated separator) text
+first_is separator file text a count line has = first_of separator text a.state has.rest has.rows (fields_of line.fields) has.reached has.fields
 
 none_first : (separator : ℕ) (text : List ℕ) (s : State) (ys : List ℕ) (rows : List (List (List ℕ))) → Reached (separated separator) st.StartRecord (strip_bom text) rows s ys → ◌≡◌ {A = List (List (List ℕ))} [] (map (map trimmed) rows)
     → next_record (separated separator) s [] [] ys ≡ None → [] ≡ first_row (separated separator) text
@@ -103,35 +101,9 @@ none_first separator text s ys [] reached same end =
     sym (ap (λ (o : Option Read). map trimmed (option_map_or (λ (p : Read). p.0) o [])) first)
 none_first separator text s ys (row ∷ rows) reached same end = absurd (omega (arith, ap length same))
 
-pub no_first : (separator : ℕ) (text : List ℕ) (a b : Reader (Bor (List ℕ))) (count : LineCount) → HasRead separator text text a count [] → ReadRecord (λ s. Some s.now) a b false [] → [] ≡ first_row (separated separator) text
-no_first separator text a b count has end =
+pub no_first : (separator : ℕ) (file text : List ℕ) (a b : Reader (Bor (List ℕ))) (count : LineCount) → HasRead separator file text a count [] → ReadRecord (λ s. Some s.now) a b false [] → [] ≡ first_row (separated separator) text
+no_first separator file text a b count has end =
     none_first separator text a.state has.rest has.rows has.reached has.fields (rows-end (λ (s : Bor (List ℕ)). Some s.now) a b [] (separated separator) has.rest has.config has.source end)
-
--- a row of data is among the lines that were read
-abbrev pub has_data_line : List (List ℕ) → List CsvLine → Bool
-has_data_line heading lines = list_any (is_data heading) (map (λ l. fields_of l.fields) lines)
-
-or_none : (b : Bool) → (b || false) ≡ b
-or_none true = refl
-or_none false = refl
-
-pub one_more : (heading : List (List ℕ)) (lines : List CsvLine) (line : CsvLine) (before after : Bool) → before ≡ has_data_line heading lines → after ≡ (before || is_data heading (fields_of line.fields)) → after ≡ has_data_line heading (lines ++ line ∷ [])
-one_more heading lines line before after known found =
-    let own : Bool = is_data heading (fields_of line.fields) in
-    found ∙ ap₂ (λ (a b : Bool). a || b) known (sym (or_none own))
-    ∙ sym (list_any-append (is_data heading) (map (λ (l : CsvLine). fields_of l.fields) lines) (fields_of line.fields ∷ []))
-    ∙ sym (ap (list_any (is_data heading)) (map-append (λ (l : CsvLine). fields_of l.fields) lines (line ∷ [])))
-
-any_trimmed : (passes : List (List ℕ) → Bool) (rows : List (List (List ℕ))) → list_any passes (map (map trimmed) rows) ≡ list_any (λ row. passes (map trimmed row)) rows
-any_trimmed passes [] = refl
-any_trimmed passes (row ∷ rows) = ap (λ (b : Bool). passes (map trimmed row) || b) (any_trimmed passes rows)
-
-pub data_read : (separator : ℕ) (heading : List (List ℕ)) (text : List ℕ) (a b : Reader (Bor (List ℕ))) (count : LineCount) (lines : List CsvLine) → HasRead separator text text a count lines → ReadRecord (λ s. Some s.now) a b false []
-    → has_data_line heading lines ≡ has_data (separated separator) heading text
-data_read separator heading text a b count lines has end =
-    let none = rows-end (λ (s : Bor (List ℕ)). Some s.now) a b [] (separated separator) has.rest has.config has.source end in
-    let same = records_are (separated separator) (strip_bom text) has.rows (a.state, has.rest, has.reached, none) in
-    ap (list_any (is_data heading)) has.fields ∙ any_trimmed (is_data heading) has.rows ∙ sym (ap (list_any (λ (row : List (List ℕ)). is_data heading (map trimmed row))) same)
 
 -- the line of the first row of data is that of the lines that were read
 pub line_read : (separator : ℕ) (heading : List (List ℕ)) (text : List ℕ) (a b : Reader (Bor (List ℕ))) (count : LineCount) (lines : List CsvLine) → HasRead separator text text a count lines → ReadRecord (λ s. Some s.now) a b false []
@@ -152,10 +124,6 @@ line_read separator heading text a b count lines has end =
 no_records : (cfg : Config) → records cfg (strip_bom []) ≡ []
 unfolding records_from next_record strip_bom
 no_records cfg = refl
-
-pub no_data : (cfg : Config) (heading : List (List ℕ)) (text : List ℕ) → (length text == 0) ≡ true → false ≡ has_data cfg heading text
-no_data cfg heading [] none = sym (ap (list_any (λ (row : List (List ℕ)). is_data heading (map trimmed row))) (no_records cfg))
-no_data cfg heading (b ∷ text) none = absurd (omega (arith, eqb-true (length (b ∷ text)) 0 none))
 
 pub no_data_line : (cfg : Config) (heading : List (List ℕ)) (text : List ℕ) → (length text == 0) ≡ true → None ≡ data_line cfg heading text
 unfolding number_of

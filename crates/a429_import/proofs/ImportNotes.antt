@@ -14,7 +14,7 @@ use Rattle.a429_import.specs.declared.fault.ImportFault.{ImportFault}
 use Rattle.a429_import.specs.declared.fault.ImportFault.TheVariants.{NoMemory, Csv, Table}
 use Rattle.a429_import.specs.declared.lines.CsvLine.{CsvLine}
 use Rattle.a429_import.specs.declared.notes.Notes.{Notes}
-use Rattle.a429_import.specs.declared.reading.RowsRead.{RowsRead}
+use Rattle.a429_import.specs.declared.known.Known.{Known}
 use Rattle.a429_import.specs.declared.rows.ImportRow.{ImportRow}
 use Rattle.a429_import.specs.declared.rows.RowNumbers.{RowNumbers}
 use Rattle.a429_import.specs.declared.rows.RowTexts.{RowTexts}
@@ -145,7 +145,7 @@ module _ (heading : List (List ℕ)) (below : List CsvLine) (line : CsvLine) whe
   one_longer : length all ≡ length below + 1
   one_longer = length-append below (line ∷ [])
 
-  module _ (read : RowsRead) (old : Notes) (known : AreBelow heading below read old) where
+  module _ (read : Known) (old : Notes) (known : AreBelow heading below read old) where
     -- a row that may be a note
     pub note_taken : (new : Notes) → vec_len new.rows ≡ vec_len old.rows + 1 → new.is_labelled ≡ old.is_labelled → HoldsFirst old.held new.held (row_of heading line)
         → old.is_labelled ≡ true → has_label heading line ≡ false → AreBelow heading all read new
@@ -154,13 +154,12 @@ module _ (heading : List (List ℕ)) (below : List CsvLine) (line : CsvLine) whe
         let same : without_notes heading all ≡ without_notes heading below = all_same (has_label heading) line below any none in
         let lengths : length (without_notes heading all) ≡ length (without_notes heading below) = ap length same in
         record {
-          rows = known.rows;
           stated = ap (rows_after heading []) same ∙ known.stated;
-          held = held_more known.rows old.held new.held holds known.held;
+          held = held_more read.rows.items old.held new.held holds known.held;
           labelled = labelled ∙ some ∙ sym (any_more (has_label heading) line below ∙ ap₂ (λ (a b : Bool). a || b) any none);
           count = omega (arith, lengths, count, known.count, one_longer);
           agree = known.agree;
-          has = known.has;
+          knows = known.knows;
         }
 
     -- a row that is no note
@@ -171,29 +170,28 @@ module _ (heading : List (List ℕ)) (below : List CsvLine) (line : CsvLine) whe
     is_stated : (old.is_labelled && not (has_label heading line)) ≡ false → without_notes heading all ≡ all
     is_stated h = stated_by (has_label heading line) refl h
 
-    pub held_taken : (e : ImportFault) (new : RowsRead) (notes : Notes) → old.held ≡ Some e → (old.is_labelled && not (has_label heading line)) ≡ false → AreTaken (Err e) heading all new notes
+    pub held_taken : (e : ImportFault) (new : Known) (notes : Notes) → old.held ≡ Some e → (old.is_labelled && not (has_label heading line)) ≡ false → AreTaken (Err e) heading all new notes
     held_taken e new notes is none =
-        let held = subst (λ o. IsHeld o known.rows (rows_after heading [] below)) is known.held in
+        let held = subst (λ o. IsHeld o read.rows.items (rows_after heading [] below)) is known.held in
         subst (λ ls. IsFault e (rows_after heading [] ls)) (sym (is_stated none)) (refused_after e held)
 
-    pub row_taken : (result : Result (Unit {0}) ImportFault) (new : RowsRead) (notes : Notes) → old.held ≡ None → (old.is_labelled && not (has_label heading line)) ≡ false
-        → notes.held ≡ None → vec_len notes.rows ≡ 0 → notes.is_labelled ≡ (old.is_labelled || has_label heading line) → IsTaken result new (with_line heading known.rows line) → AreTaken result heading all new notes
-    row_taken (Ok u) new notes is none held count labelled (rows, stated, agree, has) =
-        let was = subst (λ o. IsHeld o known.rows (rows_after heading [] below)) is known.held in
-        let after : rows_after heading [] all ≡ Ok rows = stated_after known.rows was ∙ stated in
+    pub row_taken : (result : Result (Unit {0}) ImportFault) (new : Known) (notes : Notes) → old.held ≡ None → (old.is_labelled && not (has_label heading line)) ≡ false
+        → notes.held ≡ None → vec_len notes.rows ≡ 0 → notes.is_labelled ≡ (old.is_labelled || has_label heading line) → IsTaken result new (with_line heading read.rows.items line) → AreTaken result heading all new notes
+    row_taken (Ok u) new notes is none held count labelled (stated, agree, knows) =
+        let was = subst (λ o. IsHeld o read.rows.items (rows_after heading [] below)) is known.held in
+        let after : rows_after heading [] all ≡ Ok new.rows.items = stated_after read.rows.items was ∙ stated in
         let lengths : length (without_notes heading all) ≡ length all = ap length (is_stated none) in
         record {
-          rows = rows;
           stated = ap (rows_after heading []) (is_stated none) ∙ after;
-          held = subst (λ o. IsHeld o rows (rows_after heading [] all)) (sym held) after;
+          held = subst (λ o. IsHeld o new.rows.items (rows_after heading [] all)) (sym held) after;
           labelled = labelled ∙ ap (λ (b : Bool). b || has_label heading line) known.labelled ∙ sym (any_more (has_label heading) line below);
           count = omega (arith, lengths, count);
           agree = agree;
-          has = has;
+          knows = knows;
         }
     row_taken (Err e) new notes is none held count labelled refused =
-        let was = subst (λ o. IsHeld o known.rows (rows_after heading [] below)) is known.held in
-        subst (λ ls. IsFault e (rows_after heading [] ls)) (sym (is_stated none)) (row_refused e known.rows was refused)
+        let was = subst (λ o. IsHeld o read.rows.items (rows_after heading [] below)) is known.held in
+        subst (λ ls. IsFault e (rows_after heading [] ls)) (sym (is_stated none)) (row_refused e read.rows.items was refused)
 
 -- ---- a fault stays
 

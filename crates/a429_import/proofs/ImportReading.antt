@@ -1,24 +1,23 @@
 -- What is known of lines, after one more line.
-use Rattle.std.proofs.Common.{◌≡◌, ◌∙◌, ◌+◌, ◌-◌, ℕ, List, [], ◌∷◌, ◌++◌, Option, None, Some, option_map, Result, Ok, Err, Bool, true, false, ap, append-nil, arith, length, refl, subst, sym}
+use Rattle.std.proofs.Common.{◌≡◌, ◌∙◌, ◌+◌, ℕ, List, [], ◌∷◌, ◌++◌, Option, None, Some, option_map, Result, Ok, Err, Bool, true, false, ap, append-nil, arith, refl, subst, sym}
 use Rattle.std.specs.Prelude.{OnOk, filter, is_some, unwrap_or, vec_len}
 use Rattle.std.specs.Result.{result_err}
 use Rattle.csv.specs.Records.{fields_of}
-use Rattle.a429_import.specs.declared.columns.Heading.{Heading}
 use Rattle.a429_import.specs.declared.fault.CsvFaultKind.TheVariants.{Column}
 use Rattle.a429_import.specs.declared.fault.ImportColumn.{ImportColumn}
-use Rattle.a429_import.specs.declared.fault.ImportColumn.TheVariants.{Group}
 use Rattle.a429_import.specs.declared.fault.ImportFault.{ImportFault}
 use Rattle.a429_import.specs.declared.fault.ImportFault.TheVariants.{NoMemory, Csv, Table}
+use Rattle.a429_import.specs.declared.known.Known.{Known}
 use Rattle.a429_import.specs.declared.lines.CsvLine.{CsvLine}
-use Rattle.a429_import.specs.declared.notes.Notes.{Notes}
 use Rattle.a429_import.specs.declared.reading.LinesRead.{LinesRead}
-use Rattle.a429_import.specs.declared.reading.RowsRead.{RowsRead}
 use Rattle.a429_import.specs.declared.rows.ImportRow.{ImportRow}
-use Rattle.a429_import.specs.ImportReading.{AreBelow, AreRead, AreTaken, HasNoRow, HasRows, HaveFault, HaveRows, IsAdded, IsHeadingOf, IsHeld, IsReadRow}
+use Rattle.a429_import.specs.ImportClashes.{Agree}
+use Rattle.a429_import.specs.ImportReading.{AreBelow, AreRead, AreTaken, IsAdded, IsHeld, IsReadRow, KnowsNothing, SayRows, heading_fault}
 use Rattle.a429_import.specs.ImportRows.{CsvFault, limited, note_count, rows_after, rows_stated, unless_wrong, without_notes, wrong_column}
 use Rattle.a429_import.specs.ImportLimits.{too_many}
-use Rattle.a429_import.specs.Imports.{IsImportOf, States, has_text}
+use Rattle.a429_import.specs.Imports.{States, has_text}
 use Rattle.a429_import.specs.KeptFields.{KeepsTexts, kept_of, lines_kept}
+use Rattle.a429_import.specs.Known.{Knows}
 use Rattle.a429_import.proofs.ImportNotes.{still_refused}
 
 -- a result that succeeds
@@ -34,127 +33,77 @@ refused_stays heading below line None f h =
     still_refused (fields_of heading.fields) below line f h
 refused_stays heading below line (Some column) f h = h
 
-pub fault_stays : (e : ImportFault) (lines : List CsvLine) (line : CsvLine) → HaveFault e lines → HaveFault e (lines ++ line ∷ [])
+abbrev IsFault : ImportFault → CsvLine → List CsvLine → Type 0
+IsFault e heading below = States {X = List ImportRow} (λ rows. rows) (Err e) (rows_stated (heading ∷ below))
+
+fault_stays : (e : ImportFault) (heading : CsvLine) (below : List CsvLine) (line : CsvLine) → IsFault e heading below → IsFault e heading (below ++ line ∷ [])
 unfolding rows_stated
-fault_stays e [] line h = absurd h
-fault_stays NoMemory (heading ∷ below) line h = tt
-fault_stays (Csv number kind column) (heading ∷ below) line h = refused_stays heading below line (wrong_column (fields_of heading.fields)) (number, kind, column) h
-fault_stays (Table f) (heading ∷ below) line h = absurd h
+fault_stays NoMemory heading below line h = tt
+fault_stays (Csv number kind column) heading below line h = refused_stays heading below line (wrong_column (fields_of heading.fields)) (number, kind, column) h
+fault_stays (Table f) heading below line h = absurd h
 
 -- ---- the heading
 
-abbrev fault_of : ℕ → Option ImportColumn → Option ImportFault
-fault_of number o = option_map (λ column. Csv number Column (Some column)) o
-
-none_below : (heading : List (List ℕ)) (read : RowsRead) (notes : Notes) → HasRows read [] → HasNoRow notes → AreBelow heading [] read notes
-none_below heading read notes empty none =
-    let nothing : List ImportRow = [] in
-    let stated : rows_after heading [] [] ≡ Ok nothing = refl in
-    let count = none.count in
-    let sum : 0 + vec_len notes.rows ≡ 0 = omega (arith, count) in
+none_below : (heading : List (List ℕ)) (read : LinesRead) → KnowsNothing read → AreBelow heading [] read.known read.notes
+none_below heading read nothing =
+    let stated : rows_after heading [] [] ≡ Ok read.known.rows.items = ap (λ rows. Ok rows) (sym nothing.rows) in
+    let count = nothing.notes.count in
+    let sum : 0 + vec_len read.notes.rows ≡ 0 = omega (arith, count) in
     record {
-      rows = [];
       stated = stated;
-      held = subst (λ o. IsHeld o nothing (rows_after heading [] [])) (sym none.held) stated;
-      labelled = none.labelled;
+      held = subst (λ o. IsHeld o read.known.rows.items (rows_after heading [] [])) (sym nothing.notes.held) stated;
+      labelled = nothing.notes.labelled;
       count = sum;
-      agree = tt;
-      has = empty;
+      agree = subst Agree (sym nothing.rows) tt;
+      knows = nothing.knows;
     }
 
-heading_by : (new : LinesRead) (heading : Heading) (wrong : Option ImportColumn) → wrong_column (fields_of heading.line.fields) ≡ wrong → new.heading ≡ Some heading → HasRows new.rows []
-    → HasNoRow new.notes → KeepsTexts new.kept (fields_of heading.line.fields) [] → AreRead (fault_of heading.line.number wrong) new (heading.line ∷ [])
+-- what is known below a heading, which may have a fault
+pub heading_only : (read : LinesRead) (heading : CsvLine) (fault : Option ImportFault) → KnowsNothing read → fault ≡ heading_fault heading → AreRead fault read heading []
 unfolding rows_stated
-heading_by new heading None is headed empty none kept =
-    let P : Option Heading → Type 0 = λ o. HaveRows o new (heading.line ∷ []) in
-    subst P (sym headed) ([], refl, record { named = is; are = none_below (fields_of heading.line.fields) new.rows new.notes empty none; kept = kept })
-heading_by new heading (Some column) is headed empty none kept = ap (unless_wrong heading.line []) is
-
-heading_only : (old new : LinesRead) (heading : Heading) (lines : List CsvLine) (fault : Option ImportFault) → HaveRows None old lines → new.heading ≡ Some heading → new.rows ≡ old.rows
-    → new.notes ≡ old.notes → new.kept ≡ old.kept → fault ≡ fault_of heading.line.number (wrong_column (fields_of heading.line.fields)) → AreRead fault new (lines ++ heading.line ∷ [])
-heading_only old new heading lines fault known headed rows notes keeps is =
-    let empty : HasRows new.rows [] = subst (λ r. HasRows r []) (sym rows) known.1 in
-    let none : HasNoRow new.notes = subst HasNoRow (sym notes) known.2 in
-    let kept : KeepsTexts new.kept (fields_of heading.line.fields) [] = subst (λ k. KeepsTexts k (fields_of heading.line.fields) []) (sym keeps) (known.3 (fields_of heading.line.fields)) in
-    let P : Option ImportFault → Type 0 = λ f. AreRead f new (heading.line ∷ []) in
-    subst (λ ls. AreRead fault new (ls ++ heading.line ∷ [])) (sym known.0) (subst P (sym is) (heading_by new heading (wrong_column (fields_of heading.line.fields)) refl headed empty none kept))
-
-pub heading_read : (old new : LinesRead) (heading : Heading) (line : CsvLine) (lines : List CsvLine) (fault : Option ImportFault) → HaveRows None old lines → new.heading ≡ Some heading → heading.line ≡ line
-    → new.rows ≡ old.rows → new.notes ≡ old.notes → new.kept ≡ old.kept → fault ≡ fault_of line.number (wrong_column (fields_of line.fields)) → AreRead fault new (lines ++ line ∷ [])
-heading_read old new heading line lines fault known headed of rows notes kept is =
-    subst (λ (l : CsvLine). AreRead fault new (lines ++ l ∷ [])) of
-    (heading_only old new heading lines fault known headed rows notes kept (is ∙ ap (λ (l : CsvLine). fault_of l.number (wrong_column (fields_of l.fields))) (sym of)))
+heading_only read heading fault nothing is = subst (λ o. AreRead o read heading []) (sym is) (by (wrong_column (fields_of heading.fields)) refl)
+  where
+    by : (wrong : Option ImportColumn) → wrong_column (fields_of heading.fields) ≡ wrong → AreRead (option_map (λ column. Csv heading.number Column (Some column)) wrong) read heading []
+    by None is = record { named = is; are = none_below (fields_of heading.fields) read nothing; kept = nothing.kept (fields_of heading.fields) }
+    by (Some column) is = ap (unless_wrong heading []) is
 
 -- ---- a row
 
 below_refused : (heading : CsvLine) (below : List CsvLine) (e : ImportFault) → wrong_column (fields_of heading.fields) ≡ None
-    → States {X = List ImportRow} (λ rows. rows) (Err e) (rows_after (fields_of heading.fields) [] (without_notes (fields_of heading.fields) below)) → HaveFault e (heading ∷ below)
+    → States {X = List ImportRow} (λ rows. rows) (Err e) (rows_after (fields_of heading.fields) [] (without_notes (fields_of heading.fields) below)) → IsFault e heading below
 unfolding rows_stated
 below_refused heading below NoMemory named h = tt
 below_refused heading below (Csv number kind column) named h = ap (unless_wrong heading below) named ∙ h
 below_refused heading below (Table f) named h = absurd h
 
 -- one more line, which may have a fault
-pub line_read : (heading : Heading) (old new : LinesRead) (line : CsvLine) (lines : List CsvLine) (result : Result (Unit {0}) ImportFault) (known : HaveRows (Some heading) old lines) → new.heading ≡ Some heading
-    → AreTaken result (fields_of heading.line.fields) (known.0 ++ line ∷ []) new.rows new.notes → OnOk result (KeepsTexts new.kept (fields_of heading.line.fields) (known.0 ++ line ∷ []))
-    → AreRead (result_err result) new (lines ++ line ∷ [])
-line_read heading old new line lines (Ok u) known headed are kept =
-    let P : Option Heading → Type 0 = λ o. HaveRows o new (heading.line ∷ known.0 ++ line ∷ []) in
-    subst (λ ls. AreRead None new (ls ++ line ∷ [])) (sym known.1) (subst P (sym headed) (known.0 ++ line ∷ [], refl, record { named = known.2.named; are = are; kept = kept }))
-line_read heading old new line lines (Err e) known headed is kept =
-    subst (λ ls. HaveFault e (ls ++ line ∷ [])) (sym known.1) (below_refused heading.line (known.0 ++ line ∷ []) e known.2.named is)
+pub line_read : (heading line : CsvLine) (old new : LinesRead) (below : List CsvLine) (result : Result (Unit {0}) ImportFault) → SayRows heading below old
+    → AreTaken result (fields_of heading.fields) (below ++ line ∷ []) new.known new.notes → OnOk result (KeepsTexts new.kept (fields_of heading.fields) (below ++ line ∷ []))
+    → AreRead (result_err result) new heading (below ++ line ∷ [])
+line_read heading line old new below (Ok u) known are kept = record { named = known.named; are = are; kept = kept }
+line_read heading line old new below (Err e) known is kept = below_refused heading (below ++ line ∷ []) e known.named is
 
 -- lines after one with a fault
-pub line_skipped : (fault : Option ImportFault) (old new : LinesRead) (lines : List CsvLine) (line : CsvLine) → is_some fault ≡ true → AreRead fault old lines → AreRead fault new (lines ++ line ∷ [])
-line_skipped None old new lines line some known = cc
-line_skipped (Some e) old new lines line some known = fault_stays e lines line known
+pub line_skipped : (heading line : CsvLine) (fault : Option ImportFault) (old new : LinesRead) (below : List CsvLine) → is_some fault ≡ true → AreRead fault old heading below → AreRead fault new heading (below ++ line ∷ [])
+line_skipped heading line None old new below some known = cc
+line_skipped heading line (Some e) old new below some known = fault_stays e heading below line known
 
--- ---- the heading stays the first line
-
-pub first_headed : (heading : Heading) (line : CsvLine) (lines : List CsvLine) (o : Option Heading) → heading.line ≡ line → o ≡ None → IsHeadingOf o lines → IsHeadingOf (Some heading) (lines ++ line ∷ [])
-first_headed heading line lines None is none headed = ([], ap (λ (ls : List CsvLine). ls ++ line ∷ []) headed ∙ ap (λ (l : CsvLine). l ∷ []) (sym is))
-first_headed heading line lines (Some h) is none headed = cc none
-
-pub headed_more : (heading : Heading) (o : Option Heading) (lines : List CsvLine) (line : CsvLine) → o ≡ Some heading → IsHeadingOf o lines → IsHeadingOf o (lines ++ line ∷ [])
-headed_more heading None lines line there headed = cc there
-headed_more heading (Some h) lines line there headed = (headed.0 ++ line ∷ [], ap (λ (ls : List CsvLine). ls ++ line ∷ []) headed.1)
-
-pub headed_skipped : (fault : Option ImportFault) (read : LinesRead) (o : Option Heading) (lines : List CsvLine) (line : CsvLine) → is_some fault ≡ true → AreRead fault read lines → IsHeadingOf o lines → IsHeadingOf o (lines ++ line ∷ [])
-headed_skipped None read o lines line some known headed = cc some
-headed_skipped (Some e) read None lines line some known headed = absurd (subst (λ (ls : List CsvLine). HaveFault e ls) headed known)
-headed_skipped (Some e) read (Some h) lines line some known headed = (headed.0 ++ line ∷ [], ap (λ (ls : List CsvLine). ls ++ line ∷ []) headed.1)
-
-pub unfaulted : (fault : Option ImportFault) (read : LinesRead) (lines : List CsvLine) → is_some fault ≡ false → AreRead fault read lines → HaveRows read.heading read lines
-unfaulted None read lines none known = known
-unfaulted (Some e) read lines none known = cc none
+pub unfaulted : (heading : CsvLine) (fault : Option ImportFault) (read : LinesRead) (below : List CsvLine) → is_some fault ≡ false → AreRead fault read heading below → SayRows heading below read
+unfaulted heading None read below none known = known
+unfaulted heading (Some e) read below none known = cc none
 
 -- ---- the end
 
-pub no_lines : (read : LinesRead) (lines : List CsvLine) (e : ImportFault) → HaveRows None read lines → e ≡ Csv 1 Column (Some Group) → IsImportOf lines (Err e)
+pub rows_read : (heading : CsvLine) (read : LinesRead) (below : List CsvLine) → SayRows heading below read → rows_stated (heading ∷ below) ≡ Ok read.known.rows.items
 unfolding rows_stated
-no_lines read lines e known is =
-    let none : List CsvLine = [] in
-    let empty : IsImportOf none (Err (Csv 1 Column (Some Group))) = refl in
-    subst (λ ls. IsImportOf ls (Err e)) (sym known.0) (subst (λ (x : ImportFault). IsImportOf none (Err x)) (sym is) empty)
+rows_read heading read below known = ap (unless_wrong heading below) known.named ∙ known.are.stated
 
-pub rows_read : (heading : Heading) (read : LinesRead) (lines : List CsvLine) (known : HaveRows (Some heading) read lines) → rows_stated lines ≡ Ok known.2.are.rows
-unfolding rows_stated
-rows_read heading read lines known = ap rows_stated known.1 ∙ ap (unless_wrong heading.line known.0) known.2.named ∙ known.2.are.stated
-
-pub notes_read : (heading : Heading) (read : LinesRead) (lines : List CsvLine) (known : HaveRows (Some heading) read lines) → vec_len read.notes.rows ≡ note_count lines
-notes_read heading read lines known =
-    let count = known.2.are.count in
-    let gap : vec_len read.notes.rows ≡ length known.0 - length (without_notes (fields_of heading.line.fields) known.0) = omega (arith, count) in
-    gap ∙ sym (ap note_count known.1)
+pub notes_read : (heading : CsvLine) (read : LinesRead) (below : List CsvLine) → SayRows heading below read → vec_len read.notes.rows ≡ note_count (heading ∷ below)
+notes_read heading read below known = let count = known.are.count in omega (arith, count)
 
 -- the lines of sources are those of the rows
-pub kept_read : (heading : Heading) (read : LinesRead) (lines : List CsvLine) (known : HaveRows (Some heading) read lines) (source : List ℕ) → lines_kept read.kept source ≡ kept_of lines source
-kept_read heading read lines known source = ap (λ o. unwrap_or o []) (known.2.kept.texts source) ∙ ap (λ (ls : List CsvLine). kept_of ls source) (sym known.1)
-
--- the fault makes no difference
-pub other_fault : (heading : Option Heading) (read : LinesRead) (fault : Option ImportFault) (lines : List CsvLine) → HaveRows heading read lines → HaveRows heading (record read { fault = fault }) lines
-other_fault None read fault lines known = known
-other_fault (Some heading) read fault lines known = (known.0, known.1, record { named = known.2.named; are = known.2.are; kept = known.2.kept })
+pub kept_read : (heading : CsvLine) (read : LinesRead) (below : List CsvLine) → SayRows heading below read → (source : List ℕ) → lines_kept read.kept source ≡ kept_of (heading ∷ below) source
+kept_read heading read below known source = ap (λ o. unwrap_or o []) (known.kept source)
 
 -- ---- rows of empty fields
 
@@ -167,17 +116,10 @@ one_filled line is = rw is refl
 pub not_filled : (lines : List CsvLine) (line : CsvLine) → has_text (fields_of line.fields) ≡ false → lines ++ filter is_filled (line ∷ []) ≡ lines
 not_filled lines line is = rw is (append-nil lines)
 
-pub fault_kept : (fault : Option ImportFault) (read : LinesRead) (lines : List CsvLine) → AreRead fault read lines → AreRead fault (record read { fault = fault }) lines
-fault_kept None read lines known = other_fault read.heading read None lines known
-fault_kept (Some e) read lines known = known
-
 -- ---- one more row
 
 -- rows that were taken, unless they have one too many of something
-pub added : (column : Option ImportColumn) (read : RowsRead) (all : List ImportRow) (row : ImportRow) → column ≡ too_many all row → HasRows read all → IsAdded column read (λ line. limited line all (too_many all row))
-added None read all row is has = (all, (λ line. ap (limited line all) (sym is)), has)
-added (Some column) read all row is has = λ line. ap (limited line all) (sym is)
-
-pub added_as : (column : Option ImportColumn) (read : RowsRead) (f g : ℕ → Result (List ImportRow) CsvFault) → ((line : ℕ) → f line ≡ g line) → IsAdded column read g → IsAdded column read f
-added_as None read f g same h = (h.0, (λ line. same line ∙ h.1 line), h.2)
-added_as (Some column) read f g same h = λ line. same line ∙ h line
+pub added : (column : Option ImportColumn) (known : Known) (row : ImportRow) (stated : ℕ → Result (List ImportRow) CsvFault) → column ≡ too_many known.rows.items row → Knows known
+    → ((line : ℕ) → stated line ≡ limited line known.rows.items (too_many known.rows.items row)) → IsAdded column known stated
+added None known row stated is knows are = ((λ line. are line ∙ ap (limited line known.rows.items) (sym is)), knows)
+added (Some column) known row stated is knows are = λ line. are line ∙ ap (limited line known.rows.items) (sym is)

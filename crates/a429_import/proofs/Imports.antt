@@ -1,8 +1,7 @@
 -- What is imported from lines.
 use Rattle.std.proofs.Common.{◌≡◌, ◌∙◌, ℕ, Bool, true, false, List, [], ◌∷◌, Option, None, Some, Result, Ok, Err, ◌++◌, ap, ap₂, codes, cond, map, refl, subst, sym}
-use Rattle.std.specs.Prelude.{◌||◌}
+use Rattle.std.specs.Prelude.{IfOk}
 use Rattle.std.specs.Str.{IsUtf8}
-use Rattle.csv.specs.Records.{fields_of}
 use Rattle.toml.specs.Data.{Data, table}
 use Rattle.toml.specs.Parse.{parse_document}
 use Rattle.a429_equipment.specs.TableRecord.{TableRecord}
@@ -14,37 +13,25 @@ use Rattle.a429_table.specs.Faults.{faults, first}
 use Rattle.a429_table.specs.Reading.{GivesUnlessMemory, document, judged, reading}
 use Rattle.a429_table.specs.Stated.{stated}
 use Rattle.a429_table.proofs.Documents.{document-text}
-use Rattle.a429_import.specs.declared.fault.CsvFaultKind.{CsvFaultKind}
-use Rattle.a429_import.specs.declared.fault.CsvFaultKind.TheVariants.{Form}
-use Rattle.a429_import.specs.declared.fault.ImportColumn.{ImportColumn}
+use Rattle.a429_import.specs.declared.fault.CsvFaultKind.TheVariants.{Column, Form}
+use Rattle.a429_import.specs.declared.fault.ImportColumn.TheVariants.{Group}
 use Rattle.a429_import.specs.declared.fault.ImportFault.{ImportFault}
 use Rattle.a429_import.specs.declared.fault.ImportFault.TheVariants.{NoMemory, Csv, Table}
-use Rattle.a429_import.specs.declared.filled_reading.SheetRead.{SheetRead}
 use Rattle.a429_import.specs.declared.firsts.Part.{Part}
 use Rattle.a429_import.specs.declared.firsts.Part.TheVariants.{Receivers, Sources, Groups}
 use Rattle.a429_import.specs.declared.import.Imported.{Imported}
-use Rattle.a429_import.specs.declared.import.MadeTable.{MadeTable}
 use Rattle.a429_import.specs.declared.import.ImportOptions.{ImportOptions}
 use Rattle.a429_import.specs.declared.lines.CsvLine.{CsvLine}
-use Rattle.a429_import.specs.declared.reading.LinesRead.{LinesRead}
 use Rattle.a429_import.specs.declared.rows.ImportRow.{ImportRow}
-use Rattle.a429_import.specs.ImportAbove.{has_data_above}
-use Rattle.a429_import.specs.FilledReading.{IsReadFilled, IsReadIf}
 use Rattle.a429_import.specs.ImportFaults.{of_table}
-use Rattle.a429_import.specs.ImportForms.{from_heading, separator_in}
-use Rattle.a429_import.specs.ImportQuotes.{has_wrong_quotes}
 use Rattle.a429_import.specs.ImportRows.{note_count, rows_stated}
 use Rattle.a429_import.specs.ImportTables.{part_tree, record_stated, root_members}
 use Rattle.a429_import.specs.KeptFields.{kept_comments, kept_of}
 use Rattle.a429_import.specs.PrintedTables.{PrintsTables}
 use Rattle.a429_import.specs.TableTexts.{IsTableText, before_at, column_comments, made_comment, piece_of, pieces, row_before}
-use Rattle.a429_import.specs.Imports.{AreNamedLines, IsFilledImport, IsImport, IsImportBy, IsImportFrom, IsImportIf, IsImportOf, IsTableBy, IsTableOf, IsTextFault, has_row_above, rows_by, table_made, is_misquoted_text, separated, text_fault_line}
-use Rattle.a429_import.specs.ImportReading.{HaveFault, StandsFor}
+use Rattle.a429_import.specs.Imports.{AreLines, IsFilledImport, IsImport, IsImportBy, IsImportFrom, IsImportIf, IsSheetImport, IsTableBy, IsTableOf, States, is_unfit, rows_by, text_fault_line}
 use Rattle.a429_import.specs.NumberRanges.{HaveRanges}
-use Rattle.a429_import.specs.RenamedReading.{IsReadBy}
 use Rattle.a429_import.proofs.ImportRecords.{tree_states}
-use Rattle.a429_import.proofs.FilledLines.{filled_of}
-use Rattle.a429_import.proofs.RenamedReading.{keyed_of, lines_of}
 
 -- bytes whose document is a root table are read as that is judged
 reading_is : (bytes : List ℕ) (root : Data) → document bytes ≡ Some root → reading bytes ≡ judged root (faults root)
@@ -113,26 +100,26 @@ module _ (kept other : List ℕ → List ℕ) (same : (source : List ℕ) → ke
     sources_are = subst (λ ps. PrintsTables (codes "source") ps is.sources) (pieces_same before Sources rows) is.sources_are;
   }
 
-  table_same : (before : Option (List ImportRow)) (rows : List ImportRow) (result : Result MadeTable ImportFault) → IsTableOf kept before rows result → IsTableOf other before rows result
+  table_same : (before : Option (List ImportRow)) (rows : List ImportRow) (result : Result Imported ImportFault) → IsTableOf kept before rows result → IsTableOf other before rows result
   table_same before rows (Ok made) h = (h.0, h.1, text_same before rows made.text.items h.2)
   table_same before rows (Err NoMemory) h = tt
   table_same before rows (Err (Csv line kind column)) h = absurd h
   table_same before rows (Err (Table fault.NoMemory)) h = absurd h
   table_same before rows (Err (Table (fault.At kind place))) h = h
 
-  pub table_by_same : (makes_names : Bool) (rows : List ImportRow) (result : Result MadeTable ImportFault) → IsTableBy kept makes_names rows result → IsTableBy other makes_names rows result
+  pub table_by_same : (makes_names : Bool) (rows : List ImportRow) (result : Result Imported ImportFault) → IsTableBy kept makes_names rows result → IsTableBy other makes_names rows result
   table_by_same makes_names rows result h = table_same (cond makes_names (Some rows) None) (rows_by makes_names rows) result h
 
 -- ---- of lines
 
 -- the table of the rows that lines state
-pub table_import : (makes_names : Bool) (lines : List CsvLine) (rows : List ImportRow) (imported : Imported) → rows_stated lines ≡ Ok rows → imported.notes ≡ note_count lines
-    → IsTableBy (kept_of lines) makes_names rows (Ok (table_made imported)) → IsImportFrom makes_names lines (Ok imported)
+table_import : (makes_names : Bool) (lines : List CsvLine) (rows : List ImportRow) (imported : Imported) → rows_stated lines ≡ Ok rows → imported.notes ≡ note_count lines
+    → IsTableBy (kept_of lines) makes_names rows (Ok imported) → IsImportFrom makes_names lines (Ok imported)
 table_import false lines rows imported are count h = (rows, are, h.0, count, h.1, h.2)
 table_import true lines rows imported are count h = (rows, are, h, count)
 
 -- the fault of that table
-pub table_fault : (makes_names : Bool) (lines : List CsvLine) (rows : List ImportRow) (e : ImportFault) → rows_stated lines ≡ Ok rows → IsTableBy (kept_of lines) makes_names rows (Err e) → IsImportFrom makes_names lines (Err e)
+table_fault : (makes_names : Bool) (lines : List CsvLine) (rows : List ImportRow) (e : ImportFault) → rows_stated lines ≡ Ok rows → IsTableBy (kept_of lines) makes_names rows (Err e) → IsImportFrom makes_names lines (Err e)
 table_fault false lines rows NoMemory are h = tt
 table_fault false lines rows (Csv line kind column) are h = absurd h
 table_fault false lines rows (Table fault.NoMemory) are h = absurd h
@@ -141,79 +128,54 @@ table_fault true lines rows NoMemory are h = tt
 table_fault true lines rows (Csv line kind column) are h = absurd h
 table_fault true lines rows (Table f) are h = (rows, are, h)
 
+-- the table of these rows, or its fault
+pub import_from : (makes_names : Bool) (lines : List CsvLine) (rows : List ImportRow) (result : Result Imported ImportFault) (notes : ℕ) → rows_stated lines ≡ Ok rows → notes ≡ note_count lines
+    → IfOk result (λ (made : Imported). made.notes ≡ notes) → IsTableBy (kept_of lines) makes_names rows result → IsImportFrom makes_names lines result
+import_from makes_names lines rows (Ok made) notes are count has h = table_import makes_names lines rows made are (has ∙ count) h
+import_from makes_names lines rows (Err e) notes are count has h = table_fault makes_names lines rows e are h
+
 -- the fault of lines
-pub fault_import : (makes_names : Bool) (lines : List CsvLine) (e : ImportFault) → HaveFault e lines → IsImportFrom makes_names lines (Err e)
-fault_import makes_names [] e h = absurd h
-fault_import false (heading ∷ below) NoMemory h = tt
-fault_import false (heading ∷ below) (Csv line kind column) h = h
-fault_import false (heading ∷ below) (Table f) h = absurd h
-fault_import true (heading ∷ below) NoMemory h = tt
-fault_import true (heading ∷ below) (Csv line kind column) h = h
-fault_import true (heading ∷ below) (Table f) h = absurd h
+pub fault_import : (makes_names : Bool) (lines : List CsvLine) (e : ImportFault) → States {X = List ImportRow} (λ rows. rows) (Err e) (rows_stated lines) → IsImportFrom makes_names lines (Err e)
+fault_import false lines NoMemory h = tt
+fault_import false lines (Csv line kind column) h = h
+fault_import false lines (Table f) h = absurd h
+fault_import true lines NoMemory h = tt
+fault_import true lines (Csv line kind column) h = h
+fault_import true lines (Table f) h = absurd h
 
 -- lines without a heading
-pub no_import : (makes_names : Bool) (lines : List CsvLine) (line : ℕ) (kind : CsvFaultKind) (column : Option ImportColumn) → IsImportOf lines (Err (Csv line kind column)) → IsImportFrom makes_names lines (Err (Csv line kind column))
-no_import false lines line kind column h = h
-no_import true lines line kind column h = h
+none_from : (makes_names : Bool) → IsImportFrom makes_names [] (Err (Csv 1 Column (Some Group)))
+unfolding rows_stated
+none_from false = refl
+none_from true = refl
 
--- lines with keys of sources
-pub import_by : (makes_names : Bool) (read : LinesRead) (lines : List CsvLine) (result : Result Imported ImportFault) → IsReadBy makes_names read lines
-    → ((all : List CsvLine) → StandsFor read all → IsImportFrom makes_names all result) → IsImportBy makes_names lines result
-import_by false read lines result known is = is lines known
-import_by true read lines result known is = let keyed = keyed_of read.heading read lines known in (keyed.0, keyed.1, is keyed.0 keyed.2)
-
--- lines whose empty fields are filled
-pub import_filled : (options : ImportOptions) (read : SheetRead) (lines : List CsvLine) (result : Result Imported ImportFault) → IsReadFilled options read lines
-    → ((all : List CsvLine) → StandsFor read.lines all → IsImportFrom options.makes_names all result) → IsFilledImport options.fills options.makes_names lines result
-import_filled options read lines result known is = by options.fills known
+pub none_imported : (maps : List (List ℕ)) (options : ImportOptions) (lines : List CsvLine) (e : ImportFault) → lines ≡ [] → e ≡ Csv 1 Column (Some Group) → IsSheetImport maps options lines (Err e)
+none_imported maps options lines e none is =
+    subst (λ (ls : List CsvLine). IsSheetImport maps options ls (Err e)) (sym none) (subst (λ (x : ImportFault). IsSheetImport maps options [] (Err x)) (sym is) (false, [], (refl, refl), by options.fills))
   where
-    by : (fills : Bool) → IsReadIf fills read.filler options.makes_names read.lines lines → IsFilledImport fills options.makes_names lines result
-    by false known = import_by options.makes_names read.lines lines result known is
-    by true known =
-        let filled = filled_of read.filler.heading (fields_of read.filler.above) options.makes_names read.lines lines known in
-        (filled.0, filled.1, import_by options.makes_names read.lines filled.0 result filled.2 is)
+    keyed : (makes_names : Bool) → IsImportBy makes_names [] (Err (Csv 1 Column (Some Group)))
+    keyed false = none_from false
+    keyed true = ([], refl, none_from true)
 
--- what lines are read as
-pub filled_lines_of : (options : ImportOptions) (read : SheetRead) (lines : List CsvLine) → IsReadFilled options read lines → (all : List CsvLine) × StandsFor read.lines all
-filled_lines_of options read lines known = by options.fills known
-  where
-    by : (fills : Bool) → IsReadIf fills read.filler options.makes_names read.lines lines → (all : List CsvLine) × StandsFor read.lines all
-    by false known = lines_of options.makes_names read.lines lines known
-    by true known =
-        let filled = filled_of read.filler.heading (fields_of read.filler.above) options.makes_names read.lines lines known in
-        lines_of options.makes_names read.lines filled.0 filled.2
+    by : (fills : Bool) → IsFilledImport fills options.makes_names [] (Err (Csv 1 Column (Some Group)))
+    by false = keyed options.makes_names
+    by true = ([], refl, keyed options.makes_names)
 
 -- ---- of a text
 
-module _ (maps : List (List ℕ)) (text : List ℕ) (separator : ℕ) (rest : List ℕ) (by : separator ≡ separator_in maps text) (from : rest ≡ from_heading maps text) where
-  -- what is so by the form of a text is so of the text
-  by_form : (test : ℕ → List ℕ → Bool) (is : Bool) → is ≡ test separator rest → test (separator_in maps text) (from_heading maps text) ≡ is
-  by_form test is same = ap₂ test (sym by) (sym from) ∙ sym same
-
-  pub unfit_by : (unfit : Bool) → unfit ≡ (has_wrong_quotes (separated separator) rest text || has_data_above (separated separator) maps rest text) → (is_misquoted_text maps text || has_row_above maps text) ≡ unfit
-  unfit_by unfit same = by_form (λ s xs. has_wrong_quotes (separated s) xs text || has_data_above (separated s) maps xs text) unfit same
-
--- the rest of what is imported, if no fault comes before those of the rows
 module _ (maps : List (List ℕ)) (options : ImportOptions) (text : List ℕ) where
-  abbrev is_unfit : Bool
-  is_unfit = is_misquoted_text maps text || has_row_above maps text
+  of_rows : (lines : List CsvLine) (result : Result Imported ImportFault) → is_unfit maps text ≡ false → AreLines maps text lines → IsSheetImport maps options lines result → IsImportIf (is_unfit maps text) maps options text result
+  of_rows lines result fit are (is_below, named, by, h) = subst (λ (b : Bool). IsImportIf b maps options text result) (sym fit) (named, (lines, is_below, are, by), h)
 
-  of_rows : (lines : List CsvLine) (result : Result Imported ImportFault) → is_unfit ≡ false → AreNamedLines maps text lines → IsFilledImport options.fills options.makes_names lines result → IsImportIf is_unfit maps options text result
-  of_rows lines result fit are h = subst (λ (b : Bool). IsImportIf b maps options text result) (sym fit) (lines, are, h)
-
-  pub import_of : (lines : List CsvLine) (result : Result Imported ImportFault) → IsTextFault maps text None → AreNamedLines maps text lines → IsFilledImport options.fills options.makes_names lines result → IsImport maps options text result
+  -- the rest of what is imported, if no fault comes before those of the rows
+  pub import_of : (lines : List CsvLine) (result : Result Imported ImportFault) → is_unfit maps text ≡ false → AreLines maps text lines → IsSheetImport maps options lines result → IsImport maps options text result
   import_of lines (Ok bytes) fit are h = of_rows lines (Ok bytes) fit are h
   import_of lines (Err NoMemory) fit are h = tt
   import_of lines (Err (Csv line kind column)) fit are h = of_rows lines (Err (Csv line kind column)) fit are h
   import_of lines (Err (Table f)) fit are h = of_rows lines (Err (Table f)) fit are h
 
   -- a text whose quotes are wrong, or with a row of data above its heading
-  unfit_import : (line : ℕ) → text_fault_line maps text ≡ Some line → is_unfit ≡ true → IsImport maps options text (Err (Csv line Form None))
-  unfit_import line at unfit =
-      let fault : Result Imported ImportFault = Err (Csv line Form None) in
-      subst (λ (b : Bool). IsImportIf b maps options text fault) (sym unfit) (line, at, refl)
-
--- the fault of such a text
-pub unfit_fault : (maps : List (List ℕ)) (text : List ℕ) (line : ℕ) (fault : ImportFault) → text_fault_line maps text ≡ Some line → (is_misquoted_text maps text || has_row_above maps text) ≡ true
-    → fault ≡ Csv line Form None → IsTextFault maps text (Some fault)
-unfit_fault maps text line fault at unfit is = λ options. subst (λ (f : ImportFault). IsImport maps options text (Err f)) (sym is) (unfit_import maps options text line at unfit)
+  pub unfit_import : (line : ℕ) (fault : ImportFault) → text_fault_line maps text ≡ Some line → is_unfit maps text ≡ true → fault ≡ Csv line Form None → IsImport maps options text (Err fault)
+  unfit_import line fault at unfit is =
+      let first : Result Imported ImportFault = Err (Csv line Form None) in
+      subst (λ (f : ImportFault). IsImport maps options text (Err f)) (sym is) (subst (λ (b : Bool). IsImportIf b maps options text first) (sym unfit) (line, at, refl))

@@ -1,22 +1,29 @@
 -- What is known of the names of rows, with one more row.
 use Rattle.std.proofs.Common.{◌≡◌, ◌∙◌, ℕ, zero, suc, ◌+◌, ◌<◌, ◌||◌, Bool, true, false, cond, List, [], ◌∷◌, ◌++◌, append_assoc, map, get_or, length, Option, None, Some, option_map, ap, ap₂, arith, inl, inr, ◌⊎◌, refl, subst, sym}
-use Rattle.std.specs.Prelude.{is_some, slice_get}
+use Rattle.std.specs.Prelude.{is_some, position, slice_get, string_bytes, String}
+use Rattle.std.specs.declared.alloc.Global.{Global}
 use Rattle.std.specs.List.{AllZip, list_any, position_from}
 use Rattle.std.specs.Option.{option_or}
 use Rattle.std.specs.Str.{bytes_eq}
+use Rattle.std.proofs.lemmas.Iterator.Adapters.{position_from-zero}
+use Rattle.indexmap.proofs.CallerLemmas.{insert_entry-new}
+use Rattle.indexmap.specs.IndexMap.{get, get_by_text, insert_entry, keys}
 use Rattle.std.proofs.lemmas.List.{append-nil, length-map, map-append}
-use Rattle.std.proofs.lemmas.Option.{get_or_from_slice_get, same_Some, slice_get-map, slice_get_within}
+use Rattle.std.proofs.lemmas.Map.Text.{hash_map_text_same}
+use Rattle.std.specs.String.{string_eq}
+use Rattle.std.proofs.lemmas.Option.{same_Some, slice_get-map, slice_get_within}
 use Rattle.std.proofs.lemmas.Slice.Eq.{bytes_eq-Decides}
 use Rattle.std.proofs.Math.ListN.{get_or-append}
 use Rattle.std.proofs.Math.Seq.{get_or-append_seam}
 use Rattle.a429_word.proofs.Lists.{get_within}
 use Rattle.a429_import.specs.declared.firsts.Part.{Part}
+use Rattle.a429_import.specs.declared.firsts.Part.TheVariants.{Receivers, Sources, Groups}
+use Rattle.a429_import.specs.declared.known.Known.{Known}
 use Rattle.a429_import.specs.declared.named_rows.NamedRows.{NamedRows}
 use Rattle.a429_import.specs.declared.rows.ImportRow.{ImportRow}
 use Rattle.a429_import.specs.FirstRows.{first_from}
 use Rattle.a429_import.specs.ImportTables.{firsts, firsts_after, is_known, name_in, unless_known}
-use Rattle.a429_import.specs.Known.{KnowsFirsts, found_at}
-use Rattle.a429_import.specs.Names.{IsIndexed, names_of, numbers_of}
+use Rattle.a429_import.specs.Known.{Knows, KnowsFirsts, KnowsMore, named_of, names_of, numbers_of, place_of}
 use Rattle.a429_import.proofs.FirstRows.{bytes_eq-flip, position_from-push}
 
 -- ---- the first rows, with one more row
@@ -51,16 +58,6 @@ firsts_new part rows row none =
 pub firsts_old : (part : Part) (rows : List ImportRow) (row : ImportRow) (k : ℕ) → first_from part (name_in part row) 0 rows ≡ Some k → firsts part (rows ++ row ∷ []) ≡ firsts part rows
 firsts_old part rows row k there =
     firsts_push part rows row ∙ ap (λ (b : Bool). firsts part rows ++ cond b [] (row ∷ [])) (known_if part rows row ∙ ap is_some there) ∙ append-nil (firsts part rows)
-
--- what the first rows say
-pub facts_new : {F : Type 0} (f : ImportRow → F) (part : Part) (rows : List ImportRow) (row : ImportRow) (facts : List F) → first_from part (name_in part row) 0 rows ≡ None
-    → facts ≡ map f (firsts part rows) → facts ++ f row ∷ [] ≡ map f (firsts part (rows ++ row ∷ []))
-facts_new f part rows row facts none are =
-    ap (λ fs. fs ++ f row ∷ []) are ∙ sym (map-append f (firsts part rows) (row ∷ [])) ∙ ap (map f) (sym (firsts_new part rows row none))
-
-pub facts_old : {F : Type 0} (f : ImportRow → F) (part : Part) (rows : List ImportRow) (row : ImportRow) (facts : List F) (k : ℕ) → first_from part (name_in part row) 0 rows ≡ Some k
-    → facts ≡ map f (firsts part rows) → facts ≡ map f (firsts part (rows ++ row ∷ []))
-facts_old f part rows row facts k there are = are ∙ ap (map f) (sym (firsts_old part rows row k there))
 
 -- ---- lists
 
@@ -124,40 +121,28 @@ found_here {X} p n (x ∷ xs) m h = by (p x) refl h (found_here p (n + 1) xs m)
     by false e k rest = let later = rest k in record { at = suc later.at; counted = omega (arith, later.counted); element = later.element; there = later.there; passes = later.passes }
 
 -- the first row at a place
-pub first_there : (part : Part) (named : NamedRows) (rows : List ImportRow) (place : ℕ) → KnowsFirsts part named rows → place < length (names_of named.names)
-    → (row : ImportRow) × (slice_get (firsts part rows) place ≡ Some row) × (slice_get rows (get_or (numbers_of named.firsts) place 0) ≡ Some row)
+pub first_there : (part : Part) (named : NamedRows) (rows : List ImportRow) (place : ℕ) → KnowsFirsts part named rows → place < length (names_of named)
+    → (row : ImportRow) × (slice_get (firsts part rows) place ≡ Some row) × (slice_get rows (get_or (numbers_of named) place 0) ≡ Some row)
 first_there part named rows place known within =
-    let many : length (names_of named.names) ≡ length (firsts part rows) = ap length known.names ∙ length-map (firsts part rows) (name_in part) in
+    let many : length (names_of named) ≡ length (firsts part rows) = ap length known.names ∙ length-map (firsts part rows) (name_in part) in
     let (row, first) = get_within (firsts part rows) place (omega arith) in
-    (row, first, listed_at rows (numbers_of named.firsts) (firsts part rows) place row known.listed first)
-
--- the row of its number
-pub first_within : (part : Part) (named : NamedRows) (rows : List ImportRow) (place n : ℕ) → KnowsFirsts part named rows → place < length (names_of named.names) → n ≡ get_or (numbers_of named.firsts) place 0 → n < length rows
-first_within part named rows place n known within is =
-    let (row, first, there) = first_there part named rows place known within in
-    slice_get_within rows n row (ap (slice_get rows) is ∙ there)
-
-pub first_is : (part : Part) (named : NamedRows) (rows : List ImportRow) (place n : ℕ) (row : ImportRow) → KnowsFirsts part named rows → place < length (names_of named.names) → n ≡ get_or (numbers_of named.firsts) place 0 → row ≡ get_or rows n row
-    → slice_get (firsts part rows) place ≡ Some row
-first_is part named rows place n row known within is read =
-    let (other, first, there) = first_there part named rows place known within in
-    first ∙ ap (λ (r : ImportRow). Some r) (sym (read ∙ get_or_from_slice_get rows n other row (ap (slice_get rows) is ∙ there)))
+    (row, first, listed_at rows (numbers_of named) (firsts part rows) place row known.listed first)
 
 -- ---- a name that is known
 
 pub record IsKnownAt (part : Part) (named : NamedRows) (rows : List ImportRow) (name : List ℕ) (place : ℕ) : Type 0 where
   pub row : ImportRow
   pub first : slice_get (firsts part rows) place ≡ Some row
-  pub there : slice_get rows (get_or (numbers_of named.firsts) place 0) ≡ Some row
+  pub there : slice_get rows (get_or (numbers_of named) place 0) ≡ Some row
   pub is_named : name_in part row ≡ name
-  pub number : first_from part name 0 rows ≡ Some (get_or (numbers_of named.firsts) place 0)
+  pub number : first_from part name 0 rows ≡ Some (get_or (numbers_of named) place 0)
 
-pub known_at : (part : Part) (named : NamedRows) (rows : List ImportRow) (name : List ℕ) (place : ℕ) → KnowsFirsts part named rows → position_from (bytes_eq name) 0 (names_of named.names) ≡ Some place → IsKnownAt part named rows name place
+pub known_at : (part : Part) (named : NamedRows) (rows : List ImportRow) (name : List ℕ) (place : ℕ) → KnowsFirsts part named rows → position_from (bytes_eq name) 0 (names_of named) ≡ Some place → IsKnownAt part named rows name place
 known_at part named rows name place known h =
-    let f = found_here (bytes_eq name) 0 (names_of named.names) place h in
+    let f = found_here (bytes_eq name) 0 (names_of named) place h in
     let at : f.at ≡ place = let k = f.counted in omega (arith, k) in
-    let mapped : slice_get (map (name_in part) (firsts part rows)) place ≡ Some f.element = ap (λ (ns : List (List ℕ)). slice_get ns place) (sym known.names) ∙ ap (slice_get (names_of named.names)) (sym at) ∙ f.there in
-    let few = slice_get_within (names_of named.names) f.at f.element f.there in
+    let mapped : slice_get (map (name_in part) (firsts part rows)) place ≡ Some f.element = ap (λ (ns : List (List ℕ)). slice_get ns place) (sym known.names) ∙ ap (slice_get (names_of named)) (sym at) ∙ f.there in
+    let few = slice_get_within (names_of named) f.at f.element f.there in
     let (row, first, there) = first_there part named rows place known (omega (arith, few, at)) in
     let element : name_in part row ≡ f.element = same_Some _ _ (sym (slice_get-map (name_in part) (firsts part rows) place ∙ ap (option_map (name_in part)) first) ∙ mapped) in
     record {
@@ -165,22 +150,20 @@ known_at part named rows name place known h =
       first = first;
       there = there;
       is_named = element ∙ sym ((bytes_eq-Decides name f.element).0 f.passes);
-      number = sym (known.first name) ∙ ap (option_map (λ p. get_or (numbers_of named.firsts) p 0)) h;
+      number = sym (known.first name) ∙ ap (option_map (λ p. get_or (numbers_of named) p 0)) h;
     }
 
-pub unknown : (part : Part) (named : NamedRows) (rows : List ImportRow) (name : List ℕ) → KnowsFirsts part named rows → position_from (bytes_eq name) 0 (names_of named.names) ≡ None → first_from part name 0 rows ≡ None
-unknown part named rows name known h = sym (known.first name) ∙ ap (option_map (λ p. get_or (numbers_of named.firsts) p 0)) h
+pub unknown : (part : Part) (named : NamedRows) (rows : List ImportRow) (name : List ℕ) → KnowsFirsts part named rows → position_from (bytes_eq name) 0 (names_of named) ≡ None → first_from part name 0 rows ≡ None
+unknown part named rows name known h = sym (known.first name) ∙ ap (option_map (λ p. get_or (numbers_of named) p 0)) h
 
-found_either : {X Y : Type 0} (f : ℕ → X) (g : ℕ → Y) (o : Option ℕ) → is_some (option_map f o) ≡ is_some (option_map g o)
-found_either f g None = refl
-found_either f g (Some n) = refl
+some_place : (numbers : List ℕ) (o : Option ℕ) → is_some o ≡ is_some (option_map (λ p. get_or numbers p 0) o)
+some_place numbers None = refl
+some_place numbers (Some place) = refl
 
 -- a name that is found is that of an earlier row
-pub found_is_known : (part : Part) (named : NamedRows) (rows : List ImportRow) (row : ImportRow) → KnowsFirsts part named rows
-    → is_some (option_map (found_at named) (position_from (bytes_eq (name_in part row)) 0 (names_of named.names))) ≡ is_known part rows row
+pub found_is_known : (part : Part) (named : NamedRows) (rows : List ImportRow) (row : ImportRow) → KnowsFirsts part named rows → is_some (place_of named (name_in part row)) ≡ is_known part rows row
 found_is_known part named rows row known =
-    found_either (found_at named) (λ p. get_or (numbers_of named.firsts) p 0) (position_from (bytes_eq (name_in part row)) 0 (names_of named.names))
-    ∙ ap is_some (known.first (name_in part row)) ∙ sym (known_if part rows row)
+    some_place (numbers_of named) (place_of named (name_in part row)) ∙ ap is_some (known.first (name_in part row)) ∙ sym (known_if part rows row)
 
 -- ---- one more row
 
@@ -197,10 +180,9 @@ pub known_kept : (part : Part) (named : NamedRows) (rows : List ImportRow) (row 
 known_kept part named rows row k known there =
     let same : firsts part (rows ++ row ∷ []) ≡ firsts part rows = firsts_old part rows row k there in
     record {
-      indexed = known.indexed;
       names = known.names ∙ ap (map (name_in part)) (sym same);
       apart = known.apart;
-      listed = subst (AllZip (λ n r. slice_get (rows ++ row ∷ []) n ≡ Some r) (numbers_of named.firsts)) (sym same) (listed_more rows row (numbers_of named.firsts) (firsts part rows) known.listed);
+      listed = subst (AllZip (λ n r. slice_get (rows ++ row ∷ []) n ≡ Some r) (numbers_of named)) (sym same) (listed_more rows row (numbers_of named) (firsts part rows) known.listed);
       first = λ name.
           known.first name
           ∙ sym (position_from-push (λ r. bytes_eq name (name_in part r)) 0 (length rows) rows row (omega arith)
@@ -214,11 +196,11 @@ some_or_last numbers n many None true long low = ap (λ (m : ℕ). Some (get_or 
 some_or_last numbers n many None false long low = refl
 some_or_last numbers n many (Some p) b long low = let few : p < many = low p refl in ap (λ (m : ℕ). Some m) (get_or-append numbers (n ∷ []) 0 p (omega (arith, few, long)))
 
-pub known_added : (part : Part) (old new : NamedRows) (rows : List ImportRow) (row : ImportRow) → KnowsFirsts part old rows → IsIndexed new.names → names_of new.names ≡ names_of old.names ++ name_in part row ∷ []
-    → numbers_of new.firsts ≡ numbers_of old.firsts ++ length rows ∷ [] → first_from part (name_in part row) 0 rows ≡ None → position_from (bytes_eq (name_in part row)) 0 (names_of old.names) ≡ None → KnowsFirsts part new (rows ++ row ∷ [])
-known_added part old new rows row known indexed named numbered none nowhere =
-    let names = names_of old.names in
-    let numbers = numbers_of old.firsts in
+pub known_added : (part : Part) (old new : NamedRows) (rows : List ImportRow) (row : ImportRow) → KnowsFirsts part old rows → names_of new ≡ names_of old ++ name_in part row ∷ []
+    → numbers_of new ≡ numbers_of old ++ length rows ∷ [] → first_from part (name_in part row) 0 rows ≡ None → position_from (bytes_eq (name_in part row)) 0 (names_of old) ≡ None → KnowsFirsts part new (rows ++ row ∷ [])
+known_added part old new rows row known named numbered none nowhere =
+    let names = names_of old in
+    let numbers = numbers_of old in
     let own = name_in part row in
     let all = rows ++ row ∷ [] in
     let grown : firsts part all ≡ firsts part rows ++ row ∷ [] = firsts_new part rows row none in
@@ -242,10 +224,59 @@ known_added part old new rows row known indexed named numbered none nowhere =
     ∙ ap (λ o. option_or o (cond (bytes_eq name own) (Some (length rows)) None)) (known.first name)
     ∙ sym (position_from-push (λ r. bytes_eq name (name_in part r)) 0 (length rows) rows row (omega arith)) in
     record {
-      indexed = indexed;
-      names = named ∙ facts_new (name_in part) part rows row names none known.names;
+      names = named ∙ ap (λ ns. ns ++ own ∷ []) known.names ∙ sym (map-append (name_in part) (firsts part rows) (row ∷ [])) ∙ ap (map (name_in part)) (sym grown);
       apart = subst (λ (ns : List (List ℕ)). (place : ℕ) (name : List ℕ) → slice_get ns place ≡ Some name → position_from (bytes_eq name) 0 ns ≡ Some place) (sym named) apart;
       listed = subst (λ (ks : List ℕ). AllZip (λ n r. slice_get all n ≡ Some r) ks (firsts part all)) (sym numbered) (subst (AllZip (λ n r. slice_get all n ≡ Some r) (numbers ++ length rows ∷ [])) (sym grown) listed);
       first = λ name.
           ap₂ (λ (ks : List ℕ) (ns : List (List ℕ)). option_map (λ p. get_or ks p 0) (position_from (bytes_eq name) 0 ns)) numbered named ∙ first name;
     }
+
+-- ---- names in their map
+
+place_among : (name : List ℕ) (n : ℕ) (ks : List (String Global)) → position_from (λ k. bytes_eq name (string_bytes k)) n ks ≡ position_from (bytes_eq name) n (map string_bytes ks)
+place_among name n [] = refl
+place_among name n (k ∷ ks) = ap (cond (bytes_eq name (string_bytes k)) (Some n)) (place_among name (n + 1) ks)
+
+pub place_found : (named : NamedRows) (name : List ℕ) → position (λ k. bytes_eq name (string_bytes k)) (keys named.firsts) ≡ place_of named name
+place_found named name = position_from-zero (λ k. bytes_eq name (string_bytes k)) (keys named.firsts) ∙ place_among name 0 (keys named.firsts)
+
+no_place : (o : Option ℕ) → is_some o ≡ false → o ≡ None
+no_place None none = refl
+no_place (Some place) none = cc none
+
+some_place_of : (o : Option ℕ) → is_some o ≡ true → (place : ℕ) × (o ≡ Some place)
+some_place_of None some = cc some
+some_place_of (Some place) some = (place, refl)
+
+pub known_again : (named : NamedRows) (name : List ℕ) (number : ℕ) → is_some (place_of named name) ≡ true → KnowsMore named named name number
+known_again named name number some = λ part rows row own same known.
+    let (place, there) = some_place_of (place_of named name) some in
+    let at : place_of named (name_in part row) ≡ Some place = ap (place_of named) (sym own) ∙ there in
+    known_kept part named rows row _ known (known_at part named rows (name_in part row) place known at).number
+
+pub known_more : (old new : NamedRows) (key : String Global) (name : List ℕ) (number : ℕ) → is_some (place_of old name) ≡ false → is_some (get_by_text old.firsts name) ≡ false → string_bytes key ≡ name
+    → new.firsts.entries ≡ insert_entry string_eq old.firsts.entries key number → KnowsMore old new name number
+known_more old new key name number none absent is inserted = λ part rows row own same known.
+    let nowhere = no_place (place_of old name) none in
+    let at : place_of old (name_in part row) ≡ None = ap (place_of old) (sym own) ∙ nowhere in
+    let free : get string_eq old.firsts key ≡ None = (hash_map_text_same key name old.firsts.entries (sym is)).0 ∙ no_place (get_by_text old.firsts name) absent in
+    let more : new.firsts.entries ≡ old.firsts.entries ++ (key, number) ∷ [] = inserted ∙ insert_entry-new string_eq old.firsts key number free in
+    let names : names_of new ≡ names_of old ++ string_bytes key ∷ [] =
+    ap (λ es. map string_bytes (map (λ e. e.0) es)) more ∙ ap (map string_bytes) (map-append (λ e. e.0) old.firsts.entries ((key, number) ∷ [])) ∙ map-append string_bytes (keys old.firsts) (key ∷ []) in
+    let numbers : numbers_of new ≡ numbers_of old ++ number ∷ [] = ap (map (λ e. e.1)) more ∙ map-append (λ e. e.1) old.firsts.entries ((key, number) ∷ []) in
+    known_added part old new rows row known (names ∙ ap (λ n. names_of old ++ n ∷ []) (is ∙ own)) (numbers ∙ ap (λ (n : ℕ). numbers_of old ++ n ∷ []) same)
+    (unknown part old rows (name_in part row) known at) at
+
+pub place_within : (named : NamedRows) (name : List ℕ) (place : ℕ) → place_of named name ≡ Some place → place < length (names_of named)
+place_within named name place found =
+    let f = found_here (bytes_eq name) 0 (names_of named) place found in
+    let few = slice_get_within (names_of named) f.at f.element f.there in
+    let at = f.counted in
+    omega (arith, few, at)
+
+-- ---- all parts
+
+pub knows_part : (part : Part) (known : Known) → Knows known → KnowsFirsts part (named_of part known) known.rows.items
+knows_part Receivers known knows = knows.receivers
+knows_part Sources known knows = knows.sources
+knows_part Groups known knows = knows.groups

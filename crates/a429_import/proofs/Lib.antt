@@ -11,11 +11,9 @@ mod UntilLast
 pub mod ImportNotes
 pub mod ImportReading
 pub mod FirstPlaces
-pub mod NameChains
 pub mod Knowing
 pub mod KnownClashes
 pub mod KnownRows
-pub mod Flags
 mod Lookups
 pub mod FewRows
 pub mod RowLines
@@ -33,7 +31,7 @@ pub mod KeyedLines
 pub mod FilledLines
 pub mod ChosenNames
 mod NamesApart
-pub mod RenamedReading
+pub mod SheetReading
 pub mod PrintedTables
 mod KeptFields
 mod SkippedTexts

@@ -23,8 +23,7 @@ use Rattle.a429_import.specs.declared.firsts.Part.TheVariants.{Receivers, Source
 use Rattle.a429_import.specs.declared.rows.ImportRow.{ImportRow}
 use Rattle.a429_import.specs.ImportTables.{firsts, group_tree, groups_of, is_stated, listed, name_in, number, output_tree, part_tree, part_trees, receiver_tree, root_members, rows_of_group, sdi_data, source_tree, with_filters, with_hold, words}
 use Rattle.a429_import.specs.declared.known.Known.{Known}
-use Rattle.a429_import.specs.Known.{Knows}
-use Rattle.a429_import.specs.Names.{names_of}
+use Rattle.a429_import.specs.Known.{Knows, names_of}
 use Rattle.a429_import.specs.PrintedTables.{IsSkipped, IsWithTables, PrintsTables, alone, head_members, with_empty}
 use Rattle.a429_import.specs.TableTexts.{IsTableText, is_placed, piece_of, pieces}
 use Rattle.a429_import.proofs.ImportTrees.{group_depth, output_depth, receiver_depth, source_depth, trees_are}
@@ -440,20 +439,21 @@ version_alone = member (codes "version") (number 2) no_members
 count_of : {X Y : Type 0} (f : X → Y) (g : X → Data) (names : List Y) (xs : List X) (count : ℕ) → count ≡ length names → names ≡ map f xs → count ≡ length (map g xs)
 count_of f g names xs count counted same = counted ∙ ap length same ∙ length-map xs f ∙ sym (length-map xs g)
 
-pub head_is : (rows : List ImportRow) (known : Known) (a b c d : Members) (sources receivers groups : ℕ) → Knows known rows → a ≡ version_alone
-    → sources ≡ length (names_of known.sources.named.names) → receivers ≡ length (names_of known.receivers.named.names) → groups ≡ length (groups_of rows)
+pub head_is : (known : Known) (a b c d : Members) (sources receivers groups : ℕ) → Knows known → a ≡ version_alone
+    → sources ≡ length (names_of known.sources) → receivers ≡ length (names_of known.receivers) → groups ≡ length (groups_of known.rows.items)
     → (is_before (codes "source") a ≡ true → (xs : List Data) → sources ≡ length xs → b ≡ with_empty (codes "source") xs a)
     → (is_before (codes "receiver") b ≡ true → (xs : List Data) → receivers ≡ length xs → c ≡ with_empty (codes "receiver") xs b)
     → (is_before (codes "group") c ≡ true → (xs : List Data) → groups ≡ length xs → d ≡ with_empty (codes "group") xs c)
-    → d ≡ head_members rows
-head_is rows known a b c d sources receivers groups knows first_is s_count r_count g_count s r g =
+    → d ≡ head_members known.rows.items
+head_is known a b c d sources receivers groups knows first_is s_count r_count g_count s r g =
+    let rows : List ImportRow = known.rows.items in
     let gs : List Data = part_trees Groups rows in
     let rs : List Data = part_trees Receivers rows in
     let ss : List Data = part_trees Sources rows in
     let with_sources : Members = with_empty (codes "source") ss version_alone in
     let with_receivers : Members = with_empty (codes "receiver") rs with_sources in
-    let s_all = count_of (name_in Sources) (part_tree Sources rows) (names_of known.sources.named.names) (firsts Sources rows) sources s_count knows.sources.names.names in
-    let r_all = count_of (name_in Receivers) (part_tree Receivers rows) (names_of known.receivers.named.names) (firsts Receivers rows) receivers r_count knows.receivers.names.names in
+    let s_all = count_of (name_in Sources) (part_tree Sources rows) (names_of known.sources) (firsts Sources rows) sources s_count knows.sources.names in
+    let r_all = count_of (name_in Receivers) (part_tree Receivers rows) (names_of known.receivers) (firsts Receivers rows) receivers r_count knows.receivers.names in
     let g_all : groups ≡ length gs = g_count ∙ sym (length-map (groups_of rows) (group_tree rows)) in
     let b_is = empty_put (codes "source") ss sources a b version_alone first_is refl s_all s in
     let c_is = empty_put (codes "receiver") rs receivers b c with_sources b_is (before_empty (codes "receiver") (codes "source") ss version_alone refl refl) r_all r in

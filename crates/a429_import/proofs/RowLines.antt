@@ -1,4 +1,5 @@
 -- On which line of a file a row begins.
+use mir.Val.{bool_byte}
 use Rattle.std.proofs.Common.{◌≡◌, ◌∙◌, ◌+◌, ◌-◌, ◌<◌, ◌≤◌, ℕ, zero, suc, Bool, true, false, cond, List, [], ◌∷◌, ◌++◌, Option, None, Some, ap, arith, drop, get_or, inl, inr, length, not, refl, subst, sym, take}
 use Rattle.std.specs.Prelude.{◌==◌, ◌&&◌, ◌||◌}
 use Rattle.std.specs.List.{find}
@@ -266,3 +267,7 @@ from_heading_end maps text = by (heading_of maps text) refl
     by (Some found) there =
         let line : List ℕ = without_byte_order_mark text in
         heading_end maps 11 text (from_line line) found (end_of_end (count_before (λ b. not (ends_line b)) line) text line (mark_end text)) there
+
+pub one_is : (b : Bool) → bool_byte b ≡ cond b 1 0
+one_is true = refl
+one_is false = refl

@@ -1,25 +1,23 @@
 -- What is known of lines that were read: what the rows among them say, or their first fault (profile: import).
 use Rattle.std.specs.Borrow.{Bor}
-use Rattle.std.specs.Prelude.{◌≡◌, ◌+◌, ℕ, Bool, true, false, List, [], ◌∷◌, Option, None, Some, drop, length, map, option_map, Result, Ok, Err, vec_len}
+use Rattle.std.specs.Prelude.{◌≡◌, ◌+◌, ℕ, true, false, List, [], ◌∷◌, Option, None, Some, drop, length, map, option_map, Result, Ok, Err, vec_len}
 use Rattle.std.specs.List.{AllByRecursion, list_any}
 use Rattle.csv.specs.Reading.{Reached, Ready, source_of, strip_bom}
 use Rattle.csv.specs.Records.{fields_of}
 use Rattle.csv.specs.declared.parser.State.TheVariants as st
 use Rattle.csv.specs.declared.reader.Reader.{Reader}
 use Rattle.csv.specs.declared.reader.Trim.TheVariants as trim
-use Rattle.a429_import.specs.declared.columns.Heading.{Heading}
 use Rattle.a429_import.specs.declared.fault.CsvFaultKind.TheVariants.{Column, TooMany}
 use Rattle.a429_import.specs.declared.fault.ImportColumn.{ImportColumn}
 use Rattle.a429_import.specs.declared.fault.ImportFault.{ImportFault}
 use Rattle.a429_import.specs.declared.fault.ImportFault.TheVariants.{Csv}
+use Rattle.a429_import.specs.declared.known.Known.{Known}
 use Rattle.a429_import.specs.declared.lines.CsvLine.{CsvLine}
 use Rattle.a429_import.specs.declared.lines.LineCount.{LineCount}
 use Rattle.a429_import.specs.declared.notes.Notes.{Notes}
 use Rattle.a429_import.specs.declared.reading.LinesRead.{LinesRead}
-use Rattle.a429_import.specs.declared.reading.RowsRead.{RowsRead}
 use Rattle.a429_import.specs.declared.rows.ImportRow.{ImportRow}
 use Rattle.a429_import.specs.ImportClashes.{Agree}
-use Rattle.a429_import.specs.ImportMaps.{AreNamedBy}
 use Rattle.a429_import.specs.ImportRows.{CsvFault, has_label, rows_after, rows_stated, without_notes, wrong_column}
 use Rattle.a429_import.specs.Imports.{States, separated}
 use Rattle.a429_import.specs.ImportSteps.{state_of}
@@ -59,25 +57,15 @@ IsReadRow P (Err e) = ⊥
 abbrev pub heading_fault : CsvLine → Option ImportFault
 heading_fault heading = option_map {T = ImportColumn} {U = ImportFault} (λ column. Csv heading.number Column (Some column)) (wrong_column (fields_of heading.fields))
 
--- these lines, of which there is at least one, have this fault
-abbrev pub HaveFault : ImportFault → List CsvLine → Type 0
-HaveFault fault [] = ⊥
-HaveFault fault (heading ∷ below) = States {X = List ImportRow} (λ rows. rows) (Err fault) (rows_stated (heading ∷ below))
-
--- what was read says these rows
-pub record HasRows (read : RowsRead) (rows : List ImportRow) : Type 0 where
-  pub known : Knows read.known rows
-  pub kept : read.kept.items ≡ rows
-
--- one more row is taken: the rows are then these; or they have one too many of what this column names
-abbrev pub IsAdded : Option ImportColumn → RowsRead → (ℕ → Result (List ImportRow) CsvFault) → Type 0
-IsAdded None read stated = (rows : List ImportRow) × ((line : ℕ) → stated line ≡ Ok rows) × HasRows read rows
-IsAdded (Some column) read stated = (line : ℕ) → stated line ≡ Err (line, TooMany, Some column)
+-- one more row is taken: what is known is then that of these rows; or they have one too many of what this column names
+abbrev pub IsAdded : Option ImportColumn → Known → (ℕ → Result (List ImportRow) CsvFault) → Type 0
+IsAdded None known stated = ((line : ℕ) → stated line ≡ Ok known.rows.items) × Knows known
+IsAdded (Some column) known stated = (line : ℕ) → stated line ≡ Err (line, TooMany, Some column)
 
 -- one more row is read, or refused
-abbrev pub IsTaken : Result (Unit {0}) ImportFault → RowsRead → Result (List ImportRow) CsvFault → Type 0
-IsTaken (Ok u) read stated = (rows : List ImportRow) × (stated ≡ Ok rows) × Agree rows × HasRows read rows
-IsTaken (Err fault) read stated = States {X = List ImportRow} (λ rows. rows) (Err fault) stated
+abbrev pub IsTaken : Result (Unit {0}) ImportFault → Known → Result (List ImportRow) CsvFault → Type 0
+IsTaken (Ok u) known stated = (stated ≡ Ok known.rows.items) × Agree known.rows.items × Knows known
+IsTaken (Err fault) known stated = States {X = List ImportRow} (λ rows. rows) (Err fault) stated
 
 -- no row was read, so none may be a note
 pub record HasNoRow (notes : Notes) : Type 0 where
@@ -101,44 +89,36 @@ IsHeld None rows stated = stated ≡ Ok rows
 IsHeld (Some fault) rows stated = States {X = List ImportRow} (λ rows. rows) (Err fault) stated
 
 -- the rows that lines below a heading say, if those below the last one with a label are notes
-pub record AreBelow (heading : List (List ℕ)) (below : List CsvLine) (read : RowsRead) (notes : Notes) : Type 0 where
-  pub rows : List ImportRow
-  pub stated : rows_after heading [] (without_notes heading below) ≡ Ok rows
-  pub held : IsHeld notes.held rows (rows_after heading [] below)
+pub record AreBelow (heading : List (List ℕ)) (below : List CsvLine) (known : Known) (notes : Notes) : Type 0 where
+  pub stated : rows_after heading [] (without_notes heading below) ≡ Ok known.rows.items
+  pub held : IsHeld notes.held known.rows.items (rows_after heading [] below)
   pub labelled : notes.is_labelled ≡ list_any (has_label heading) below
   pub count : length (without_notes heading below) + vec_len notes.rows ≡ length below
-  pub agree : Agree rows
-  pub has : HasRows read rows
+  pub agree : Agree known.rows.items
+  pub knows : Knows known
 
 -- lines below a heading are read, or refused
-abbrev pub AreTaken : Result (Unit {0}) ImportFault → List (List ℕ) → List CsvLine → RowsRead → Notes → Type 0
-AreTaken (Ok u) heading below read notes = AreBelow heading below read notes
-AreTaken (Err fault) heading below read notes = States {X = List ImportRow} (λ rows. rows) (Err fault) (rows_after heading [] (without_notes heading below))
+abbrev pub AreTaken : Result (Unit {0}) ImportFault → List (List ℕ) → List CsvLine → Known → Notes → Type 0
+AreTaken (Ok u) heading below known notes = AreBelow heading below known notes
+AreTaken (Err fault) heading below known notes = States {X = List ImportRow} (λ rows. rows) (Err fault) (rows_after heading [] (without_notes heading below))
 
 -- the same, below a heading without a fault
 pub record SayRows (heading : CsvLine) (below : List CsvLine) (read : LinesRead) : Type 0 where
   pub named : wrong_column (fields_of heading.fields) ≡ None
-  pub are : AreBelow (fields_of heading.fields) below read.rows read.notes
+  pub are : AreBelow (fields_of heading.fields) below read.known read.notes
   pub kept : KeepsTexts read.kept (fields_of heading.fields) below
 
--- nothing was read yet, or a heading and the lines below it
-abbrev pub HaveRows : Option Heading → LinesRead → List CsvLine → Type 0
-HaveRows None read lines = (lines ≡ []) × HasRows read.rows [] × HasNoRow read.notes × ((heading : List (List ℕ)) → KeepsTexts read.kept heading [])
-HaveRows (Some heading) read lines = (below : List CsvLine) × (lines ≡ heading.line ∷ below) × SayRows heading.line below read
+-- no line was read
+pub record KnowsNothing (read : LinesRead) : Type 0 where
+  pub knows : Knows read.known
+  pub rows : read.known.rows.items ≡ []
+  pub notes : HasNoRow read.notes
+  pub kept : (heading : List (List ℕ)) → KeepsTexts read.kept heading []
 
-abbrev pub AreRead : Option ImportFault → LinesRead → List CsvLine → Type 0
-AreRead None read lines = HaveRows read.heading read lines
-AreRead (Some fault) read lines = HaveFault fault lines
+-- a heading and the lines below it have this fault, or what is known is right for them
+abbrev pub AreRead : Option ImportFault → LinesRead → CsvLine → List CsvLine → Type 0
+AreRead None read heading below = SayRows heading below read
+AreRead (Some fault) read heading below = States {X = List ImportRow} (λ rows. rows) (Err fault) (rows_stated (heading ∷ below))
 
--- what is known is right for these lines
-abbrev pub StandsFor : LinesRead → List CsvLine → Type 0
-StandsFor read lines = AreRead read.fault read lines
-
--- the heading is the first of these lines, if there is one
-abbrev pub IsHeadingOf : Option Heading → List CsvLine → Type 0
-IsHeadingOf None lines = lines ≡ []
-IsHeadingOf (Some heading) lines = (below : List CsvLine) × (lines ≡ heading.line ∷ below)
-
--- this is so of these lines with the names of the heading by texts HEADING=COLUMN; the flag says whether there is a heading
-abbrev pub IsOfNamed : List (List ℕ) → Bool → (List CsvLine → Type 0) → List CsvLine → Type 0
-IsOfNamed maps is_below P lines = (named : List CsvLine) × AreNamedBy maps is_below lines named × P named
+abbrev pub StandsFor : CsvLine → LinesRead → List CsvLine → Type 0
+StandsFor heading read below = AreRead read.fault read heading below

@@ -11,7 +11,6 @@ use Rattle.a429_table.specs.Faults.{faults, first}
 use Rattle.a429_table.specs.Reading.{reading}
 use Rattle.a429_import.specs.declared.fault.CsvFaultKind.TheVariants.{Form}
 use Rattle.a429_import.specs.declared.import.Imported.{Imported}
-use Rattle.a429_import.specs.declared.import.MadeTable.{MadeTable}
 use Rattle.a429_import.specs.declared.import.ImportOptions.{ImportOptions}
 use Rattle.a429_import.specs.declared.fault.ImportFault.{ImportFault}
 use Rattle.a429_import.specs.declared.fault.ImportFault.TheVariants.{NoMemory, Csv, Table}
@@ -74,10 +73,6 @@ is_misquoted_text maps text = has_wrong_quotes (separated (separator_in maps tex
 abbrev pub has_row_above : List (List ℕ) → List ℕ → Bool
 has_row_above maps text = has_data_above (separated (separator_in maps text)) maps (from_heading maps text) text
 
--- the table that is imported
-abbrev pub table_made : Imported → MadeTable
-table_made imported = record { text = imported.text; equipment = imported.equipment }
-
 -- The import of lines: the text is read as the record of the rows, and has the comments of the columns that go along. The notes are counted. A table is
 -- refused for its first fault
 abbrev pub IsImportOf : List CsvLine → Result Imported ImportFault → Type 0
@@ -91,7 +86,7 @@ IsImportOf lines (Err (Table (fault.At kind place))) =
     (rows : List ImportRow) × (rows_stated lines ≡ Ok rows) × (first (faults (table (root_members rows))) ≡ Some (kind, place))
 
 -- a table is read as the record of rows, with these lines of sources, and the rows before names were made; it is refused for its first fault
-abbrev pub IsTableOf : (List ℕ → List ℕ) → Option (List ImportRow) → List ImportRow → Result MadeTable ImportFault → Type 0
+abbrev pub IsTableOf : (List ℕ → List ℕ) → Option (List ImportRow) → List ImportRow → Result Imported ImportFault → Type 0
 IsTableOf kept before rows (Ok made) = (reading made.text.items ≡ Ok (record_stated rows)) × (made.equipment ≡ record_stated rows) × IsTableText kept before rows made.text.items
 IsTableOf kept before rows (Err NoMemory) = Unit {0}
 IsTableOf kept before rows (Err (Table (fault.At kind place))) = first (faults (table (root_members rows))) ≡ Some (kind, place)
@@ -102,13 +97,13 @@ abbrev pub rows_by : Bool → List ImportRow → List ImportRow
 rows_by makes_names rows = if makes_names then all_renamed rows else rows
 
 -- the table of rows, with names if the flag is set
-abbrev pub IsTableBy : (List ℕ → List ℕ) → Bool → List ImportRow → Result MadeTable ImportFault → Type 0
+abbrev pub IsTableBy : (List ℕ → List ℕ) → Bool → List ImportRow → Result Imported ImportFault → Type 0
 IsTableBy kept makes_names rows result = IsTableOf kept (if makes_names then Some rows else None) (rows_by makes_names rows) result
 
 -- the same, of the rows that lines state
 abbrev pub IsNamedImport : List CsvLine → Result Imported ImportFault → Type 0
 IsNamedImport lines (Ok imported) =
-    (rows : List ImportRow) × (rows_stated lines ≡ Ok rows) × IsTableBy (kept_of lines) true rows (Ok (table_made imported)) × (imported.notes ≡ note_count lines)
+    (rows : List ImportRow) × (rows_stated lines ≡ Ok rows) × IsTableBy (kept_of lines) true rows (Ok imported) × (imported.notes ≡ note_count lines)
 IsNamedImport lines (Err NoMemory) = Unit {0}
 IsNamedImport lines (Err (Csv line kind column)) = rows_stated lines ≡ Err (line, kind, column)
 IsNamedImport lines (Err (Table fault)) = (rows : List ImportRow) × (rows_stated lines ≡ Ok rows) × IsTableBy (kept_of lines) true rows (Err (Table fault))
@@ -128,6 +123,10 @@ abbrev pub IsFilledImport : Bool → Bool → List CsvLine → Result Imported I
 IsFilledImport false makes_names lines result = IsImportBy makes_names lines result
 IsFilledImport true makes_names lines result = (filled : List CsvLine) × AreFilledBelow lines filled × IsImportBy makes_names filled result
 
+-- the same of lines whose heading gets its names by texts HEADING=COLUMN
+abbrev pub IsSheetImport : List (List ℕ) → ImportOptions → List CsvLine → Result Imported ImportFault → Type 0
+IsSheetImport maps options lines result = (is_below : Bool) × (named : List CsvLine) × AreNamedBy maps is_below lines named × IsFilledImport options.fills options.makes_names named result
+
 -- the line of the fault that comes before those of rows
 abbrev pub text_fault_line : List (List ℕ) → List ℕ → Option ℕ
 text_fault_line maps text = fault_line (separated (separator_in maps text)) maps (from_heading maps text) text
@@ -138,12 +137,11 @@ IsImportIf true maps options text result = (line : ℕ) × (text_fault_line maps
 IsImportIf false maps options text result =
     (lines : List CsvLine) × AreNamedLines maps text lines × IsFilledImport options.fills options.makes_names lines result
 
--- the same; an allocation may fail before all lines are known
+-- a text has such a fault
+abbrev pub is_unfit : List (List ℕ) → List ℕ → Bool
+is_unfit maps text = is_misquoted_text maps text || has_row_above maps text
+
+-- the import of a text; an allocation may fail before all lines are known
 abbrev pub IsImport : List (List ℕ) → ImportOptions → List ℕ → Result Imported ImportFault → Type 0
 IsImport maps options text (Err NoMemory) = Unit {0}
-IsImport maps options text result = IsImportIf (is_misquoted_text maps text || has_row_above maps text) maps options text result
-
--- the fault of a text that comes before those of its rows, if it has one
-abbrev pub IsTextFault : List (List ℕ) → List ℕ → Option ImportFault → Type 0
-IsTextFault maps text None = (is_misquoted_text maps text || has_row_above maps text) ≡ false
-IsTextFault maps text (Some fault) = (options : ImportOptions) → IsImport maps options text (Err fault)
+IsImport maps options text result = IsImportIf (is_unfit maps text) maps options text result

@@ -1,5 +1,5 @@
 -- Columns of a sheet that go along as comments of the table (profile: import).
-use Rattle.std.specs.Prelude.{◌≡◌, ℕ, ◌==◌, ◌&&◌, ◌||◌, Bool, true, false, List, [], ◌∷◌, ◌++◌, Option, None, Some, codes, if◌then◌else◌, length, map, nat_lt, unwrap_or}
+use Rattle.std.specs.Prelude.{◌≡◌, ℕ, ◌==◌, ◌&&◌, ◌||◌, Bool, true, false, List, [], ◌∷◌, ◌++◌, Option, None, Some, codes, if◌then◌else◌, map, nat_lt, unwrap_or}
 use Rattle.std.specs.List.{find, flat_map, list_all}
 use Rattle.std.specs.Option.{option_map, option_map_or}
 use Rattle.std.specs.Str.{bytes_eq, is_utf8}
@@ -12,7 +12,6 @@ use Rattle.a429_import.specs.declared.lines.CsvLine.{CsvLine}
 use Rattle.a429_import.specs.ImportFields.{utf8_in}
 use Rattle.a429_import.specs.ImportRows.{column_field, has_label}
 use Rattle.a429_import.specs.ImportTables.{is_word}
-use Rattle.a429_import.specs.Names.{AreTexts, IsIndexed, names_of, texts_of}
 
 -- ---- the fields of a row
 
@@ -58,37 +57,25 @@ kept_of (heading ∷ below) source = unwrap_or (first_kept (fields_of heading.fi
 
 -- ---- what is known of rows
 
--- the text of a name
-abbrev pub text_by : List (List ℕ) → List (List ℕ) → List ℕ → Option (List ℕ)
-text_by (name ∷ names) (text ∷ texts) source = if bytes_eq source name then Some text else text_by names texts source
-text_by _ _ source = None
-
+-- the lines of a source
 abbrev pub kept_at : KeptTexts → List ℕ → Option (List ℕ)
-kept_at kept source = text_by (names_of kept.sources) (texts_of kept.texts) source
+kept_at kept source = option_map (λ text. text.lines.items) (find (λ text. bytes_eq source text.source.items) kept.texts.items)
 
 -- the lines of a source; nothing if there are none
 abbrev pub lines_kept : KeptTexts → List ℕ → List ℕ
 lines_kept kept source = unwrap_or (kept_at kept source) []
 
--- the texts are found by their sources
-pub record AreKept (kept : KeptTexts) : Type 0 where
-  pub indexed : IsIndexed kept.sources
-  pub whole : AreTexts kept.texts
-  pub count : length (names_of kept.sources) ≡ length (texts_of kept.texts)
-
--- they are those of the rows below a heading
-pub record KeepsTexts (kept : KeptTexts) (heading : List (List ℕ)) (below : List CsvLine) : Type 0 where
-  pub are : AreKept kept
-  pub texts : (source : List ℕ) → kept_at kept source ≡ first_kept heading below source
+-- the texts are those of the rows below a heading
+abbrev pub KeepsTexts : KeptTexts → List (List ℕ) → List CsvLine → Type 0
+KeepsTexts kept heading below = (source : List ℕ) → kept_at kept source ≡ first_kept heading below source
 
 -- a text of a source, unless there is one before
 abbrev pub or_text : List ℕ → List ℕ → Option (List ℕ) → List ℕ → Option (List ℕ)
 or_text source text None other = if bytes_eq other source then Some text else None
 or_text source text (Some before) other = Some before
 
-pub record TakesText (old new : KeptTexts) (source text : List ℕ) : Type 0 where
-  pub are : AreKept new
-  pub texts : (other : List ℕ) → kept_at new other ≡ or_text source text (kept_at old other) other
+abbrev pub TakesText : KeptTexts → KeptTexts → List ℕ → List ℕ → Type 0
+TakesText old new source text = (other : List ℕ) → kept_at new other ≡ or_text source text (kept_at old other) other
 
 -- ---- comments
 

@@ -30,8 +30,7 @@ pub mod ImportClashes
 pub mod ImportLimits
 pub mod ImportReading
 pub mod RenamedReading
-pub mod FilledReading
-pub mod Names
+pub mod SheetReading
 pub mod Known
 pub mod KeptFields
 pub mod TableTexts

@@ -1,16 +1,17 @@
 -- The text of a table that rows state, with its comments (profile: import).
+use Rattle.std.specs.Borrow.{Bor}
 use Rattle.std.specs.Prelude.{◌≡◌, ◌++◌, ◌∷◌, [], ℕ, Bool, false, List, Option, None, Some, codes, IfSome, filter, if◌then◌else◌, map, slice_get}
 use Rattle.std.specs.List.{enumerate_from}
 use Rattle.std.specs.Str.{bytes_eq}
 use Rattle.toml.specs.Data.{Data}
 use Rattle.toml.specs.Text.{IsDocumentText}
 use Rattle.a429_import.specs.declared.comments.Comments.{Comments}
-use Rattle.a429_import.specs.declared.comments.MadeOf.{MadeOf}
 use Rattle.a429_import.specs.declared.firsts.Part.{Part}
 use Rattle.a429_import.specs.declared.firsts.Part.TheVariants.{Receivers, Sources, Groups}
+use Rattle.a429_import.specs.declared.known.Known.{Known}
 use Rattle.a429_import.specs.declared.rows.ImportRow.{ImportRow}
 use Rattle.a429_import.specs.ImportTables.{firsts, is_stated, name_in, part_tree}
-use Rattle.a429_import.specs.KeptFields.{AreKept, comment_line, kept_comments, shown}
+use Rattle.a429_import.specs.KeptFields.{comment_line, kept_comments, shown}
 use Rattle.a429_import.specs.Known.{Knows}
 use Rattle.a429_import.specs.PrintedTables.{PrintsTables, head_members}
 use Rattle.a429_import.specs.Renamed.{text_of}
@@ -71,11 +72,10 @@ pub record IsTableText (kept : List ℕ → List ℕ) (before : Option (List Imp
   pub sources_are : PrintsTables (codes "source") (pieces kept before Sources rows) sources
 
 -- the rows before names were made, as comments have them
-abbrev pub rows_before : Option MadeOf → Option (List ImportRow)
+abbrev pub rows_before : Option (Bor Known) → Option (List ImportRow)
 rows_before None = None
-rows_before (Some made) = Some made.rows.now
+rows_before (Some known) = Some known.now.rows.items
 
--- the rows before names were made are known, and so are the lines of sources
-pub record AreSound (comments : Comments) : Type 0 where
-  pub made_of : IfSome comments.made_of (λ made. Knows made.known.now made.rows.now)
-  pub kept : AreKept comments.kept.now
+-- these rows are known
+abbrev pub AreSound : Comments → Type 0
+AreSound comments = IfSome comments.made_of (λ known. Knows known.now)

@@ -1,13 +1,14 @@
 //! Rows of data above the heading: a sheet that was sorted with its heading has them. They would be passed over, as titles are.
-ghost use Rattle.std.specs.Prelude.{◌≡◌, ◌||◌, ◌<◌, [], if◌then◌else◌, IfOk, None, Some, is_some};
+ghost use Rattle.std.specs.Prelude.{◌≡◌, ◌<◌, if◌then◌else◌, IfOk, None, Some};
 ghost use Rattle.std.specs.Option.{option_or};
 ghost use Rattle.csv.specs.Reading.{owned_rows_left, owned_rows_reader};
 ghost use Rattle.csv.specs.Records.{fields_of};
 ghost use Rattle.a429_import.specs.FaultLines.{data_line, data_line_above};
-ghost use Rattle.a429_import.specs.ImportAbove.{first_row, has_data, has_data_above, is_data};
+ghost use Rattle.a429_import.specs.ImportAbove.{first_row, is_data};
 ghost use Rattle.a429_import.specs.ImportMaps.{given_texts, names_by};
 ghost use Rattle.a429_import.specs.ImportReading.{IsUnread};
 ghost use Rattle.a429_import.specs.Imports.{separated};
+ghost use Rattle.a429_import.specs.LineCounts.{IsEnd};
 
 use crate::columns::Heading;
 use crate::fault::ImportColumn;
@@ -15,23 +16,26 @@ use crate::fields::label_in;
 use crate::forms::{Form, text_before};
 use crate::lines::{CsvLine, count_before, line_of, rows_of};
 use crate::maps::named_by;
+use crate::refused::{RefusedRows, titled_rows};
 use csv::{ByteRecord, ByteRecordsIntoIter};
 use std::alloc::{AllocError, Global};
 
 /// The first row of a text of this form; a row without fields if the text has none. Error: an allocation failed.
 fn first_line(
     alloc: Global,
+    text: &[u8],
     form: Form<'_>,
     rows: &mut ByteRecordsIntoIter<&[u8]>,
 ) -> Result<CsvLine, AllocError>
+    requires end { IsEnd text.now form.text.now }
     requires before { IsUnread form.separator form.text.now (owned_rows_reader rows.old) }
     requires left { 0 < owned_rows_left rows.old }
     ensures { IfOk result (λ line. fields_of line.fields ≡ first_row (separated form.entry.separator) form.entry.text.now) }
 {
-    let mut count = count_before(form.text, form.text);
+    let mut count = count_before(text, form.text);
     match rows.next() {
         Some(row) => {
-            let line = line_of(alloc, form.text, form, &mut count, row)?;
+            let line = line_of(alloc, text, form, &mut count, row)?;
             Ok(line)
         }
         None => Ok(CsvLine {
@@ -42,17 +46,16 @@ fn first_line(
     }
 }
 
-/// The heading of a text of this form, with its names by texts HEADING=COLUMN. Error: an allocation failed.
-fn heading_of(alloc: Global, maps: &[&str], form: Form<'_>) -> Result<Heading, AllocError>
-    ensures { IfOk result (λ heading. fields_of heading.line.fields
-        ≡ names_by (given_texts maps.now) (first_row (separated form.entry.separator) form.entry.text.now)) }
+/// The heading of a text, as it is written. The form is that of the text. Error: an allocation failed.
+fn titles_of(alloc: Global, text: &[u8], form: Form<'_>) -> Result<CsvLine, AllocError>
+    requires { IsEnd text.now form.text.now }
+    ensures { IfOk result (λ line. fields_of line.fields ≡ first_row (separated form.entry.separator) form.entry.text.now) }
 {
     let mut rows = rows_of(alloc, form);
-    let first = first_line(alloc, form, &mut rows);
+    let first = first_line(alloc, text, form, &mut rows);
     // One call, instead of a drop of each of its parts.
     std::mem::drop(rows);
-    let named = named_by(alloc, maps, first?)?;
-    Ok(Heading::of(named))
+    first
 }
 
 /// Whether a row is one of data: it has as many fields as the heading, and a label.
@@ -65,9 +68,8 @@ fn is_data(heading: &Heading, row: &CsvLine) -> bool
 
 /// The line that was found, otherwise that of a row of data.
 fn found_at(found: Option<u64>, heading: &Heading, row: &CsvLine) -> Option<u64>
-    ensures line { result ≡ option_or found (if is_data (fields_of heading.now.line.fields) (fields_of row.now.fields)
+    ensures { result ≡ option_or found (if is_data (fields_of heading.now.line.fields) (fields_of row.now.fields)
         then Some row.now.number else None) }
-    ensures data { is_some result ≡ (is_some found || is_data (fields_of heading.now.line.fields) (fields_of row.now.fields)) }
 {
     match found {
         Some(line) => Some(line),
@@ -85,10 +87,8 @@ fn data_line(
 ) -> Result<Option<u64>, AllocError>
     requires before { IsUnread form.separator form.text.now (owned_rows_reader rows.old) }
     requires left { 0 < owned_rows_left rows.old }
-    ensures line { IfOk result (λ line. line
+    ensures { IfOk result (λ line. line
         ≡ data_line (separated form.entry.separator) (fields_of heading.now.line.fields) form.entry.text.now) }
-    ensures data { IfOk result (λ line. is_some line
-        ≡ has_data (separated form.entry.separator) (fields_of heading.now.line.fields) form.entry.text.now) }
 {
     let mut count = count_before(form.text, form.text);
     let mut found = None;
@@ -104,14 +104,12 @@ fn line_in(
     alloc: Global,
     maps: &[&str],
     above: Form<'_>,
-    form: Form<'_>,
+    titles: CsvLine,
 ) -> Result<Option<u64>, AllocError>
-    ensures line { IfOk result (λ line. line ≡ data_line (separated above.entry.separator)
-        (names_by (given_texts maps.now) (first_row (separated form.entry.separator) form.entry.text.now)) above.entry.text.now) }
-    ensures data { IfOk result (λ line. is_some line ≡ has_data (separated above.entry.separator)
-        (names_by (given_texts maps.now) (first_row (separated form.entry.separator) form.entry.text.now)) above.entry.text.now) }
+    ensures { IfOk result (λ line. line ≡ data_line (separated above.entry.separator)
+        (names_by (given_texts maps.now) (fields_of titles.fields)) above.entry.text.now) }
 {
-    let heading = heading_of(alloc, maps, form)?;
+    let heading = Heading::of(named_by(alloc, maps, titles)?);
     let mut rows = rows_of(alloc, above);
     let line = data_line(alloc, &heading, above, &mut rows);
     // One call each, instead of a drop of each of its parts.
@@ -121,25 +119,31 @@ fn line_in(
 }
 
 /// The line on which the first row of data above the heading begins, counted from 1. `None` if no row of data is above
-/// it. The form is that of the text. Error: an allocation failed.
+/// it; otherwise `refused` gets the heading. The form is that of the text. Error: an allocation failed.
 pub fn line_above(
     alloc: Global,
     maps: &[&str],
     text: &[u8],
     form: Form<'_>,
+    refused: &mut Option<RefusedRows>,
 ) -> Result<Option<u64>, AllocError>
-    ensures line { IfOk result (λ line. line
+    requires { IsEnd text.now form.text.now }
+    ensures { IfOk result (λ line. line
         ≡ data_line_above (separated form.entry.separator) (given_texts maps.now) form.entry.text.now text.now) }
-    ensures data { IfOk result (λ line. is_some line
-        ≡ has_data_above (separated form.entry.separator) (given_texts maps.now) form.entry.text.now text.now) }
 {
     let above = text_before(form.text, text);
     if above.is_empty() {
         return Ok(None);
     }
+    let titles = titles_of(alloc, text, form)?;
+    let rows = titled_rows(alloc, &titles)?;
     let lines = Form {
         separator: form.separator,
         text: above,
     };
-    line_in(alloc, maps, lines, form)
+    let line = line_in(alloc, maps, lines, titles)?;
+    if line.is_some() {
+        *refused = Some(rows);
+    }
+    Ok(line)
 }

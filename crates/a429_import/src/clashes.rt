@@ -1,15 +1,17 @@
 //! The contradictions between a row and earlier rows. The earlier rows agree, so a row is compared with only three of them:
 //! the first of its source, of its receiver and of its group.
-ghost use Rattle.std.specs.Prelude.{◌≡◌, List};
-ghost use Rattle.a429_import.specs.declared.rows.ImportRow.{ImportRow};
-ghost use Rattle.a429_import.specs.ImportClashes.{Agree, earlier_clash, numbered};
-ghost use Rattle.a429_import.specs.ImportRows.{first_clash};
+ghost use Rattle.std.specs.Prelude.{◌≡◌};
+ghost use Rattle.a429_import.specs.ImportClashes.{Agree, earlier_clash, first_part_clash, numbered, part_clash};
+ghost use Rattle.a429_import.specs.ImportRows.{first_clash, source_clash};
+ghost use Rattle.a429_import.specs.ImportTables.{name_in};
 ghost use Rattle.a429_import.specs.ImportTexts.{row_view};
 ghost use Rattle.a429_import.specs.Known.{Knows};
 
 use crate::fault::ImportColumn;
+use crate::firsts::Part;
 use crate::known::Known;
-use crate::rows::RowFields;
+use crate::rows::{ImportRow, RowFields};
+use a429_equipment::same_sdi;
 
 /// The number of an earlier row, and a column in which a later row contradicts it.
 #[derive(Clone, Copy)]
@@ -19,7 +21,7 @@ pub struct RowClash {
 }
 
 /// A clash with the row of a number in a column. `None` if there is no column.
-pub fn numbered(number: usize, column: Option<ImportColumn>) -> Option<RowClash>
+fn numbered(number: usize, column: Option<ImportColumn>) -> Option<RowClash>
     ensures { result ≡ numbered number column }
 {
     column.map(|column| RowClash { number, column })
@@ -36,16 +38,79 @@ fn earlier_clash(a: Option<RowClash>, b: Option<RowClash>) -> Option<RowClash>
     }
 }
 
+/// The first column in which a row contradicts an earlier one about the same source.
+fn source_clash(earlier: &ImportRow, row: &RowFields<'_>) -> Option<ImportColumn>
+    ensures { result ≡ source_clash earlier.now (row_view row.now) }
+{
+    if earlier.texts.source.as_str() != row.texts.source {
+        None
+    } else if earlier.texts.receiver.as_str() != row.texts.receiver {
+        Some(ImportColumn::Receiver)
+    } else if earlier.numbers.label != row.numbers.label {
+        Some(ImportColumn::Label)
+    } else if !same_sdi(earlier.numbers.sdi, row.numbers.sdi) {
+        Some(ImportColumn::Sdi)
+    } else {
+        None
+    }
+}
+
+/// The first column in which a row contradicts an earlier one about the same receiver, source or group.
+fn part_clash(part: Part, earlier: &ImportRow, row: &RowFields<'_>) -> Option<ImportColumn>
+    ensures { result ≡ part_clash part earlier.now (row_view row.now) }
+{
+    match part {
+        Part::Sources => source_clash(earlier, row),
+        Part::Receivers
+            if earlier.texts.receiver.as_str() == row.texts.receiver
+                && earlier.texts.filters.as_str() != row.texts.filters => {
+            Some(ImportColumn::Filters)
+        }
+        Part::Groups
+            if earlier.texts.group.as_str() == row.texts.group
+                && earlier.numbers.rate != row.numbers.rate => { Some(ImportColumn::Rate) }
+        _ => None,
+    }
+}
+
+/// The text of a row's receiver, source or group.
+fn name_in<'a>(part: Part, row: &RowFields<'a>) -> &'a str
+    ensures { result.now ≡ name_in part (row_view row.now) }
+{
+    match part {
+        Part::Receivers => row.texts.receiver,
+        Part::Sources => row.texts.source,
+        Part::Groups => row.texts.group,
+    }
+}
+
+/// The first row that a row contradicts about its receiver, source or group, with the column. `None` if it contradicts none.
+fn clash_about(known: &Known, part: Part, row: &RowFields<'_>) -> Option<RowClash>
+    requires { Knows known.now }
+    ensures { Agree known.now.rows.items → result ≡ first_part_clash part 0 known.now.rows.items (row_view row.now) }
+{
+    let named = known.named(part);
+    match named.find(name_in(part, row)) {
+        Some(place) => {
+            let column = part_clash(part, known.first_row(part, place), row);
+            numbered(named.first_at(place), column)
+        }
+        None => None,
+    }
+}
+
 /// The first column in which this row contradicts an earlier row, compared with the first such row. `None` if there is
 /// none.
 pub fn first_clash(known: &Known, row: &RowFields<'_>) -> Option<ImportColumn>
-    requires { (rows : List ImportRow) × Knows known.now rows }
-    ensures { (rows : List ImportRow) → Agree rows → Knows known.now rows → result ≡ first_clash rows (row_view row.now) }
+    requires { Knows known.now }
+    ensures { Agree known.now.rows.items → result ≡ first_clash known.now.rows.items (row_view row.now) }
 {
-    let of_source = known.sources.clash(known.receivers.first(row), row);
-    let of_receiver = known.receivers.clash(row);
-    let of_group = known.groups.clash(row);
-    let first = earlier_clash(of_source, earlier_clash(of_receiver, of_group));
+    let of_receiver = clash_about(known, Part::Receivers, row);
+    let of_group = clash_about(known, Part::Groups, row);
+    let first = earlier_clash(
+        clash_about(known, Part::Sources, row),
+        earlier_clash(of_receiver, of_group),
+    );
     match first {
         Some(clash) => Some(clash.column),
         None => None,

@@ -1,83 +1,41 @@
 //! What is above each table of a text: an empty line, for a made name a comment with the text that it is made of, and for a
 //! source the columns that go along.
-ghost use Rattle.std.specs.Prelude.{◌≡◌, ◌++◌, ◌∷◌, [], IfSome, OnOk, Some, codes, slice_get, string_bytes};
+ghost use Rattle.std.specs.Prelude.{◌≡◌, ◌++◌, ◌∷◌, [], IfSome, OnOk, codes, string_bytes};
 ghost use Rattle.std.specs.Option.{option_copied};
 ghost use Rattle.std.specs.List.{list_all};
 ghost use Rattle.toml_parser.specs.Lexical.{is_non_eol};
-ghost use Rattle.a429_import.specs.KeptFields.{AreKept, comment_line, comment_of, kept_comments, lines_kept};
-ghost use Rattle.a429_import.specs.Known.{Knows, named_of};
+ghost use Rattle.a429_import.specs.KeptFields.{comment_line, kept_comments, lines_kept};
+ghost use Rattle.a429_import.specs.Known.{Knows};
 ghost use Rattle.a429_import.specs.TableTexts.{above_of, before_at, made_comment, name_comment, rows_before};
 
 use crate::fields::utf8_in;
 use crate::firsts::Part;
 use crate::kept::{KeptTexts, put_shown};
 use crate::known::Known;
-use crate::named_rows::NamedRows;
 use crate::renamed::{name_in, text_of};
 use crate::rows::ImportRow;
 use a429_text::Text;
 use a429_text::cut::cut_at;
 use std::alloc::{AllocError, Global};
 
-/// The rows of a table as they are written, before names are made.
-#[derive(Clone, Copy)]
-pub struct MadeOf<'a> {
-    pub known: &'a Known,
-    pub rows: &'a [ImportRow],
-}
-
 /// What the comments of a table are made of.
 #[derive(Clone, Copy)]
 pub struct Comments<'a> {
     /// The rows before names are made. `None` if no names are made.
-    pub made_of: Option<MadeOf<'a>>,
+    pub made_of: Option<&'a Known>,
     /// What sources say in the columns that go along.
     pub kept: &'a KeptTexts,
 }
 
-/// The receivers, the sources or the groups of the rows.
-fn named_rows(known: &Known, part: Part) -> &NamedRows
-    ensures { result.now ≡ named_of part known.now }
-{
-    match part {
-        Part::Receivers => &known.receivers.named,
-        Part::Sources => &known.sources.named,
-        Part::Groups => &known.groups.named,
-    }
-}
-
-/// The row of a number. `None` if there is none.
-fn row_at(rows: &[ImportRow], number: usize) -> Option<&ImportRow>
-    ensures { option_copied result ≡ slice_get rows.now number }
-{
-    rows.get(number)
-}
-
-/// The first row of the receiver, the source or the group at a place. `None` if there are fewer.
-fn first_row<'a>(made: MadeOf<'a>, part: Part, place: usize) -> Option<&'a ImportRow>
-    requires { Knows made.known.now made.rows.now }
-    ensures { option_copied result ≡ before_at (rows_before (Some made.entry)) part place }
-{
-    let named = named_rows(made.known, part);
-    if place < named.len() {
-        row_at(made.rows, named.first_at(place))
-    } else {
-        None
-    }
-}
-
-/// The same before names are made. `None` if no names are made.
-pub fn row_before<'a>(
-    made_of: Option<MadeOf<'a>>,
-    part: Part,
-    place: usize,
-) -> Option<&'a ImportRow>
-    requires { IfSome made_of (λ made. Knows made.known.now made.rows.now) }
+/// The first row of the receiver, the source or the group at a place before names are made. `None` if no names are made, or
+/// if there are fewer.
+pub fn row_before<'a>(made_of: Option<&'a Known>, part: Part, place: usize) -> Option<&'a ImportRow>
+    requires { IfSome made_of (λ known. Knows known.now) }
     ensures { option_copied result ≡ before_at (rows_before made_of.entry) part place }
 {
     match made_of {
-        Some(made) => first_row(made, part, place),
-        None => None,
+        Some(known) if place < known.count(part) => Some(known.first_row(part, place)),
+        _ => None,
     }
 }
 
@@ -95,34 +53,18 @@ fn is_comment(bytes: &[u8]) -> bool
     bytes.iter().all(|byte| fits_comment(*byte))
 }
 
-/// Writes a comment. Error: an allocation failed.
-fn push_comment(shown: &mut String, line: &str) -> Result<(), AllocError>
-    ensures { OnOk result (string_bytes shown.new ≡ string_bytes shown.old ++ 35 ∷ (line.now ++ 10 ∷ [])) }
-{
-    shown.push_str("#")?;
-    shown.push_str(line)?;
-    shown.push_str("\n")
-}
-
-/// Writes a comment, unless a byte cannot be in one. Error: an allocation failed.
-fn push_fitting(shown: &mut String, line: &str) -> Result<(), AllocError>
-    ensures { OnOk result (string_bytes shown.new ≡ string_bytes shown.old ++ comment_of line.now) }
-{
-    if is_comment(line.as_bytes()) {
-        push_comment(shown, line)
-    } else {
-        Ok(())
-    }
-}
-
-/// Writes a comment, if the line can be one. Error: an allocation failed.
+/// Writes a comment, unless the line is no text or a byte cannot be in a comment. Error: an allocation failed.
 #[tactic(auto, unfolding(crate::specs::KeptFields::comment_line))]
 fn put_comment(shown: &mut String, line: &[u8]) -> Result<(), AllocError>
     ensures { OnOk result (string_bytes shown.new ≡ string_bytes shown.old ++ comment_line line.now) }
 {
     match utf8_in(line) {
-        Some(text) => push_fitting(shown, text),
-        None => Ok(()),
+        Some(text) if is_comment(text.as_bytes()) => {
+            shown.push_str("#")?;
+            shown.push_str(text)?;
+            shown.push_str("\n")
+        }
+        _ => Ok(()),
     }
 }
 
@@ -196,7 +138,6 @@ pub fn put_above(
     before: Option<&ImportRow>,
     row: &ImportRow,
 ) -> Result<(), AllocError>
-    requires { AreKept kept.now }
     ensures { OnOk result (string_bytes shown.new ≡ string_bytes shown.old
         ++ above_of (lines_kept kept.now) part (option_copied before.entry) row.now) }
 {

@@ -1,8 +1,7 @@
 //! Lines whose empty fields are filled from above, as merged cells of a spreadsheet are meant.
-ghost use Rattle.std.specs.Prelude.{◌≡◌, ◌++◌, ◌∷◌, [], IfOk, OnOk};
-ghost use Rattle.csv.specs.Records.{fields_of, partial_of};
-ghost use Rattle.a429_import.specs.FilledLines.{IsFilledLine, filled_below, filled_from, is_filled_column};
-ghost use Rattle.a429_import.specs.ImportFields.{field_in};
+ghost use Rattle.std.specs.Prelude.{◌≡◌, IfOk};
+ghost use Rattle.csv.specs.Records.{fields_of};
+ghost use Rattle.a429_import.specs.FilledLines.{IsFilledLine, filled_below, is_filled_column};
 
 use crate::columns::is_named;
 use crate::fault::ImportColumn;
@@ -30,40 +29,6 @@ fn filled_below<'a>(heading: &[u8], above: &'a [u8], field: &'a [u8]) -> &'a [u8
     }
 }
 
-/// The field of a line at a place, counted from 0, filled from the line above it.
-fn filled_at<'a>(
-    heading: &ByteRecord,
-    above: &'a ByteRecord,
-    line: &'a CsvLine,
-    place: usize,
-) -> &'a [u8]
-    ensures { result.now ≡ filled_below (field_in place (fields_of heading.now)) (field_in place (fields_of above.now))
-        (field_in place (fields_of line.now.fields)) }
-{
-    filled_below(
-        field_at(heading, place),
-        field_at(above, place),
-        line.field(place),
-    )
-}
-
-/// Adds the fields of a line, filled from those of the line above it.
-fn push_filled(
-    fields: &mut ByteRecord,
-    heading: &ByteRecord,
-    above: &ByteRecord,
-    line: &CsvLine,
-) -> Result<(), AllocError>
-    requires none { fields_of fields.old ≡ [] }
-    requires partial { partial_of fields.old ≡ [] }
-    ensures { OnOk result (fields_of fields.new ≡ filled_from 0 (fields_of heading.now) (fields_of above.now) (fields_of line.now.fields)) }
-{
-    for place in 0..line.len() {
-        fields.push_field(filled_at(heading, above, line, place))?;
-    }
-    Ok(())
-}
-
 /// A line below a heading, filled from the line above it. Error: an allocation failed.
 pub fn filled_line(
     alloc: Global,
@@ -74,7 +39,14 @@ pub fn filled_line(
     ensures { IfOk result (λ filled. IsFilledLine (fields_of heading.now) (fields_of above.now) line.now filled) }
 {
     let mut fields = ByteRecord::new(alloc);
-    push_filled(&mut fields, heading, above, line)?;
+    for place in 0..line.len() {
+        let field = filled_below(
+            field_at(heading, place),
+            field_at(above, place),
+            line.field(place),
+        );
+        fields.push_field(field)?;
+    }
     Ok(CsvLine {
         number: line.number,
         separator: line.separator,

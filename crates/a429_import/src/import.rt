@@ -1,36 +1,32 @@
 //! An equipment table from rows of comma-separated values.
-ghost use Rattle.std.specs.Prelude.{◌≡◌, ◌||◌, [], IfOk, is_some, List, None, Some};
+ghost use Rattle.std.specs.Prelude.{◌≡◌, [], ◌∷◌, false, IfOk, List, None, Some};
 ghost use Rattle.a429_import.specs.declared.lines.CsvLine.{CsvLine};
-ghost use Rattle.a429_import.specs.declared.rows.ImportRow.{ImportRow};
-ghost use Rattle.a429_import.specs.ImportAbove.{has_data_above};
 ghost use Rattle.a429_import.specs.FaultLines.{fault_line};
-ghost use Rattle.a429_import.specs.FilledReading.{IsReadFilled};
 ghost use Rattle.a429_import.specs.ImportForms.{from_heading, separator_in};
 ghost use Rattle.a429_import.specs.ImportMaps.{given_texts};
-ghost use Rattle.a429_import.specs.ImportQuotes.{has_wrong_quotes};
-ghost use Rattle.a429_import.specs.ImportReading.{HasRows, HaveRows, StandsFor};
-ghost use Rattle.a429_import.specs.Imports.{IsImport, IsImportFrom, IsTableBy, IsTableOf, IsTextFault, separated};
-ghost use Rattle.a429_import.specs.KeptFields.{AreKept, lines_kept};
+ghost use Rattle.a429_import.specs.ImportReading.{StandsFor};
+ghost use Rattle.a429_import.specs.Imports.{IsImport, IsImportFrom, IsSheetImport, IsTableOf, is_unfit, separated};
+ghost use Rattle.a429_import.specs.KeptFields.{lines_kept};
 ghost use Rattle.a429_import.specs.Known.{Knows};
 ghost use Rattle.a429_import.specs.LineCounts.{IsEnd};
 ghost use Rattle.a429_import.specs.NumberRanges.{HaveRanges};
 ghost use Rattle.a429_import.specs.Renamed.{all_renamed};
+ghost use Rattle.a429_import.specs.SheetReading.{ReadsSheet};
 ghost use Rattle.a429_import.specs.TableTexts.{AreSound, rows_before};
 
 use crate::above::line_above;
-use crate::comments::{Comments, MadeOf};
+use crate::columns::Heading;
+use crate::comments::Comments;
 use crate::fault::{CsvFaultKind, ImportColumn, ImportFault, csv_fault};
-use crate::filled_reading::SheetRead;
 use crate::forms::{Form, form_of};
 use crate::kept::KeptTexts;
 use crate::known::Known;
 use crate::quotes::misquoted_line_of;
-use crate::reading::{LinesRead, RowsRead};
-use crate::refused::{RefusedRows, misquoted_rows, titled_rows};
+use crate::reading::LinesRead;
+use crate::refused::{RefusedRows, misquoted_rows};
 use crate::renamed::{all_names, all_renamed};
-use crate::rows::ImportRow;
+use crate::sheet_reading::{BelowRead, SheetRead, read_lines};
 use crate::tables::table_text;
-use crate::text_reading::read_lines;
 use crate::watch::Watch;
 use a429_equipment::Equipment;
 use a429_table::read_equipment;
@@ -56,112 +52,91 @@ pub struct Imported {
     pub notes: usize,
 }
 
-/// An equipment table.
-#[derive(Drop)]
-struct MadeTable {
-    text: Vec<u8>,
-    /// What the text states.
-    equipment: Equipment,
-}
-
-/// The table that rows describe, with comments.
+/// The table that known rows describe, with comments and a number of notes.
 fn table_of_rows(
     alloc: Global,
     comments: Comments<'_>,
-    read: &RowsRead,
-) -> Result<MadeTable, ImportFault>
-    requires rows { (rows : List ImportRow) × HasRows read.now rows }
+    known: &Known,
+    notes: usize,
+) -> Result<Imported, ImportFault>
+    requires known { Knows known.now }
     requires comments { AreSound comments }
-    ensures { (rows : List ImportRow) → HasRows read.now rows → HaveRanges rows
-        → IsTableOf (lines_kept comments.entry.kept.now) (rows_before comments.entry.made_of) rows result }
+    ensures table { HaveRanges known.now.rows.items
+        → IsTableOf (lines_kept comments.entry.kept.now) (rows_before comments.entry.made_of) known.now.rows.items result }
+    ensures notes { IfOk result (λ made. made.notes ≡ notes) }
 {
-    let text = table_text(alloc, comments, &read.known, &read.kept)?;
+    let text = table_text(alloc, comments, known)?;
     match read_equipment(alloc, text.as_str().as_bytes()) {
-        Ok(equipment) => Ok(MadeTable {
+        Ok(equipment) => Ok(Imported {
             text: text.into_bytes(),
             equipment,
+            notes,
         }),
         Err(fault) => Err(ImportFault::from(fault)),
     }
 }
 
-/// The table that known rows describe with names.
+/// The same with names.
 fn table_with_names(
     alloc: Global,
     known: &Known,
     kept: &KeptTexts,
-    rows: &[ImportRow],
-) -> Result<MadeTable, ImportFault>
-    requires known { Knows known.now rows.now }
-    requires kept { AreKept kept.now }
-    ensures { HaveRanges rows.now → IsTableOf (lines_kept kept.now) (Some rows.now) (all_renamed rows.now) result }
+    notes: usize,
+) -> Result<Imported, ImportFault>
+    requires known { Knows known.now }
+    ensures table { HaveRanges known.now.rows.items
+        → IsTableOf (lines_kept kept.now) (Some known.now.rows.items) (all_renamed known.now.rows.items) result }
+    ensures notes { IfOk result (λ made. made.notes ≡ notes) }
 {
-    let names = all_names(alloc, known, rows)?;
-    let read = all_renamed(alloc, known, &names, rows)?;
+    let names = all_names(alloc, known)?;
+    let renamed = all_renamed(alloc, known, &names)?;
     let comments = Comments {
-        made_of: Some(MadeOf { known, rows }),
+        made_of: Some(known),
         kept,
     };
-    table_of_rows(alloc, comments, &read)
+    table_of_rows(alloc, comments, &renamed, notes)
 }
 
-/// The table that rows describe, with names if the flag is set.
-fn table_by(
+/// The table that lines below a heading describe.
+fn table_below(
     alloc: Global,
     makes_names: bool,
-    kept: &KeptTexts,
-    read: &RowsRead,
-) -> Result<MadeTable, ImportFault>
-    requires rows { (rows : List ImportRow) × HasRows read.now rows }
-    requires kept { AreKept kept.now }
-    ensures { (rows : List ImportRow) → HasRows read.now rows → HaveRanges rows
-        → IsTableBy (lines_kept kept.now) makes_names rows result }
-{
-    if makes_names {
-        table_with_names(alloc, &read.known, kept, &read.kept)
-    } else {
-        let comments = Comments {
-            made_of: None,
-            kept,
-        };
-        table_of_rows(alloc, comments, read)
-    }
-}
-
-/// The table that lines without a fault describe.
-fn table_below_heading(
-    alloc: Global,
-    makes_names: bool,
-    read: &LinesRead,
+    heading: &Heading,
+    read: &mut LinesRead,
 ) -> Result<Imported, ImportFault>
-    requires { (lines : List CsvLine) × HaveRows read.now.heading read.now lines }
-    ensures { (lines : List CsvLine) → HaveRows read.now.heading read.now lines → IsImportFrom makes_names lines result }
+    requires { (below : List CsvLine) × StandsFor heading.now.line read.old below }
+    ensures { (below : List CsvLine) → StandsFor heading.now.line read.old below
+        → IsImportFrom makes_names (heading.now.line ∷ below) result }
+{
+    match read.fault.take() {
+        Some(fault) => return Err(fault),
+        None => {}
+    }
+    let notes = read.notes.len();
+    if makes_names {
+        return table_with_names(alloc, &read.known, &read.kept, notes);
+    }
+    let comments = Comments {
+        made_of: None,
+        kept: &read.kept,
+    };
+    table_of_rows(alloc, comments, &read.known, notes)
+}
+
+/// The table that the lines of a sheet describe.
+fn table_of_sheet(
+    alloc: Global,
+    maps: &[&str],
+    options: ImportOptions,
+    read: &mut SheetRead,
+) -> Result<Imported, ImportFault>
+    requires { (lines : List CsvLine) × ReadsSheet options (given_texts maps.now) read.old lines }
+    ensures { (lines : List CsvLine) → ReadsSheet options (given_texts maps.now) read.old lines
+        → IsSheetImport (given_texts maps.now) options lines result }
 {
     match &read.heading {
         None => Err(csv_fault(1, CsvFaultKind::Column, Some(ImportColumn::Group))),
-        Some(_heading) => match table_by(alloc, makes_names, &read.kept, &read.rows) {
-            Ok(MadeTable { text, equipment }) => Ok(Imported {
-                text,
-                equipment,
-                notes: read.notes.len(),
-            }),
-            Err(fault) => Err(fault),
-        },
-    }
-}
-
-/// The table that lines describe.
-fn table_of_lines(
-    alloc: Global,
-    makes_names: bool,
-    read: &mut LinesRead,
-) -> Result<Imported, ImportFault>
-    requires { (lines : List CsvLine) × StandsFor read.old lines }
-    ensures { (lines : List CsvLine) → StandsFor read.old lines → IsImportFrom makes_names lines result }
-{
-    match read.fault.take() {
-        Some(fault) => Err(fault),
-        None => table_below_heading(alloc, makes_names, read),
+        Some(heading) => { table_below(alloc, options.makes_names, heading, &mut read.below.lines) }
     }
 }
 
@@ -177,23 +152,12 @@ fn read_table<W: Watch>(
 ) -> Result<Imported, ImportFault>
     requires separator { form.separator ≡ separator_in (given_texts maps.now) text.now }
     requires text { form.text.now ≡ from_heading (given_texts maps.now) text.now }
-    requires read { IsReadFilled options read.old [] }
-    ensures { IsTextFault (given_texts maps.now) text.now None → IsImport (given_texts maps.now) options text.now result }
+    requires read { ReadsSheet options (given_texts maps.now) read.old [] }
+    ensures { is_unfit (given_texts maps.now) text.now ≡ false → IsImport (given_texts maps.now) options text.now result }
 {
     read_lines(alloc, maps, options, text, form, watch, read)?;
     watch.show_done(text.len(), text.len());
-    table_of_lines(alloc, options.makes_names, &mut read.lines)
-}
-
-/// Keeps what a hint needs of a refused sheet.
-fn keep_refused(refused: &mut Option<RefusedRows>, read: SheetRead) {
-    let SheetRead {
-        lines,
-        refused: rows,
-        ..
-    } = read;
-    let LinesRead { heading, .. } = lines;
-    *refused = Some(rows.ended(heading));
+    table_of_sheet(alloc, maps, options, read)
 }
 
 /// The table that a text of this form describes, if no fault comes before those of its rows. If the rows are refused,
@@ -209,12 +173,13 @@ fn table_of_text<W: Watch>(
 ) -> Result<Imported, ImportFault>
     requires separator { form.separator ≡ separator_in (given_texts maps.now) text.now }
     requires text { form.text.now ≡ from_heading (given_texts maps.now) text.now }
-    ensures { IsTextFault (given_texts maps.now) text.now None → IsImport (given_texts maps.now) options text.now result }
+    ensures { is_unfit (given_texts maps.now) text.now ≡ false → IsImport (given_texts maps.now) options text.now result }
 {
-    // A row with a new name has 11 bytes. So a chain has 12 names on average at most.
-    let mut read = SheetRead::new(alloc, text.len() / 128)?;
+    let mut read = SheetRead::new(alloc);
     let table = read_table(alloc, maps, options, text, form, watch, &mut read);
-    keep_refused(refused, read);
+    let SheetRead { heading, below } = read;
+    let BelowRead { refused: rows, .. } = below;
+    *refused = Some(rows.ended(heading));
     table
 }
 
@@ -228,42 +193,15 @@ fn unfit_line(
     refused: &mut Option<RefusedRows>,
 ) -> Result<Option<u64>, AllocError>
     requires { IsEnd text.now form.text.now }
-    ensures line { IfOk result (λ line. line
+    ensures { IfOk result (λ line. line
         ≡ fault_line (separated form.entry.separator) (given_texts maps.now) form.entry.text.now text.now) }
-    ensures wrong { IfOk result (λ line. is_some line ≡ (has_wrong_quotes (separated form.entry.separator) form.entry.text.now text.now
-        || has_data_above (separated form.entry.separator) (given_texts maps.now) form.entry.text.now text.now)) }
 {
     match misquoted_line_of(text, form) {
         Some(line) => {
             *refused = Some(misquoted_rows(alloc));
             Ok(Some(line))
         }
-        None => {
-            let above = line_above(alloc, maps, text, form)?;
-            if above.is_some() {
-                let rows = titled_rows(alloc, text, form)?;
-                *refused = Some(rows);
-            }
-            Ok(above)
-        }
-    }
-}
-
-/// The fault of a text that comes before those of the rows below its heading. Error: an allocation failed.
-fn text_fault(
-    alloc: Global,
-    maps: &[&str],
-    text: &[u8],
-    form: Form<'_>,
-    refused: &mut Option<RefusedRows>,
-) -> Result<Option<ImportFault>, AllocError>
-    requires separator { form.separator ≡ separator_in (given_texts maps.now) text.now }
-    requires text { form.text.now ≡ from_heading (given_texts maps.now) text.now }
-    ensures { IfOk result (λ fault. IsTextFault (given_texts maps.now) text.now fault) }
-{
-    match unfit_line(alloc, maps, text, form, refused)? {
-        Some(line) => Ok(Some(csv_fault(line, CsvFaultKind::Form, None))),
-        None => Ok(None),
+        None => line_above(alloc, maps, text, form, refused),
     }
 }
 
@@ -298,8 +236,8 @@ pub fn import_table<W: Watch>(
 {
     let form = form_of(maps, bytes);
     watch.show_done(0, bytes.len());
-    match text_fault(alloc, maps, bytes, form, refused)? {
-        Some(fault) => Err(fault),
+    match unfit_line(alloc, maps, bytes, form, refused)? {
+        Some(line) => Err(csv_fault(line, CsvFaultKind::Form, None)),
         None => table_of_text(alloc, maps, options, bytes, form, watch, refused),
     }
 }

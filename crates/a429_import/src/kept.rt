@@ -1,19 +1,16 @@
 //! Columns of a sheet that go along as comments of the table.
 ghost use Rattle.std.specs.Prelude.{◌≡◌, ◌&&◌, ◌++◌, ◌∷◌, [], ℕ, IfOk, List, OnOk, option_map};
-ghost use Rattle.std.specs.Str.{is_utf8};
 ghost use Rattle.csv.specs.Records.{fields_of};
 ghost use Rattle.a429_import.specs.declared.lines.CsvLine.{CsvLine};
 ghost use Rattle.a429_import.specs.ImportRows.{has_label};
 ghost use Rattle.a429_import.specs.ImportTables.{is_word};
-ghost use Rattle.a429_import.specs.KeptFields.{AreKept, KeepsTexts, TakesText, kept_heading, kept_in, kept_line, lines_kept, shown, shown_byte};
+ghost use Rattle.a429_import.specs.KeptFields.{KeepsTexts, TakesText, kept_at, kept_heading, kept_in, kept_line, lines_kept, shown, shown_byte};
 
 use crate::columns::Heading;
 use crate::fault::ImportColumn;
 use crate::fields::utf8_in;
 use crate::lines::CsvLine;
-use crate::names::Names;
 use crate::notes::has_label;
-use crate::texts::Texts;
 use a429_text::Text;
 use std::alloc::{AllocError, Global};
 
@@ -42,20 +39,13 @@ fn shown_byte(is_text: bool, is_heading: bool, byte: u8) -> u8
     }
 }
 
-/// Whether bytes are UTF-8.
-#[tactic(auto, unfolding(crate::specs::ImportFields::utf8_in))]
-fn is_utf8(bytes: &[u8]) -> bool
-    ensures { result ≡ is_utf8 bytes.now }
-{
-    utf8_in(bytes).is_some()
-}
-
 /// Writes a heading or a field as a comment has it: with spaces for control characters, and `?` for bytes above 127 if it is
 /// no UTF-8. In a heading `|` becomes `/`.
+#[tactic(auto, unfolding(crate::specs::ImportFields::utf8_in))]
 pub fn put_shown(text: &mut Text, is_heading: bool, bytes: &[u8])
     ensures { text.new ≡ text.old ++ shown is_heading bytes.now }
 {
-    let is_text = is_utf8(bytes);
+    let is_text = utf8_in(bytes).is_some();
     for byte in bytes {
         text.put_bytes(&[shown_byte(is_text, is_heading, *byte)]);
     }
@@ -95,48 +85,59 @@ fn counts(heading: &Heading, line: &CsvLine, text: &[u8]) -> bool
     has_label(heading, line) && !text.is_empty()
 }
 
-/// For each source, what its first row says in the columns that go along, of those rows that say something there.
+/// What the first row of a source says in the columns that go along, of those rows that say something there.
+#[derive(Drop)]
+struct KeptText {
+    source: Vec<u8>,
+    lines: Vec<u8>,
+}
+
+/// For each source, what its first row says in the columns that go along.
 #[derive(Drop)]
 pub struct KeptTexts {
-    sources: Names,
-    texts: Texts,
+    texts: Vec<KeptText>,
 }
 
 impl KeptTexts {
-    /// What is known before the first row. Error: an allocation failed.
-    pub fn new(alloc: Global) -> Result<KeptTexts, AllocError>
-        ensures { IfOk result (λ kept. (heading : List (List ℕ)) → KeepsTexts kept heading []) }
+    /// What is known before the first row.
+    pub fn new(alloc: Global) -> KeptTexts
+        ensures { (heading : List (List ℕ)) → KeepsTexts result heading [] }
     {
-        Ok(KeptTexts {
-            sources: Names::new(alloc, 256)?,
-            texts: Texts::new(alloc),
-        })
+        KeptTexts {
+            texts: Vec::new(alloc),
+        }
+    }
+
+    /// The lines of a source. `None` if there are none.
+    fn find(&self, source: &[u8]) -> Option<&[u8]>
+        ensures { option_map (λ lines. lines.now) result ≡ kept_at self.now source.now }
+    {
+        for text in &self.texts {
+            if source == text.source.as_slice() {
+                return Some(text.lines.as_slice());
+            }
+        }
+        None
     }
 
     /// The lines of a source; nothing if there are none.
     pub fn text_of(&self, source: &[u8]) -> &[u8]
-        requires { AreKept self.now }
         ensures { result.now ≡ lines_kept self.now source.now }
     {
-        match self.sources.find(source) {
-            Some(place) => self.texts.get(place),
-            None => &[],
-        }
+        self.find(source).unwrap_or(&[])
     }
 
     /// Takes the lines of a source, unless it has some. Error: an allocation failed.
-    fn take(&mut self, source: &[u8], text: &[u8]) -> Result<(), AllocError>
-        requires { AreKept self.old }
-        ensures { OnOk result (TakesText self.old self.new source.now text.now) }
+    fn take(&mut self, alloc: Global, source: &[u8], lines: Vec<u8>) -> Result<(), AllocError>
+        ensures { OnOk result (TakesText self.old self.new source.now lines.items) }
     {
-        match self.sources.find(source) {
-            Some(_place) => Ok(()),
-            None => {
-                self.texts.push(text)?;
-                self.sources.push(source)?;
-                Ok(())
-            }
+        if self.find(source).is_none() {
+            self.texts.push(KeptText {
+                source: Vec::from_slice(alloc, source)?,
+                lines,
+            })?;
         }
+        Ok(())
     }
 
     /// Takes what one more row says, unless it may be a note. Error: an allocation failed.
@@ -146,13 +147,12 @@ impl KeptTexts {
         heading: &Heading,
         line: &CsvLine,
     ) -> Result<(), AllocError>
-        requires { AreKept self.old }
         ensures { OnOk result ((below : List CsvLine) → KeepsTexts self.old (fields_of heading.now.line.fields) below
             → KeepsTexts self.new (fields_of heading.now.line.fields) (below ++ line.now ∷ [])) }
     {
         let text = kept_in(alloc, &heading.line, line)?;
         if counts(heading, line, &text) {
-            self.take(heading.field_of(line, ImportColumn::Source), &text)
+            self.take(alloc, heading.field_of(line, ImportColumn::Source), text)
         } else {
             Ok(())
         }

@@ -1,103 +1,148 @@
-//! What is known of rows, each of which is read once: their names, and what the first row of each name says. No row is
-//! kept.
-ghost use Rattle.std.specs.Prelude.{◌≡◌, ◌++◌, ◌∷◌, ◌||◌, [], IfOk, List, OnOk, length, nat_lt};
-ghost use Rattle.a429_import.specs.declared.rows.ImportRow.{ImportRow};
-ghost use Rattle.a429_import.specs.ImportTexts.{row_view};
-ghost use Rattle.a429_import.specs.ImportRows.{says_nothing};
+//! What is known of rows: the rows, and the names of their receivers, sources and groups.
+ghost use Rattle.std.specs.Prelude.{◌≡◌, ◌++◌, ◌∷◌, ◌<◌, [], ◌&&◌, if◌then◌else◌, OnOk, None, Some, length, nat_lt, slice_get};
+ghost use Rattle.a429_import.specs.declared.firsts.Part.TheVariants as part;
 ghost use Rattle.a429_import.specs.ImportLimits.{has_too_many_outputs, too_many};
-ghost use Rattle.a429_import.specs.ImportTables.{groups_of};
-ghost use Rattle.a429_import.specs.Known.{Knows, KnowsGroups, KnowsSources};
-
-pub mod groups;
-pub mod receivers;
-pub mod sources;
+ghost use Rattle.a429_import.specs.ImportRows.{says_nothing};
+ghost use Rattle.a429_import.specs.ImportTables.{firsts, groups_of, words};
+ghost use Rattle.a429_import.specs.ImportTexts.{row_view};
+ghost use Rattle.a429_import.specs.Known.{Knows, named_of, names_of, one_output, with_output};
 
 use crate::fault::ImportColumn;
-use crate::known::groups::KnownGroups;
-use crate::known::receivers::KnownReceivers;
-use crate::known::sources::KnownSources;
-use crate::limits::has_too_many_filters;
-use crate::rows::RowFields;
-use a429_equipment::{GROUPS, RECEIVERS, SOURCES};
+use crate::firsts::Part;
+use crate::named_rows::NamedRows;
+use crate::rows::{ImportRow, RowFields, copy_of};
+use a429_equipment::{GROUPS, OUTPUTS, RECEIVERS, SOURCES};
+use a429_filter::FILTERS;
 use std::alloc::{AllocError, Global};
 
 /// What is known of rows.
 #[derive(Drop)]
 pub struct Known {
-    /// As many as there are rows. They take no memory.
-    rows: Vec<()>,
-    pub receivers: KnownReceivers,
-    pub sources: KnownSources,
-    pub groups: KnownGroups,
+    pub rows: Vec<ImportRow>,
+    receivers: NamedRows,
+    sources: NamedRows,
+    groups: NamedRows,
+    /// The number of outputs of each group; one above the limit stands for any above it.
+    outputs: Vec<u8>,
 }
 
-/// The sources and the groups before the first row. Error: an allocation failed.
-fn sources_and_groups(
-    alloc: Global,
-    chains: usize,
-) -> Result<(KnownSources, KnownGroups), AllocError>
-    ensures { IfOk result (λ known. KnowsSources known.0 [] × KnowsGroups known.1 []) }
+/// One more output, up to one above the limit.
+fn one_output(count: u8) -> u8
+    ensures { result ≡ one_output count }
 {
-    let sources = KnownSources::new(alloc, chains)?;
-    match KnownGroups::new(alloc, chains) {
-        Ok(groups) => Ok((sources, groups)),
-        Err(error) => {
-            // One call, instead of a drop of each of its parts.
-            std::mem::drop(sources);
-            Err(error)
-        }
+    if usize::from(count) <= OUTPUTS {
+        count + 1
+    } else {
+        count
     }
 }
 
+/// Counts one more output: of the group at a place, or of a new group. Error: an allocation failed.
+fn count_output(outputs: &mut Vec<u8>, group: Option<usize>) -> Result<(), AllocError>
+    ensures { OnOk result (outputs.new.items ≡ with_output outputs.old.items group) }
+{
+    match group {
+        Some(place) if place < outputs.len() => outputs[place] = one_output(outputs[place]),
+        Some(_) => {}
+        None => outputs.push(1)?,
+    }
+    Ok(())
+}
+
+/// Whether these are too many filters for a receiver.
+fn has_too_many_filters(text: &str) -> bool
+    ensures { result ≡ nat_lt 32 (length (words text.now)) }
+{
+    FILTERS < text.split(' ').filter(|part| !part.is_empty()).count()
+}
+
 impl Known {
-    /// What is known before the first row. Error: an allocation failed.
-    pub fn new(alloc: Global, chains: usize) -> Result<Known, AllocError>
-        ensures { IfOk result (λ known. Knows known []) }
+    /// What is known before the first row.
+    pub fn new(alloc: Global) -> Known
+        ensures known { Knows result }
+        ensures rows { result.rows.items ≡ [] }
     {
-        let receivers = KnownReceivers::new(alloc, chains)?;
-        match sources_and_groups(alloc, chains) {
-            Ok((sources, groups)) => Ok(Known {
-                rows: Vec::new(alloc),
-                receivers,
-                sources,
-                groups,
-            }),
-            Err(error) => {
-                // One call, instead of a drop of each of its parts.
-                std::mem::drop(receivers);
-                Err(error)
-            }
+        Known {
+            rows: Vec::new(alloc),
+            receivers: NamedRows::new(alloc),
+            sources: NamedRows::new(alloc),
+            groups: NamedRows::new(alloc),
+            outputs: Vec::new(alloc),
         }
+    }
+
+    /// The names of the receivers, the sources or the groups.
+    pub fn named(&self, part: Part) -> &NamedRows
+        ensures { result.now ≡ named_of part self.now }
+    {
+        match part {
+            Part::Receivers => &self.receivers,
+            Part::Sources => &self.sources,
+            Part::Groups => &self.groups,
+        }
+    }
+
+    /// The number of names of the receivers, the sources or the groups.
+    pub fn count(&self, part: Part) -> usize
+        ensures { result ≡ length (names_of (named_of part self.now)) }
+    {
+        self.named(part).len()
+    }
+
+    /// The first row of the receiver, the source or the group at a place.
+    pub fn first_row(&self, part: Part, place: usize) -> &ImportRow
+        requires known { Knows self.now }
+        requires place { place < length (names_of (named_of part self.now)) }
+        ensures { slice_get (firsts part self.now.rows.items) place ≡ Some result.now }
+    {
+        &self.rows[self.named(part).first_at(place)]
     }
 
     /// Whether a row says nothing new: it has no group, and its source is known.
     pub fn has_all_of(&self, row: &RowFields<'_>) -> bool
-        requires { (rows : List ImportRow) × Knows self.now rows }
-        ensures { (rows : List ImportRow) → Knows self.now rows → result ≡ says_nothing rows (row_view row.now) }
+        requires { Knows self.now }
+        ensures { result ≡ says_nothing self.now.rows.items (row_view row.now) }
     {
-        row.texts.group.is_empty() && self.sources.has(row)
+        row.texts.group.is_empty() && self.sources.find(row.texts.source).is_some()
     }
 
-    /// Whether there are too many groups, or outputs of the group of the last row.
-    fn has_too_many_groups(&self, row: &RowFields<'_>) -> bool
-        requires { (rows : List ImportRow) × Knows self.now rows }
-        ensures { (rows : List ImportRow) → Knows self.now rows
-            → result ≡ (nat_lt 8 (length (groups_of rows)) || has_too_many_outputs rows (row_view row.now)) }
+    /// The number of groups. The empty name stands for the rows without a group.
+    pub fn group_count(&self) -> usize
+        requires { Knows self.now }
+        ensures { result ≡ length (groups_of self.now.rows.items) }
     {
-        GROUPS < self.groups.len() || self.groups.has_too_many_outputs(row)
+        let mut count = 0;
+        for place in 0..self.groups.len() {
+            let row = self.first_row(Part::Groups, place);
+            count += usize::from(!row.texts.group.as_str().is_empty());
+        }
+        count
+    }
+
+    /// Whether there are too many outputs of the group of a row.
+    fn has_too_many_outputs(&self, row: &RowFields<'_>) -> bool
+        requires { Knows self.now }
+        ensures { result ≡ has_too_many_outputs self.now.rows.items (row_view row.now) }
+    {
+        match self.groups.find(row.texts.group) {
+            Some(place) if place < self.outputs.len() => {
+                !row.texts.group.is_empty() && OUTPUTS < usize::from(self.outputs[place])
+            }
+            _ => false,
+        }
     }
 
     /// The first column of which there is one too many; this is the last row. `None` if there is no such column.
     #[tactic(auto, unfolding(crate::specs::ImportLimits::too_many))]
     pub fn too_many(&self, row: &RowFields<'_>) -> Option<ImportColumn>
-        requires { (rows : List ImportRow) × Knows self.now rows }
-        ensures { (rows : List ImportRow) → Knows self.now rows → result ≡ too_many rows (row_view row.now) }
+        requires { Knows self.now }
+        ensures { result ≡ too_many self.now.rows.items (row_view row.now) }
     {
-        if RECEIVERS < self.receivers.named.len() {
+        if RECEIVERS < self.receivers.len() {
             Some(ImportColumn::Receiver)
-        } else if SOURCES < self.sources.named.len() {
+        } else if SOURCES < self.sources.len() {
             Some(ImportColumn::Source)
-        } else if self.has_too_many_groups(row) {
+        } else if GROUPS < self.group_count() || self.has_too_many_outputs(row) {
             Some(ImportColumn::Group)
         } else if has_too_many_filters(row.texts.filters) {
             Some(ImportColumn::Filters)
@@ -107,16 +152,17 @@ impl Known {
     }
 
     /// Takes one more row. Error: an allocation failed.
-    pub fn note(&mut self, row: &RowFields<'_>) -> Result<(), AllocError>
-        requires { (rows : List ImportRow) × Knows self.old rows }
-        ensures { OnOk result ((rows : List ImportRow) → Knows self.old rows → Knows self.new (rows ++ row_view row.now ∷ [])) }
+    pub fn push(&mut self, alloc: Global, row: &RowFields<'_>) -> Result<(), AllocError>
+        requires { Knows self.old }
+        ensures known { OnOk result (Knows self.new) }
+        ensures rows { OnOk result (self.new.rows.items ≡ self.old.rows.items ++ row_view row.now ∷ []) }
     {
         let number = self.rows.len();
-        let receiver = self.receivers.first_or(row, number);
-        self.sources.note(receiver, row, number)?;
-        self.receivers.note(row, number)?;
-        self.groups.note(row, number)?;
-        self.rows.push(())?;
+        self.receivers.note(alloc, row.texts.receiver, number)?;
+        self.sources.note(alloc, row.texts.source, number)?;
+        let group = self.groups.note(alloc, row.texts.group, number)?;
+        count_output(&mut self.outputs, group)?;
+        self.rows.push(copy_of(alloc, row)?)?;
         Ok(())
     }
 }

@@ -105,8 +105,8 @@ fn push_titled(
     }
 }
 
-/// Whether HEADING of a text is a field of the heading.
-fn has_heading(heading: &CsvLine, text: &str) -> bool
+/// Whether HEADING of a text HEADING=COLUMN is a field of the heading.
+pub fn has_heading(heading: &CsvLine, text: &str) -> bool
     ensures { result ≡ list_any (λ field. is_about field text.now) (fields_of heading.now.fields) }
 {
     for place in 0..heading.len() {
@@ -166,23 +166,6 @@ fn are_met(heading: &CsvLine, maps: &[&str]) -> bool
     true
 }
 
-/// Adds the names of the fields of a heading. Error: an allocation failed.
-fn push_all_titled(
-    alloc: Global,
-    names: &mut ByteRecord,
-    maps: &[&str],
-    heading: &CsvLine,
-) -> Result<(), AllocError>
-    requires none { fields_of names.old ≡ [] }
-    requires partial { partial_of names.old ≡ [] }
-    ensures { OnOk result (fields_of names.new ≡ map (titled (given_texts maps.now)) (fields_of heading.now.fields)) }
-{
-    for place in 0..heading.len() {
-        push_titled(alloc, names, maps, heading.field(place))?;
-    }
-    Ok(())
-}
-
 /// The names of the fields of a heading; none if one of the texts is not met. Error: an allocation failed.
 fn names_of(alloc: Global, maps: &[&str], heading: &CsvLine) -> Result<ByteRecord, AllocError>
     ensures { IfOk result (λ names. fields_of names ≡ names_by (given_texts maps.now) (fields_of heading.now.fields)) }
@@ -192,7 +175,9 @@ fn names_of(alloc: Global, maps: &[&str], heading: &CsvLine) -> Result<ByteRecor
     if !are_met(heading, maps) {
         return Ok(names);
     }
-    push_all_titled(alloc, &mut names, maps, heading)?;
+    for place in 0..heading.len() {
+        push_titled(alloc, &mut names, maps, heading.field(place))?;
+    }
     Ok(names)
 }
 
@@ -209,21 +194,4 @@ pub fn named_by(alloc: Global, maps: &[&str], heading: CsvLine) -> Result<CsvLin
         separator: heading.separator,
         fields: names_of(alloc, maps, &heading)?,
     })
-}
-
-/// A line with its names, if it is the heading; another line as it is. Error: an allocation failed.
-pub fn named_line(
-    alloc: Global,
-    maps: &[&str],
-    is_below: bool,
-    line: CsvLine,
-) -> Result<CsvLine, AllocError>
-    ensures { IfOk result (λ named. (lines before : List CsvLine) → AreNamedBy (given_texts maps.now) is_below lines before
-        → AreNamedBy (given_texts maps.now) true (lines ++ line ∷ []) (before ++ named ∷ [])) }
-{
-    if is_below {
-        Ok(line)
-    } else {
-        named_by(alloc, maps, line)
-    }
 }

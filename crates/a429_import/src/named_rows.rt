@@ -1,77 +1,66 @@
 //! The receivers, the sources or the groups of rows: their names, and for each the number of its first row.
-ghost use Rattle.std.specs.Prelude.{◌≡◌, ◌++◌, ◌∷◌, [], IfOk, OnOk, length, option_map, slice_index_or};
-ghost use Rattle.std.specs.List.{position_from};
-ghost use Rattle.std.specs.Str.{bytes_eq};
+ghost use Rattle.std.specs.Prelude.{◌≡◌, [], IfOk, OnOk, length, slice_index_or};
 ghost use Rattle.a429_import.specs.declared.firsts.Part.{Part};
-ghost use Rattle.a429_import.specs.Known.{KnowsFirsts, found_at};
-ghost use Rattle.a429_import.specs.Names.{IsIndexed, names_of, numbers_of};
+ghost use Rattle.a429_import.specs.Known.{KnowsFirsts, KnowsMore, names_of, numbers_of, place_of};
 
-use crate::names::Names;
-use crate::short_numbers::ShortNumbers;
+use indexmap::IndexMap;
 use std::alloc::{AllocError, Global};
 
-/// A name that is known: its place among the names, and the number of its first row. Both are counted from 0.
-#[derive(Clone, Copy)]
-pub struct FoundName {
-    pub place: usize,
-    pub first: usize,
-}
-
-/// Names in the order of their first rows, and the numbers of these rows.
+/// Names in the order of their first rows, and the numbers of these rows, counted from 0.
 #[derive(Drop)]
 pub struct NamedRows {
-    names: Names,
-    firsts: ShortNumbers,
+    firsts: IndexMap<String, usize>,
 }
 
 impl NamedRows {
-    /// No names. Error: an allocation failed.
-    pub fn new(alloc: Global, chains: usize) -> Result<NamedRows, AllocError>
-        ensures { IfOk result (λ named. (part : Part) → KnowsFirsts part named []) }
+    /// No names.
+    pub fn new(alloc: Global) -> NamedRows
+        ensures { (part : Part) → KnowsFirsts part result [] }
     {
-        Ok(NamedRows {
-            names: Names::new(alloc, chains)?,
-            firsts: ShortNumbers::new(alloc),
-        })
+        NamedRows {
+            firsts: IndexMap::new(alloc),
+        }
     }
 
     /// The number of names.
     pub fn len(&self) -> usize
-        ensures { result ≡ length (names_of self.now.names) }
+        ensures { result ≡ length (names_of self.now) }
     {
-        self.names.len()
+        self.firsts.len()
     }
 
     /// The number of the first row of the name at a place; 0 if there is none.
     pub fn first_at(&self, place: usize) -> usize
-        ensures { result ≡ slice_index_or (numbers_of self.now.firsts) place 0 }
+        ensures { result ≡ slice_index_or (numbers_of self.now) place 0 }
     {
-        self.firsts.at(place)
-    }
-
-    /// The place of a name and its first row. `None` if it is not known.
-    pub fn find(&self, name: &str) -> Option<FoundName>
-        requires { IsIndexed self.now.names }
-        ensures { result ≡ option_map (found_at self.now) (position_from (bytes_eq name.now) 0 (names_of self.now.names)) }
-    {
-        match self.names.find(name.as_bytes()) {
-            Some(place) => Some(FoundName {
-                place,
-                first: self.first_at(place),
-            }),
-            None => None,
+        match self.firsts.get_index(place) {
+            Some((_, number)) => *number,
+            None => 0,
         }
     }
 
-    /// Adds a name with the number of its first row. Error: an allocation failed.
-    pub fn push(&mut self, name: &str, number: usize) -> Result<(), AllocError>
-        requires { IsIndexed self.old.names }
-        ensures names { OnOk result (names_of self.new.names ≡ names_of self.old.names ++ name.now ∷ []) }
-        ensures firsts { OnOk result (numbers_of self.new.firsts ≡ numbers_of self.old.firsts ++ number ∷ []) }
-        ensures indexed { OnOk result (IsIndexed self.new.names) }
+    /// The place of a name, counted from 0. `None` if it is not known.
+    pub fn find(&self, name: &str) -> Option<usize>
+        ensures { result ≡ place_of self.now name.now }
     {
-        self.firsts.push(number)?;
-        self.names.push(name.as_bytes())?;
-        Ok(())
+        self.firsts.get_index_of(name)
+    }
+
+    /// Takes a name of the next row, with the number of that row. The answer is the place of the name, if it was known.
+    /// Error: an allocation failed.
+    pub fn note(
+        &mut self,
+        alloc: Global,
+        name: &str,
+        number: usize,
+    ) -> Result<Option<usize>, AllocError>
+        ensures place { IfOk result (λ place. place ≡ place_of self.old name.now) }
+        ensures known { OnOk result (KnowsMore self.old self.new name.now number) }
+    {
+        let place = self.firsts.get_index_of(name);
+        if place.is_none() {
+            self.firsts.insert(String::from_str(alloc, name)?, number)?;
+        }
+        Ok(place)
     }
 }

@@ -1,8 +1,7 @@
 //! Fields in quotes that do not end with a quote and a separator or a line end (RFC 4180). The library `csv` reads on, so
 //! rows below such a field would become a part of it.
-ghost use Rattle.std.specs.Prelude.{◌≡◌, if◌then◌else◌, drop, false, is_some, option_map, true};
-ghost use Rattle.csv.specs.declared.parser.State.TheVariants as st;
-ghost use Rattle.a429_import.specs.ImportQuotes.{breaks_quotes, has_wrong_quotes, is_after_quote, is_in_text, is_inside_quotes, is_misquoted, is_misquoted_from, text_before};
+ghost use Rattle.std.specs.Prelude.{◌≡◌, if◌then◌else◌, drop, false, option_map, true};
+ghost use Rattle.a429_import.specs.ImportQuotes.{breaks_quotes, is_after_quote, is_in_text, is_inside_quotes};
 ghost use Rattle.a429_import.specs.FaultLines.{quotes_line, wrong_in, wrong_line};
 ghost use Rattle.a429_import.specs.ImportSteps.{ends_field, state_of};
 ghost use Rattle.a429_import.specs.Imports.{separated};
@@ -55,8 +54,7 @@ fn field_after(ended: Ended, begin: usize, after: usize) -> usize
 /// The place at which the first field begins that does not end as a field in quotes does. Line ends may come before the
 /// field.
 fn misquoted_place(of_rows: bool, separator: u8, text: &[u8]) -> Option<usize>
-    ensures wrong { is_some result ≡ is_misquoted_from of_rows (separated separator) st.StartRecord text.now }
-    ensures field { option_map (λ place. drop place text.now) result ≡ wrong_in of_rows (separated separator) text.now }
+    ensures { option_map (λ place. drop place text.now) result ≡ wrong_in of_rows (separated separator) text.now }
 {
     let mut part = Part::Row;
     let mut begin = 0;
@@ -75,44 +73,28 @@ fn misquoted_place(of_rows: bool, separator: u8, text: &[u8]) -> Option<usize>
     }
 }
 
-/// The line on which such a field begins above the heading: the heading is inside its quotes.
+/// The line of a text on which the first such field of an end of it begins.
 #[tactic(auto, using(crate::proofs::ImportQuotes::same_mark))]
-fn line_above(text: &[u8], form: Form<'_>) -> Option<u64>
-    ensures wrong { is_some result ≡ is_misquoted false (separated form.entry.separator) (text_before form.entry.text.now text.now) }
-    ensures line { result ≡ wrong_line false (separated form.entry.separator) (text_before form.entry.text.now text.now)
-        (text_before form.entry.text.now text.now) }
+fn wrong_line(of_rows: bool, separator: u8, text: &[u8], end: &[u8]) -> Option<u64>
+    requires { IsEnd text.now end.now }
+    ensures { result ≡ wrong_line of_rows (separated separator) text.now end.now }
 {
-    let before = text_before(form.text, text);
-    let lines = without_mark(before);
-    match misquoted_place(false, form.separator, lines) {
-        Some(place) => Some(line_at(before, from_place(lines, place))),
-        None => None,
-    }
-}
-
-/// The line on which the first such field begins from the heading on.
-#[tactic(auto, using(crate::proofs::ImportQuotes::same_mark))]
-fn line_of_rows(text: &[u8], form: Form<'_>) -> Option<u64>
-    requires { IsEnd text.now form.text.now }
-    ensures wrong { is_some result ≡ is_misquoted true (separated form.entry.separator) form.entry.text.now }
-    ensures line { result ≡ wrong_line true (separated form.entry.separator) text.now form.entry.text.now }
-{
-    let rows = without_mark(form.text);
-    match misquoted_place(true, form.separator, rows) {
+    let rows = without_mark(end);
+    match misquoted_place(of_rows, separator, rows) {
         Some(place) => Some(line_at(text, from_place(rows, place))),
         None => None,
     }
 }
 
-/// The line on which the first field begins that does not end as a field in quotes does, counted from 1. `None` if there
-/// is no such field. The form is that of the text.
+/// The line on which the first field begins that does not end as a field in quotes does, counted from 1. Above the heading
+/// it has the heading inside its quotes. `None` if there is no such field. The form is that of the text.
 pub fn misquoted_line_of(text: &[u8], form: Form<'_>) -> Option<u64>
     requires { IsEnd text.now form.text.now }
-    ensures wrong { is_some result ≡ has_wrong_quotes (separated form.entry.separator) form.entry.text.now text.now }
-    ensures line { result ≡ quotes_line (separated form.entry.separator) form.entry.text.now text.now }
+    ensures { result ≡ quotes_line (separated form.entry.separator) form.entry.text.now text.now }
 {
-    match line_above(text, form) {
+    let before = text_before(form.text, text);
+    match wrong_line(false, form.separator, before, before) {
         Some(line) => Some(line),
-        None => line_of_rows(text, form),
+        None => wrong_line(true, form.separator, text, form.text),
     }
 }

@@ -1,14 +1,13 @@
-//! What rows say, one line after the other. No line is kept except the heading.
-ghost use Rattle.std.specs.Prelude.{◌≡◌, ◌++◌, ◌&&◌, [], ◌∷◌, IfOk, List, None, OnOk, Some, false, not};
+//! What rows say, one line after the other. No line is kept.
+ghost use Rattle.std.specs.Prelude.{◌≡◌, ◌++◌, [], ◌∷◌, IfOk, List, OnOk};
 ghost use Rattle.std.specs.Result.{result_map_both};
 ghost use Rattle.csv.specs.Records.{fields_of};
 ghost use Rattle.a429_import.specs.declared.lines.CsvLine.{CsvLine};
-ghost use Rattle.a429_import.specs.declared.rows.ImportRow.{ImportRow};
 ghost use Rattle.a429_import.specs.ImportClashes.{Agree};
-ghost use Rattle.a429_import.specs.ImportReading.{AreBelow, AreRead, AreTaken, HasRows, HaveRows, IsAdded, IsHeadingOf, IsTaken, StandsFor, heading_fault};
-ghost use Rattle.a429_import.specs.ImportRows.{has_label, next_row, with_line, with_row};
+ghost use Rattle.a429_import.specs.ImportReading.{AreBelow, AreTaken, IsAdded, IsTaken, KnowsNothing, StandsFor, heading_fault};
+ghost use Rattle.a429_import.specs.ImportRows.{next_row, with_line, with_row};
 ghost use Rattle.a429_import.specs.ImportTexts.{row_view};
-ghost use Rattle.a429_import.specs.KeptFields.{AreKept, KeepsTexts};
+ghost use Rattle.a429_import.specs.KeptFields.{KeepsTexts};
 ghost use Rattle.a429_import.specs.Known.{Knows};
 
 use crate::clashes::first_clash;
@@ -18,23 +17,14 @@ use crate::kept::KeptTexts;
 use crate::known::Known;
 use crate::lines::CsvLine;
 use crate::notes::{Notes, has_label};
-use crate::refused::copy_of_line;
-use crate::rows::{ImportRow, RowFields, copy_of, row_of};
+use crate::rows::{RowFields, row_of};
 use std::alloc::{AllocError, Global};
 
-/// What rows say.
-#[derive(Drop)]
-pub struct RowsRead {
-    pub known: Known,
-    pub kept: Vec<ImportRow>,
-}
-
-/// What is known of lines that were read.
+/// What is known of lines below a heading.
 #[derive(Drop)]
 pub struct LinesRead {
-    pub heading: Option<Heading>,
-    /// What the lines below the heading say.
-    pub rows: RowsRead,
+    /// What they say.
+    pub known: Known,
     /// Those of them that may be notes.
     pub notes: Notes,
     /// What sources say in the columns that go along.
@@ -43,32 +33,17 @@ pub struct LinesRead {
     pub fault: Option<ImportFault>,
 }
 
-impl RowsRead {
-    /// What is known before the first row. Error: an allocation failed.
-    pub fn new(alloc: Global, chains: usize) -> Result<RowsRead, AllocError>
-        ensures { IfOk result (λ read. HasRows read []) }
-    {
-        Ok(RowsRead {
-            known: Known::new(alloc, chains)?,
-            kept: Vec::new(alloc),
-        })
-    }
-}
-
 impl LinesRead {
-    /// What is known before the first line. Error: an allocation failed.
-    pub fn new(alloc: Global, chains: usize) -> Result<LinesRead, AllocError>
-        ensures read { IfOk result (λ read. StandsFor read []) }
-        ensures heading { IfOk result (λ read. read.heading ≡ None) }
+    /// What is known before the first line.
+    pub fn new(alloc: Global) -> LinesRead
+        ensures { KnowsNothing result }
     {
-        let kept = KeptTexts::new(alloc)?;
-        Ok(LinesRead {
-            heading: None,
-            rows: RowsRead::new(alloc, chains)?,
+        LinesRead {
+            known: Known::new(alloc),
             notes: Notes::new(alloc),
-            kept,
+            kept: KeptTexts::new(alloc),
             fault: None,
-        })
+        }
     }
 }
 
@@ -78,9 +53,9 @@ fn next_row<'a>(
     heading: &Heading,
     line: &'a CsvLine,
 ) -> Result<RowFields<'a>, (CsvFaultKind, Option<ImportColumn>)>
-    requires { (rows : List ImportRow) × Knows known.now rows }
-    ensures { (rows : List ImportRow) → Agree rows → Knows known.now rows
-        → result_map_both row_view (λ f. (line.now.number, f.0, f.1)) result ≡ next_row (fields_of heading.now.line.fields) rows line.now }
+    requires { Knows known.now }
+    ensures { Agree known.now.rows.items → result_map_both row_view (λ f. (line.now.number, f.0, f.1)) result
+        ≡ next_row (fields_of heading.now.line.fields) known.now.rows.items line.now }
 {
     match row_of(heading, line) {
         Ok(row) => match first_clash(known, &row) {
@@ -91,47 +66,36 @@ fn next_row<'a>(
     }
 }
 
-/// Adds a row. Error: an allocation failed.
-pub fn push_row(alloc: Global, read: &mut RowsRead, row: &RowFields<'_>) -> Result<(), AllocError>
-    requires { (rows : List ImportRow) × Knows read.old.known rows }
-    ensures { OnOk result ((rows : List ImportRow) → HasRows read.old rows → HasRows read.new (rows ++ row_view row.now ∷ [])) }
-{
-    read.known.note(row)?;
-    read.kept.push(copy_of(alloc, row)?)?;
-    Ok(())
-}
-
 /// Takes a row, unless it says nothing new. The answer is the column of which there is then one too many. Error: an allocation
 /// failed.
 fn take_row(
     alloc: Global,
-    read: &mut RowsRead,
+    known: &mut Known,
     row: &RowFields<'_>,
 ) -> Result<Option<ImportColumn>, AllocError>
-    requires { (rows : List ImportRow) × HasRows read.old rows }
-    ensures { IfOk result (λ column. (rows : List ImportRow) → HasRows read.old rows
-        → IsAdded column read.new (λ line. with_row line rows (row_view row.now))) }
+    requires { Knows known.old }
+    ensures { IfOk result (λ column. IsAdded column known.new (λ line. with_row line known.old.rows.items (row_view row.now))) }
 {
-    if read.known.has_all_of(row) {
+    if known.has_all_of(row) {
         return Ok(None);
     }
-    push_row(alloc, read, row)?;
-    Ok(read.known.too_many(row))
+    known.push(alloc, row)?;
+    Ok(known.too_many(row))
 }
 
 /// Takes a row that is no note.
 fn take_below(
     alloc: Global,
-    read: &mut RowsRead,
+    known: &mut Known,
     heading: &Heading,
     line: &CsvLine,
 ) -> Result<(), ImportFault>
-    requires { (rows : List ImportRow) × HasRows read.old rows }
-    ensures { (rows : List ImportRow) → Agree rows → HasRows read.old rows
-        → IsTaken result read.new (with_line (fields_of heading.now.line.fields) rows line.now) }
+    requires { Knows known.old }
+    ensures { Agree known.old.rows.items
+        → IsTaken result known.new (with_line (fields_of heading.now.line.fields) known.old.rows.items line.now) }
 {
-    match next_row(&read.known, heading, line) {
-        Ok(row) => match take_row(alloc, read, &row)? {
+    match next_row(known, heading, line) {
+        Ok(row) => match take_row(alloc, known, &row)? {
             None => Ok(()),
             Some(column) => Err(csv_fault(line.number, CsvFaultKind::TooMany, Some(column))),
         },
@@ -139,71 +103,51 @@ fn take_below(
     }
 }
 
-/// Takes a row that is no note. If rows above it are no notes either, since it has a label, the fault of the first of them is
-/// the answer.
-fn take_stated(
-    alloc: Global,
-    read: &mut RowsRead,
-    notes: &mut Notes,
-    heading: &Heading,
-    line: &CsvLine,
-    is_labelled: bool,
-) -> Result<(), ImportFault>
-    requires below { (below : List CsvLine) × AreBelow (fields_of heading.now.line.fields) below read.old notes.old }
-    requires label { is_labelled ≡ has_label (fields_of heading.now.line.fields) line.now }
-    requires stated { (notes.old.is_labelled && not is_labelled) ≡ false }
-    ensures { (below : List CsvLine) → AreBelow (fields_of heading.now.line.fields) below read.old notes.old
-        → AreTaken result (fields_of heading.now.line.fields) (below ++ line.now ∷ []) read.new notes.new }
-{
-    match notes.end(is_labelled) {
-        Some(fault) => Err(fault),
-        None => take_below(alloc, read, heading, line),
-    }
-}
-
-/// Takes a line below the heading, which may be a note.
+/// Takes a line below the heading, which may be a note. If it is none since it has a label, the rows above it are none either:
+/// the fault of the first of them is the answer.
 fn take_row_or_note(
     alloc: Global,
-    read: &mut RowsRead,
+    known: &mut Known,
     notes: &mut Notes,
     heading: &Heading,
     line: &CsvLine,
 ) -> Result<(), ImportFault>
-    requires { (below : List CsvLine) × AreBelow (fields_of heading.now.line.fields) below read.old notes.old }
-    ensures { (below : List CsvLine) → AreBelow (fields_of heading.now.line.fields) below read.old notes.old
-        → AreTaken result (fields_of heading.now.line.fields) (below ++ line.now ∷ []) read.new notes.new }
+    requires { (below : List CsvLine) × AreBelow (fields_of heading.now.line.fields) below known.old notes.old }
+    ensures { (below : List CsvLine) → AreBelow (fields_of heading.now.line.fields) below known.old notes.old
+        → AreTaken result (fields_of heading.now.line.fields) (below ++ line.now ∷ []) known.new notes.new }
 {
     let is_labelled = has_label(heading, line);
     if notes.may_take(is_labelled) {
         notes.hold(heading, line)?;
-        Ok(())
-    } else {
-        take_stated(alloc, read, notes, heading, line, is_labelled)
+        return Ok(());
+    }
+    match notes.end(is_labelled) {
+        Some(fault) => Err(fault),
+        None => take_below(alloc, known, heading, line),
     }
 }
 
 /// Takes a line below the heading, and what it says in the columns that go along.
 fn take_kept(
     alloc: Global,
-    read: &mut RowsRead,
+    known: &mut Known,
     notes: &mut Notes,
     kept: &mut KeptTexts,
     heading: &Heading,
     line: &CsvLine,
 ) -> Result<(), ImportFault>
-    requires below { (below : List CsvLine) × AreBelow (fields_of heading.now.line.fields) below read.old notes.old }
-    requires kept { AreKept kept.old }
-    ensures taken { (below : List CsvLine) → AreBelow (fields_of heading.now.line.fields) below read.old notes.old
-        → AreTaken result (fields_of heading.now.line.fields) (below ++ line.now ∷ []) read.new notes.new }
+    requires { (below : List CsvLine) × AreBelow (fields_of heading.now.line.fields) below known.old notes.old }
+    ensures taken { (below : List CsvLine) → AreBelow (fields_of heading.now.line.fields) below known.old notes.old
+        → AreTaken result (fields_of heading.now.line.fields) (below ++ line.now ∷ []) known.new notes.new }
     ensures kept { OnOk result ((below : List CsvLine) → KeepsTexts kept.old (fields_of heading.now.line.fields) below
         → KeepsTexts kept.new (fields_of heading.now.line.fields) (below ++ line.now ∷ [])) }
 {
     kept.note(alloc, heading, line)?;
-    take_row_or_note(alloc, read, notes, heading, line)
+    take_row_or_note(alloc, known, notes, heading, line)
 }
 
 /// The fault of a heading, if it lacks a column or has it twice.
-fn heading_fault(line: &CsvLine) -> Option<ImportFault>
+pub fn heading_fault(line: &CsvLine) -> Option<ImportFault>
     ensures { result ≡ heading_fault line.now }
 {
     match wrong_column(line) {
@@ -212,50 +156,21 @@ fn heading_fault(line: &CsvLine) -> Option<ImportFault>
     }
 }
 
-/// Takes one more line, which is the heading if there is none yet. The answer is the fault that it has, if any. Error: an
-/// allocation failed for the heading.
-fn next_line(
-    alloc: Global,
-    read: &mut LinesRead,
-    line: &CsvLine,
-) -> Result<Option<ImportFault>, AllocError>
-    requires { (lines : List CsvLine) × HaveRows read.old.heading read.old lines }
-    ensures read { IfOk result (λ fault. (lines : List CsvLine) → HaveRows read.old.heading read.old lines
-        → AreRead fault read.new (lines ++ line.now ∷ [])) }
-    ensures heading { OnOk result ((lines : List CsvLine) → IsHeadingOf read.old.heading lines
-        → IsHeadingOf read.new.heading (lines ++ line.now ∷ [])) }
-{
-    match &read.heading {
-        None => {
-            let copy = copy_of_line(line)?;
-            let fault = heading_fault(&copy);
-            read.heading = Some(Heading::of(copy));
-            Ok(fault)
-        }
-        Some(heading) => {
-            let taken = take_kept(
-                alloc,
-                &mut read.rows,
-                &mut read.notes,
-                &mut read.kept,
-                heading,
-                line,
-            );
-            Ok(taken.err())
-        }
-    }
-}
-
-/// Takes one more line, unless one before it has a fault. Error: an allocation failed for the heading.
-pub fn take_line(alloc: Global, read: &mut LinesRead, line: &CsvLine) -> Result<(), AllocError>
-    requires { (lines : List CsvLine) × StandsFor read.old lines }
-    ensures read { OnOk result ((lines : List CsvLine) → StandsFor read.old lines → StandsFor read.new (lines ++ line.now ∷ [])) }
-    ensures heading { OnOk result ((lines : List CsvLine) → StandsFor read.old lines → IsHeadingOf read.old.heading lines
-        → IsHeadingOf read.new.heading (lines ++ line.now ∷ [])) }
+/// Takes one more line below a heading, unless one before it has a fault.
+pub fn take_line(alloc: Global, heading: &Heading, read: &mut LinesRead, line: &CsvLine)
+    requires { (below : List CsvLine) × StandsFor heading.now.line read.old below }
+    ensures { (below : List CsvLine) → StandsFor heading.now.line read.old below
+        → StandsFor heading.now.line read.new (below ++ line.now ∷ []) }
 {
     if read.fault.is_none() {
-        let fault = next_line(alloc, read, line)?;
-        read.fault = fault;
+        let taken = take_kept(
+            alloc,
+            &mut read.known,
+            &mut read.notes,
+            &mut read.kept,
+            heading,
+            line,
+        );
+        read.fault = taken.err();
     }
-    Ok(())
 }

@@ -1,13 +1,10 @@
 //! The rows of a refused sheet, for a person: those that say something new, and the first ones with a fault. No contract
 //! rests on them.
 ghost use Rattle.std.specs.Prelude.{◌≡◌, IfOk};
-ghost use Rattle.a429_import.specs.LineCounts.{IsEnd};
 
 use crate::columns::Heading;
-use crate::forms::Form;
-use crate::lines::{CsvLine, count_before, line_of, rows_of};
+use crate::lines::CsvLine;
 use crate::notes::has_label;
-use crate::reading::LinesRead;
 use crate::rows::form_fault;
 use std::alloc::{AllocError, Global};
 
@@ -32,30 +29,13 @@ pub struct RefusedRows {
     pub count: usize,
     /// Whether the quotes of a field are wrong. Then no row was looked at.
     pub is_misquoted: bool,
-    is_heading_wrong: bool,
+    pub is_heading_wrong: bool,
     /// Whether a row has a label.
     is_labelled: bool,
     /// How many of `faulty` are no notes, whatever follows.
     settled: usize,
     /// How many of `count` are no notes, whatever follows.
     settled_count: usize,
-}
-
-/// What was known before a line was taken.
-#[derive(Clone, Copy)]
-pub struct Before {
-    has_heading: bool,
-    has_fault: bool,
-    kept: usize,
-}
-
-/// What is known before a line is taken.
-pub fn before_line(read: &LinesRead) -> Before {
-    Before {
-        has_heading: read.heading.is_some(),
-        has_fault: read.fault.is_some(),
-        kept: read.rows.kept.len(),
-    }
 }
 
 /// A copy of a line. Error: an allocation failed.
@@ -111,28 +91,9 @@ impl RefusedRows {
         Ok(())
     }
 
-    /// Notes a line that was taken. Error: an allocation failed.
+    /// Notes a line below the heading that was taken: whether it says something new, and whether it is refused. Error: an
+    /// allocation failed.
     pub fn note(
-        &mut self,
-        read: &LinesRead,
-        before: Before,
-        line: CsvLine,
-    ) -> Result<(), AllocError> {
-        match &read.heading {
-            Some(heading) if before.has_heading => {
-                let is_new = before.kept < read.rows.kept.len();
-                let is_refused = read.fault.is_some() && !before.has_fault;
-                self.note_below(heading, is_new, is_refused, line)
-            }
-            _ => {
-                self.is_heading_wrong = read.fault.is_some();
-                Ok(())
-            }
-        }
-    }
-
-    /// Notes a line below the heading. Error: an allocation failed.
-    fn note_below(
         &mut self,
         heading: &Heading,
         is_new: bool,
@@ -180,19 +141,9 @@ pub fn misquoted_rows(alloc: Global) -> RefusedRows {
     rows
 }
 
-/// A text with a row of data above its heading. Error: an allocation failed.
-pub fn titled_rows(alloc: Global, text: &[u8], form: Form<'_>) -> Result<RefusedRows, AllocError>
-    requires { IsEnd text.now form.text.now }
-{
-    let mut refused = RefusedRows::new(alloc);
-    let mut rows = rows_of(alloc, form);
-    let first = rows.next();
-    // One call, instead of a drop of each of its parts.
-    std::mem::drop(rows);
-    if let Some(row) = first {
-        let mut count = count_before(text, form.text);
-        let titles = line_of(alloc, text, form, &mut count, row)?;
-        refused.titles = Some(titles);
-    }
-    Ok(refused)
+/// A text with a row of data above its heading, which is given as it is written. Error: an allocation failed.
+pub fn titled_rows(alloc: Global, titles: &CsvLine) -> Result<RefusedRows, AllocError> {
+    let mut rows = RefusedRows::new(alloc);
+    rows.note_titles(false, titles)?;
+    Ok(rows)
 }

@@ -1,25 +1,19 @@
 //! Rows whose texts of groups, sources and receivers become names.
-ghost use Rattle.std.specs.Prelude.{◌≡◌, ◌++◌, ◌∷◌, [], IfOk, List, not, OnOk, unwrap_or};
-ghost use Rattle.std.specs.List.{position_from};
+ghost use Rattle.std.specs.Prelude.{◌≡◌, ◌++◌, [], IfOk, not, unwrap_or};
+ghost use Rattle.std.specs.List.{count_by};
 ghost use Rattle.std.specs.Str.{bytes_eq};
-ghost use Rattle.a429_import.specs.declared.rows.ImportRow.{ImportRow};
-ghost use Rattle.a429_import.specs.ImportReading.{HasRows};
 ghost use Rattle.a429_import.specs.ImportFields.{field_in, utf8_in};
 ghost use Rattle.a429_import.specs.ImportTables.{name_in};
-ghost use Rattle.a429_import.specs.Known.{Knows, KnowsFirsts};
 ghost use Rattle.a429_import.specs.ImportTexts.{texts_view};
-ghost use Rattle.a429_import.specs.Names.{IsIndexed, names_of};
-ghost use Rattle.a429_import.specs.RenamedReading.{AreNames};
-ghost use Rattle.a429_import.specs.Renamed.{all_renamed, base_of, chosen, end_of, is_alone, is_taken, long_name, name_for, names_in, names_of_row, plain_of, plains_of, renamed, source_text, text_of};
+ghost use Rattle.a429_import.specs.Known.{Knows};
+ghost use Rattle.a429_import.specs.RenamedReading.{AreNames, texts_of};
+ghost use Rattle.a429_import.specs.Renamed.{all_renamed, base_of, chosen, end_of, is_alone, is_taken, long_name, name_for, names_in, names_of_row, plain_of, plains_of, source_text, text_of};
 
 use crate::fields::utf8_in;
 use crate::firsts::Part;
 use crate::keyed_lines::key_end;
 use crate::known::Known;
 use crate::made_names::{in_room_or, numbered_name, plain_name, put_label_end};
-use crate::named_rows::NamedRows;
-use crate::names::Names;
-use crate::reading::{RowsRead, push_row};
 use crate::rows::{ImportRow, RowFields, TextFields};
 use std::alloc::{AllocError, Global};
 
@@ -99,35 +93,41 @@ fn end_of(alloc: Global, part: Part, row: &ImportRow) -> Result<Vec<u8>, AllocEr
     Ok(end)
 }
 
-/// Whether a name is none of these, and none of others.
-fn is_free(names: &Names, others: &Names, name: &[u8]) -> bool
-    requires names { IsIndexed names.now }
-    requires others { IsIndexed others.now }
-    ensures { result ≡ not (is_taken (names_of names.now ++ names_of others.now) name.now) }
+/// How many of these names are this one.
+fn times(names: &[Vec<u8>], name: &[u8]) -> usize
+    ensures { result ≡ count_by (bytes_eq name.now) (texts_of names.now) }
 {
-    !(0 < names.count(name) || 0 < others.count(name))
+    let mut count = 0;
+    for other in names {
+        count += usize::from(name == other.as_slice());
+    }
+    count
+}
+
+/// Whether a name is none of these, and none of others.
+fn is_free(names: &[Vec<u8>], others: &[Vec<u8>], name: &[u8]) -> bool
+    ensures { result ≡ not (is_taken (texts_of names.now ++ texts_of others.now) name.now) }
+{
+    !(0 < times(names, name) || 0 < times(others, name))
 }
 
 /// Whether one text alone has this plain name.
-fn is_alone(plains: &Names, plain: &[u8]) -> bool
-    requires { IsIndexed plains.now }
-    ensures { result ≡ is_alone (names_of plains.now) plain.now }
+fn is_alone(plains: &[Vec<u8>], plain: &[u8]) -> bool
+    ensures { result ≡ is_alone (texts_of plains.now) plain.now }
 {
-    !plain.is_empty() && !(1 < plains.count(plain))
+    !plain.is_empty() && !(1 < times(plains, plain))
 }
 
 /// The first long name that is none of these, and none of others. Error: an allocation failed.
 #[tactic(auto, unfolding(crate::specs::Renamed::long_name))]
 fn long_name(
     alloc: Global,
-    names: &Names,
-    others: &Names,
+    names: &[Vec<u8>],
+    others: &[Vec<u8>],
     base: &[u8],
     end: &[u8],
 ) -> Result<Vec<u8>, AllocError>
-    requires names { IsIndexed names.now }
-    requires others { IsIndexed others.now }
-    ensures { IfOk result (λ name. name.items ≡ long_name (names_of names.now ++ names_of others.now) base.now end.now) }
+    ensures { IfOk result (λ name. name.items ≡ long_name (texts_of names.now ++ texts_of others.now) base.now end.now) }
 {
     for number in 0..NUMBERS {
         let name = numbered_name(alloc, base, end, number)?;
@@ -141,15 +141,13 @@ fn long_name(
 /// The long name of a row's receiver, source or group that is none of these, and none of others. Error: an allocation failed.
 fn long_of(
     alloc: Global,
-    names: &Names,
-    others: &Names,
+    names: &[Vec<u8>],
+    others: &[Vec<u8>],
     part: Part,
     row: &ImportRow,
 ) -> Result<Vec<u8>, AllocError>
-    requires names { IsIndexed names.now }
-    requires others { IsIndexed others.now }
     ensures { IfOk result (λ name. name.items
-        ≡ long_name (names_of names.now ++ names_of others.now) (base_of part row.now) (end_of part row.now)) }
+        ≡ long_name (texts_of names.now ++ texts_of others.now) (base_of part row.now) (end_of part row.now)) }
 {
     let base = base_of(alloc, part, row)?;
     let end = end_of(alloc, part, row)?;
@@ -160,14 +158,12 @@ fn long_of(
 #[tactic(auto, unfolding(crate::specs::Renamed::chosen))]
 fn chosen(
     alloc: Global,
-    plains: &Names,
-    earlier: &Names,
+    plains: &[Vec<u8>],
+    earlier: &[Vec<u8>],
     part: Part,
     row: &ImportRow,
 ) -> Result<Vec<u8>, AllocError>
-    requires plains { IsIndexed plains.now }
-    requires earlier { IsIndexed earlier.now }
-    ensures { IfOk result (λ name. name.items ≡ chosen (names_of plains.now) (names_of earlier.now) part row.now) }
+    ensures { IfOk result (λ name. name.items ≡ chosen (texts_of plains.now) (texts_of earlier.now) part row.now) }
 {
     if plains.len() > MOST_TEXTS {
         return Vec::from_slice(alloc, name_in(part, row).as_bytes());
@@ -182,79 +178,29 @@ fn chosen(
     long_of(alloc, plains, earlier, part, row)
 }
 
-/// Adds the plain name of a row's receiver, source or group. Error: an allocation failed.
-fn push_plain(
-    alloc: Global,
-    plains: &mut Names,
-    part: Part,
-    row: &ImportRow,
-) -> Result<(), AllocError>
-    requires { IsIndexed plains.old }
-    ensures texts { OnOk result (names_of plains.new ≡ names_of plains.old ++ plain_of part row.now ∷ []) }
-    ensures are { OnOk result (IsIndexed plains.new) }
-{
-    let plain = plain_of(alloc, part, row)?;
-    plains.push(&plain)
-}
-
 /// The plain names of the receivers, the sources or the groups. Error: an allocation failed.
-fn plains_of(
-    alloc: Global,
-    part: Part,
-    named: &NamedRows,
-    rows: &[ImportRow],
-) -> Result<Names, AllocError>
-    requires { KnowsFirsts part named.now rows.now }
-    ensures texts { IfOk result (λ plains. names_of plains ≡ plains_of part rows.now) }
-    ensures are { IfOk result IsIndexed }
+fn plains_of(alloc: Global, part: Part, known: &Known) -> Result<Vec<Vec<u8>>, AllocError>
+    requires { Knows known.now }
+    ensures { IfOk result (λ plains. texts_of plains.items ≡ plains_of part known.now.rows.items) }
 {
-    let mut plains = Names::new(alloc, MOST_TEXTS)?;
-    for place in 0..named.len() {
-        push_plain(alloc, &mut plains, part, &rows[named.first_at(place)])?;
+    let mut plains = Vec::new(alloc);
+    for place in 0..known.count(part) {
+        plains.push(plain_of(alloc, part, known.first_row(part, place))?)?;
     }
     Ok(plains)
 }
 
-/// Adds the name of a row's receiver, source or group. Error: an allocation failed.
-fn push_chosen(
-    alloc: Global,
-    names: &mut Names,
-    plains: &Names,
-    part: Part,
-    row: &ImportRow,
-) -> Result<(), AllocError>
-    requires names { IsIndexed names.old }
-    requires plains { IsIndexed plains.now }
-    ensures texts { OnOk result (names_of names.new
-        ≡ names_of names.old ++ chosen (names_of plains.now) (names_of names.old) part row.now ∷ []) }
-    ensures are { OnOk result (IsIndexed names.new) }
-{
-    let name = chosen(alloc, plains, names, part, row)?;
-    names.push(&name)
-}
-
 /// The names of the receivers, the sources or the groups, in the order of their first rows. Error: an allocation failed.
 #[tactic(auto, unfolding(crate::specs::Renamed::names_in))]
-fn names_in(
-    alloc: Global,
-    part: Part,
-    named: &NamedRows,
-    rows: &[ImportRow],
-) -> Result<Names, AllocError>
-    requires { KnowsFirsts part named.now rows.now }
-    ensures texts { IfOk result (λ names. names_of names ≡ names_in part rows.now) }
-    ensures are { IfOk result IsIndexed }
+fn names_in(alloc: Global, part: Part, known: &Known) -> Result<Vec<Vec<u8>>, AllocError>
+    requires { Knows known.now }
+    ensures { IfOk result (λ names. texts_of names.items ≡ names_in part known.now.rows.items) }
 {
-    let plains = plains_of(alloc, part, named, rows)?;
-    let mut names = Names::new(alloc, MOST_TEXTS)?;
-    for place in 0..named.len() {
-        push_chosen(
-            alloc,
-            &mut names,
-            &plains,
-            part,
-            &rows[named.first_at(place)],
-        )?;
+    let plains = plains_of(alloc, part, known)?;
+    let mut names = Vec::new(alloc);
+    for place in 0..known.count(part) {
+        let name = chosen(alloc, &plains, &names, part, known.first_row(part, place))?;
+        names.push(name)?;
     }
     Ok(names)
 }
@@ -262,111 +208,73 @@ fn names_in(
 /// The names of all receivers, sources and groups, in the order of their first rows.
 #[derive(Drop)]
 pub struct AllNames {
-    pub receivers: Names,
-    pub sources: Names,
-    pub groups: Names,
+    pub receivers: Vec<Vec<u8>>,
+    pub sources: Vec<Vec<u8>>,
+    pub groups: Vec<Vec<u8>>,
 }
 
 /// The names of all receivers, sources and groups of known rows. Error: an allocation failed.
-pub fn all_names(alloc: Global, known: &Known, rows: &[ImportRow]) -> Result<AllNames, AllocError>
-    requires { Knows known.now rows.now }
-    ensures { IfOk result (λ names. AreNames names rows.now) }
+pub fn all_names(alloc: Global, known: &Known) -> Result<AllNames, AllocError>
+    requires { Knows known.now }
+    ensures { IfOk result (λ names. AreNames names known.now.rows.items) }
 {
-    let receivers = names_in(alloc, Part::Receivers, &known.receivers.named, rows)?;
-    let sources = names_in(alloc, Part::Sources, &known.sources.named, rows)?;
+    let receivers = names_in(alloc, Part::Receivers, known)?;
+    let sources = names_in(alloc, Part::Sources, known)?;
     Ok(AllNames {
-        groups: names_in(alloc, Part::Groups, &known.groups.named, rows)?,
+        groups: names_in(alloc, Part::Groups, known)?,
         receivers,
         sources,
     })
 }
 
-/// The place of the text of a row's receiver, source or group among those that are known.
-fn place_for(part: Part, named: &NamedRows, row: &ImportRow) -> usize
-    requires { IsIndexed named.now.names }
-    ensures { result ≡ unwrap_or (position_from (bytes_eq (name_in part row.now)) 0 (names_of named.now.names)) 0 }
-{
-    match named.find(name_in(part, row)) {
-        Some(found) => found.place,
-        None => 0,
-    }
-}
-
 /// The name at a place, as a text.
-fn name_at(names: &Names, place: usize) -> &str
-    requires { IsIndexed names.now }
-    ensures { result.now ≡ unwrap_or (utf8_in (field_in place (names_of names.now))) [] }
+fn name_at(names: &[Vec<u8>], place: usize) -> &str
+    ensures { result.now ≡ unwrap_or (utf8_in (field_in place (texts_of names.now))) [] }
 {
-    match utf8_in(names.name(place)) {
-        Some(name) => name,
+    match names.get(place) {
+        Some(name) => utf8_in(name.as_slice()).unwrap_or(""),
         None => "",
     }
 }
 
-/// The name of a row's receiver, source or group.
-fn name_for<'a>(part: Part, named: &NamedRows, names: &'a Names, row: &ImportRow) -> &'a str
-    requires named { IsIndexed named.now.names }
-    requires names { IsIndexed names.now }
-    ensures { (rows : List ImportRow) → KnowsFirsts part named.now rows → names_of names.now ≡ names_in part rows
-        → result.now ≡ name_for part rows row.now }
+/// The name of a row's receiver, source or group, of those of the known rows.
+fn name_for<'a>(part: Part, known: &Known, names: &'a [Vec<u8>], row: &ImportRow) -> &'a str
+    requires known { Knows known.now }
+    requires names { texts_of names.now ≡ names_in part known.now.rows.items }
+    ensures { result.now ≡ name_for part known.now.rows.items row.now }
 {
-    name_at(names, place_for(part, named, row))
+    let place = known.named(part).find(name_in(part, row));
+    name_at(names, place.unwrap_or(0))
 }
 
 /// The names of a row, and its filters.
 fn names_of<'a>(known: &Known, names: &'a AllNames, row: &'a ImportRow) -> TextFields<'a>
-    requires { (rows : List ImportRow) × Knows known.now rows × AreNames names.now rows }
-    ensures { (rows : List ImportRow) → Knows known.now rows → AreNames names.now rows
-        → texts_view result ≡ names_of_row rows row.now }
+    requires known { Knows known.now }
+    requires names { AreNames names.now known.now.rows.items }
+    ensures { texts_view result ≡ names_of_row known.now.rows.items row.now }
 {
     TextFields {
-        group: name_for(Part::Groups, &known.groups.named, &names.groups, row),
-        source: name_for(Part::Sources, &known.sources.named, &names.sources, row),
-        receiver: name_for(
-            Part::Receivers,
-            &known.receivers.named,
-            &names.receivers,
-            row,
-        ),
+        group: name_for(Part::Groups, known, &names.groups, row),
+        source: name_for(Part::Sources, known, &names.sources, row),
+        receiver: name_for(Part::Receivers, known, &names.receivers, row),
         filters: row.texts.filters.as_str(),
     }
 }
 
-/// Takes a row with names. Error: an allocation failed.
-fn take_renamed(
-    alloc: Global,
-    read: &mut RowsRead,
-    known: &Known,
-    names: &AllNames,
-    row: &ImportRow,
-) -> Result<(), AllocError>
-    requires names { (rows : List ImportRow) × Knows known.now rows × AreNames names.now rows }
-    requires read { (rows : List ImportRow) × Knows read.old.known rows }
-    ensures { OnOk result ((all rows : List ImportRow) → Knows known.now all → AreNames names.now all → HasRows read.old rows
-        → HasRows read.new (rows ++ renamed all row.now ∷ [])) }
-{
-    let fields = RowFields {
-        texts: names_of(known, names, row),
-        numbers: row.numbers,
-    };
-    push_row(alloc, read, &fields)?;
-    Ok(())
-}
-
 /// What known rows say with names. Error: an allocation failed.
-pub fn all_renamed(
-    alloc: Global,
-    known: &Known,
-    names: &AllNames,
-    rows: &[ImportRow],
-) -> Result<RowsRead, AllocError>
-    requires known { Knows known.now rows.now }
-    requires names { AreNames names.now rows.now }
-    ensures { IfOk result (λ read. HasRows read (all_renamed rows.now)) }
+pub fn all_renamed(alloc: Global, known: &Known, names: &AllNames) -> Result<Known, AllocError>
+    requires known { Knows known.now }
+    requires names { AreNames names.now known.now.rows.items }
+    ensures known { IfOk result Knows }
+    ensures rows { IfOk result (λ all. all.rows.items ≡ all_renamed known.now.rows.items) }
 {
-    let mut read = RowsRead::new(alloc, rows.len())?;
-    for row in rows {
-        take_renamed(alloc, &mut read, known, names, row)?;
+    let mut renamed = Known::new(alloc);
+    for row in &known.rows {
+        let fields = RowFields {
+            texts: names_of(known, names, row),
+            numbers: row.numbers,
+        };
+        renamed.push(alloc, &fields)?;
     }
-    Ok(read)
+    Ok(renamed)
 }

@@ -3,13 +3,13 @@ ghost use Rattle.std.specs.Prelude.{◌≡◌, IfOk, None, option_map};
 ghost use Rattle.std.specs.Result.{result_err, result_map_both};
 ghost use Rattle.csv.specs.Records.{fields_of};
 ghost use Rattle.a429_import.specs.ImportFields.{filters_in, hold_in, label_in, rate_in, sdi_in, text_in};
-ghost use Rattle.a429_import.specs.ImportRows.{interval_at, names_group, numbers_of, output_at, row_of, stated_at, texts_of};
+ghost use Rattle.a429_import.specs.ImportRows.{column_form, interval_at, is_least, names_group, numbers_of, output_at, row_of, stated_at, texts_of};
 ghost use Rattle.a429_import.specs.ImportTexts.{row_view, text_view, texts_view};
 
 use crate::columns::Heading;
 use crate::fault::{CsvFaultKind, ImportColumn};
 use crate::fields::{filters_in, hold_in, if_group, label_in, sdi_in, text_in};
-use crate::intervals::interval_in;
+use crate::intervals::{IntervalForm, interval_in};
 use crate::lines::CsvLine;
 use crate::rates::rate_in;
 use a429_word::{Label, Sdi};
@@ -106,62 +106,21 @@ fn names_group(heading: &Heading, line: &CsvLine) -> bool
     !heading.field_of(line, ImportColumn::Group).is_empty()
 }
 
-fn rate_at(heading: &Heading, line: &CsvLine) -> Result<u32, ImportColumn>
-    ensures { result ≡ output_at rate_in 0 (fields_of heading.now.line.fields) (fields_of line.now.fields) ImportColumn.Rate }
-{
-    let field = heading.field_of(line, ImportColumn::Rate);
-    if_group(names_group(heading, line), field, rate_in(field), 0).ok_or(ImportColumn::Rate)
-}
-
-fn least_at(heading: &Heading, line: &CsvLine) -> Result<u32, ImportColumn>
-    ensures { result ≡ interval_at line.now.separator (fields_of heading.now.line.fields) (fields_of line.now.fields) ImportColumn.MinUs }
-{
-    let field = heading.field_of(line, ImportColumn::MinUs);
-    let limit = interval_in(true, heading.min_form, line.separator, field);
-    if_group(names_group(heading, line), field, limit, 0).ok_or(ImportColumn::MinUs)
-}
-
-fn most_at(heading: &Heading, line: &CsvLine) -> Result<u32, ImportColumn>
-    ensures { result ≡ interval_at line.now.separator (fields_of heading.now.line.fields) (fields_of line.now.fields) ImportColumn.MaxUs }
-{
-    let field = heading.field_of(line, ImportColumn::MaxUs);
-    let limit = interval_in(false, heading.max_form, line.separator, field);
-    if_group(names_group(heading, line), field, limit, 0).ok_or(ImportColumn::MaxUs)
-}
-
-fn label_at(heading: &Heading, line: &CsvLine) -> Result<Label, ImportColumn>
-    ensures { result ≡ stated_at label_in (fields_of heading.now.line.fields) (fields_of line.now.fields) ImportColumn.Label }
-{
-    label_in(heading.field_of(line, ImportColumn::Label)).ok_or(ImportColumn::Label)
-}
-
-fn sdi_at(heading: &Heading, line: &CsvLine) -> Result<Option<Sdi>, ImportColumn>
-    ensures { result ≡ stated_at sdi_in (fields_of heading.now.line.fields) (fields_of line.now.fields) ImportColumn.Sdi }
-{
-    sdi_in(heading.field_of(line, ImportColumn::Sdi)).ok_or(ImportColumn::Sdi)
-}
-
-fn hold_at(heading: &Heading, line: &CsvLine) -> Result<Option<u32>, ImportColumn>
-    ensures { result ≡ output_at hold_in None (fields_of heading.now.line.fields) (fields_of line.now.fields) ImportColumn.Hold }
-{
-    let field = heading.field_of(line, ImportColumn::Hold);
-    if_group(names_group(heading, line), field, hold_in(field), None).ok_or(ImportColumn::Hold)
-}
-
-fn text_at<'a>(
+/// A limit of an interval, in the form of its column.
+fn limit_at(
     heading: &Heading,
-    line: &'a CsvLine,
+    line: &CsvLine,
     column: ImportColumn,
-) -> Result<&'a str, ImportColumn>
-    ensures { text_view result ≡ stated_at text_in (fields_of heading.now.line.fields) (fields_of line.now.fields) column }
+    is_minimum: bool,
+    form: IntervalForm,
+) -> Result<u32, ImportColumn>
+    requires minimum { is_minimum ≡ is_least column }
+    requires form { form ≡ column_form (fields_of heading.now.line.fields) column }
+    ensures { result ≡ interval_at line.now.separator (fields_of heading.now.line.fields) (fields_of line.now.fields) column }
 {
-    text_in(heading.field_of(line, column)).ok_or(column)
-}
-
-fn filters_at<'a>(heading: &Heading, line: &'a CsvLine) -> Result<&'a str, ImportColumn>
-    ensures { text_view result ≡ stated_at filters_in (fields_of heading.now.line.fields) (fields_of line.now.fields) ImportColumn.Filters }
-{
-    filters_in(heading.field_of(line, ImportColumn::Filters)).ok_or(ImportColumn::Filters)
+    let field = heading.field_of(line, column);
+    let limit = interval_in(is_minimum, form, line.separator, field);
+    if_group(names_group(heading, line), field, limit, 0).ok_or(column)
 }
 
 /// The numbers of a row. Error: the first column with a wrong form.
@@ -169,12 +128,15 @@ fn filters_at<'a>(heading: &Heading, line: &'a CsvLine) -> Result<&'a str, Impor
 pub fn row_numbers(heading: &Heading, line: &CsvLine) -> Result<RowNumbers, ImportColumn>
     ensures { result ≡ numbers_of line.now.separator (fields_of heading.now.line.fields) (fields_of line.now.fields) }
 {
-    let rate = rate_at(heading, line)?;
-    let label = label_at(heading, line)?;
-    let sdi = sdi_at(heading, line)?;
-    let min_us = least_at(heading, line)?;
-    let max_us = most_at(heading, line)?;
-    let hold = hold_at(heading, line)?;
+    let has_group = names_group(heading, line);
+    let rate = heading.field_of(line, ImportColumn::Rate);
+    let rate = if_group(has_group, rate, rate_in(rate), 0).ok_or(ImportColumn::Rate)?;
+    let label = label_in(heading.field_of(line, ImportColumn::Label)).ok_or(ImportColumn::Label)?;
+    let sdi = sdi_in(heading.field_of(line, ImportColumn::Sdi)).ok_or(ImportColumn::Sdi)?;
+    let min_us = limit_at(heading, line, ImportColumn::MinUs, true, heading.min_form)?;
+    let max_us = limit_at(heading, line, ImportColumn::MaxUs, false, heading.max_form)?;
+    let hold = heading.field_of(line, ImportColumn::Hold);
+    let hold = if_group(has_group, hold, hold_in(hold), None).ok_or(ImportColumn::Hold)?;
     Ok(RowNumbers {
         rate,
         label,
@@ -190,10 +152,12 @@ pub fn row_numbers(heading: &Heading, line: &CsvLine) -> Result<RowNumbers, Impo
 fn text_fields<'a>(heading: &Heading, line: &'a CsvLine) -> Result<TextFields<'a>, ImportColumn>
     ensures { result_map_both texts_view (λ c. c) result ≡ texts_of (fields_of heading.now.line.fields) (fields_of line.now.fields) }
 {
-    let group = text_at(heading, line, ImportColumn::Group)?;
-    let source = text_at(heading, line, ImportColumn::Source)?;
-    let receiver = text_at(heading, line, ImportColumn::Receiver)?;
-    let filters = filters_at(heading, line)?;
+    let group = text_in(heading.field_of(line, ImportColumn::Group)).ok_or(ImportColumn::Group)?;
+    let source = text_in(heading.field_of(line, ImportColumn::Source)).ok_or(ImportColumn::Source)?;
+    let receiver = heading.field_of(line, ImportColumn::Receiver);
+    let receiver = text_in(receiver).ok_or(ImportColumn::Receiver)?;
+    let filters = heading.field_of(line, ImportColumn::Filters);
+    let filters = filters_in(filters).ok_or(ImportColumn::Filters)?;
     Ok(TextFields {
         group,
         source,

@@ -1,15 +1,16 @@
 //! The equipment table that rows describe, as TOML.
-ghost use Rattle.std.specs.Prelude.{◌≡◌, IfOk, List, OnOk, [], ◌∷◌, codes, filter, if◌then◌else◌, map, string_bytes};
+ghost use Rattle.std.specs.Prelude.{◌≡◌, ◌==◌, IfOk, OnOk, [], ◌∷◌, codes, filter, if◌then◌else◌, map, string_bytes};
+ghost use Rattle.std.specs.List.{slice_split};
 ghost use Rattle.std.specs.Option.{option_copied};
 ghost use Rattle.toml.specs.Data.{string};
 ghost use Rattle.toml.specs.View.{table_view, view};
 ghost use Rattle.a429_word.specs.Texts.{octal};
 ghost use Rattle.a429_import.specs.ImportBuilding.{GainsTables, Puts, PutsFilters, PutsHold};
 ghost use Rattle.a429_import.specs.declared.rows.ImportRow.{ImportRow};
-ghost use Rattle.a429_import.specs.KeptFields.{AreKept, lines_kept};
+ghost use Rattle.a429_import.specs.KeptFields.{lines_kept};
 ghost use Rattle.a429_import.specs.PrintedTables.{GainsDocument, IsWithTables, PutsEmpty, alone, head_members};
 ghost use Rattle.a429_import.specs.ImportTables.{group_tree, is_stated, is_word, output_tree, part_tree, receiver_tree, rows_of_group, sdi_data, source_tree, words};
-ghost use Rattle.a429_import.specs.Known.{Knows, KnowsFirsts};
+ghost use Rattle.a429_import.specs.Known.{Knows};
 ghost use Rattle.a429_import.specs.TableTexts.{AreSound, IsTableText, above_of, is_placed, piece_of, pieces, rows_before};
 
 use crate::building::{put, put_number, put_text};
@@ -17,9 +18,7 @@ use crate::comments::{Comments, put_above, row_before};
 use crate::firsts::Part;
 use crate::kept::KeptTexts;
 use crate::known::Known;
-use crate::named_rows::NamedRows;
 use crate::rows::ImportRow;
-use crate::words::parts;
 use std::alloc::{AllocError, Global};
 use toml::{Table, Value};
 
@@ -43,6 +42,13 @@ fn words_of(alloc: Global, parts: &[&str]) -> Result<Vec<Value>, AllocError>
         push_word(alloc, &mut values, *part)?;
     }
     Ok(values)
+}
+
+/// The parts of a text between spaces, which may be empty. Error: an allocation failed.
+fn parts(alloc: Global, text: &str) -> Result<Vec<&str>, AllocError>
+    ensures { IfOk result (λ parts. map (λ part. part.now) parts.items ≡ slice_split (λ b. b == 32) text.now) }
+{
+    text.split(' ').collect(alloc)
 }
 
 /// The words of a text, which are separated by spaces.
@@ -229,7 +235,6 @@ fn put_table(
     before: Option<&ImportRow>,
     row: &ImportRow,
 ) -> Result<(), AllocError>
-    requires { AreKept kept.now }
     ensures { OnOk result (IsWithTables (string_bytes shown.old) (string_bytes shown.new) named.entry.key.now
         ((
           above_of (lines_kept kept.now) named.entry.part (option_copied before.entry) row.now,
@@ -269,7 +274,6 @@ fn put_stated(
 struct NamedPart<'a> {
     key: &'static str,
     part: Part,
-    named: &'a NamedRows,
     rows: &'a [ImportRow],
 }
 
@@ -279,23 +283,28 @@ fn put_tables(
     alloc: Global,
     shown: &mut String,
     comments: Comments<'_>,
-    named: NamedPart<'_>,
+    known: &Known,
+    key: &'static str,
+    part: Part,
 ) -> Result<(), AllocError>
-    requires known { KnowsFirsts named.part named.named.now named.rows.now }
+    requires known { Knows known.now }
     requires comments { AreSound comments }
-    ensures { OnOk result (IsWithTables (string_bytes shown.old) (string_bytes shown.new) named.entry.key.now
-        (pieces (lines_kept comments.entry.kept.now) (rows_before comments.entry.made_of) named.entry.part named.entry.rows.now)) }
+    ensures { OnOk result (IsWithTables (string_bytes shown.old) (string_bytes shown.new) key.now
+        (pieces (lines_kept comments.entry.kept.now) (rows_before comments.entry.made_of) part known.now.rows.items)) }
 {
-    let names = named.named;
-    let rows = named.rows;
-    for place in 0..names.len() {
+    let named = NamedPart {
+        key,
+        part,
+        rows: &known.rows,
+    };
+    for place in 0..known.count(part) {
         put_stated(
             alloc,
             shown,
             comments,
             named,
             place,
-            &rows[names.first_at(place)],
+            known.first_row(part, place),
         )?;
     }
     Ok(())
@@ -314,63 +323,40 @@ fn put_empty(alloc: Global, table: &mut Table, key: &str, count: usize) -> Resul
 
 /// The pairs above all tables: the arrays that have none, and the version. Error: an allocation failed.
 fn head_table(alloc: Global, known: &Known) -> Result<Table, AllocError>
-    ensures { IfOk result (λ table. (rows : List ImportRow) → Knows known.now rows → table_view table ≡ head_members rows) }
+    requires { Knows known.now }
+    ensures { IfOk result (λ table. table_view table ≡ head_members known.now.rows.items) }
 {
     let mut table = Table::new(alloc);
     put_number(alloc, &mut table, "version", 2)?;
-    put_empty(alloc, &mut table, "source", known.sources.named.len())?;
-    put_empty(alloc, &mut table, "receiver", known.receivers.named.len())?;
-    put_empty(alloc, &mut table, "group", known.groups.len())?;
+    put_empty(alloc, &mut table, "source", known.count(Part::Sources))?;
+    put_empty(alloc, &mut table, "receiver", known.count(Part::Receivers))?;
+    put_empty(alloc, &mut table, "group", known.group_count())?;
     Ok(table)
 }
 
-/// The equipment table that these known rows describe, as TOML of version 2, with comments. Error: an allocation failed.
+/// The equipment table that known rows describe, as TOML of version 2, with comments. Error: an allocation failed.
 pub fn table_text(
     alloc: Global,
     comments: Comments<'_>,
     known: &Known,
-    rows: &[ImportRow],
 ) -> Result<String, AllocError>
-    requires known { Knows known.now rows.now }
+    requires known { Knows known.now }
     requires comments { AreSound comments }
-    ensures { IfOk result (λ text. IsTableText (lines_kept comments.entry.kept.now) (rows_before comments.entry.made_of) rows.now
-        (string_bytes text)) }
+    ensures { IfOk result (λ text. IsTableText (lines_kept comments.entry.kept.now) (rows_before comments.entry.made_of)
+        known.now.rows.items (string_bytes text)) }
 {
     let head = head_table(alloc, known)?;
     let mut shown = String::new(alloc);
     put_document(alloc, &mut shown, &head)?;
+    put_tables(alloc, &mut shown, comments, known, "group", Part::Groups)?;
     put_tables(
         alloc,
         &mut shown,
         comments,
-        NamedPart {
-            key: "group",
-            part: Part::Groups,
-            named: &known.groups.named,
-            rows,
-        },
+        known,
+        "receiver",
+        Part::Receivers,
     )?;
-    put_tables(
-        alloc,
-        &mut shown,
-        comments,
-        NamedPart {
-            key: "receiver",
-            part: Part::Receivers,
-            named: &known.receivers.named,
-            rows,
-        },
-    )?;
-    put_tables(
-        alloc,
-        &mut shown,
-        comments,
-        NamedPart {
-            key: "source",
-            part: Part::Sources,
-            named: &known.sources.named,
-            rows,
-        },
-    )?;
+    put_tables(alloc, &mut shown, comments, known, "source", Part::Sources)?;
     Ok(shown)
 }

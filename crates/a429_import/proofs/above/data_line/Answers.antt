@@ -1,10 +1,9 @@
 use Rattle.std.proofs.Common.{ap, ◌∷◌, ◌++◌, ◌∙◌, [], refl, ◌≡◌, map}
-use Rattle.std.specs.Prelude.{is_some}
 use Rattle.csv.specs.Records.{fields_of}
 use Rattle.a429_import.specs.declared.lines.CsvLine.{CsvLine}
 use Rattle.a429_import.specs.ImportAbove.{is_data}
 use Rattle.a429_import.proofs.FaultLines.{line_more, no_line}
-use Rattle.a429_import.proofs.ImportAbove.{data_read, line_read, one_more}
+use Rattle.a429_import.proofs.ImportAbove.{line_read}
 use Rattle.a429_import.specs.ImportWords.{trimmed}
 use Rattle.a429_import.proofs.ImportForms.{read_more}
 use Rattle.a429_import.specs.LineCounts.{is_between}
@@ -20,7 +19,7 @@ line_of-requires-clause-counted c = c.loop-row.invariant.read.counted
 pub loop-row-init : goal.loop-row-init
 loop-row-init c =
     let start = c.into_iter-row-iterator.ensures.into_iter_gives ∙ refl in
-    rw start (record { turns = c.requires.left; all = []; read = c.requires.before c.args.form.text.now c.count_before-count.result c.count_before-count.ensures; found = refl; line = no_line (is_data (fields_of c.args.heading.now.line.fields)) })
+    rw start (record { turns = c.requires.left; all = []; read = c.requires.before c.args.form.text.now c.count_before-count.result c.count_before-count.ensures; line = no_line (is_data (fields_of c.args.heading.now.line.fields)) })
 
 pub loop-row-preserved : goal.loop-row-preserved
 loop-row-preserved c =
@@ -33,18 +32,11 @@ loop-row-preserved c =
       all = inv.all ++ line ∷ [];
       read = read_more c.args.form.separator c.args.form.text.now c.args.form.text.now c.loop-row.row-iterator.now.rdr c.next.new.self.now.rdr c.loop-row.count c.line_of.new.count inv.all line (fields_of is.0) inv.read s.0 s.1 c.in_ok-line.ensures.separator is.2
           (record { number = c.in_ok-line.ensures.number; counted = c.in_ok-line.ensures.counted; row = c.in_ok-line.ensures.row; between = c.in_ok-line.ensures.between });
-      found = one_more (fields_of c.args.heading.now.line.fields) inv.all line (is_some c.loop-row.found) (is_some c.found_at-found.result) inv.found c.found_at-found.ensures.data;
-      line = line_more (is_data (fields_of c.args.heading.now.line.fields)) inv.all line c.loop-row.found c.found_at-found.result inv.line c.found_at-found.ensures.line;
+      line = line_more (is_data (fields_of c.args.heading.now.line.fields)) inv.all line c.loop-row.found c.found_at-found.result inv.line c.found_at-found.ensures;
     }
 
-pub returns-clause-data : goal.returns-clause-data
-returns-clause-data c =
-    let inv = c.loop-row.invariant in
-    let end = rw c.in-None.is at ((c.next.ensures.steps inv.turns inv.read.plain).0 inv.read.ready) in
-    inv.found ∙ data_read c.args.form.separator (fields_of c.args.heading.now.line.fields) c.args.form.text.now c.loop-row.row-iterator.now.rdr c.next.new.self.now.rdr c.loop-row.count inv.all inv.read end
-
-pub returns-clause-line : goal.returns-clause-line
-returns-clause-line c =
+pub returns : goal.returns
+returns c =
     let inv = c.loop-row.invariant in
     let end = rw c.in-None.is at ((c.next.ensures.steps inv.turns inv.read.plain).0 inv.read.ready) in
     inv.line ∙ line_read c.args.form.separator (fields_of c.args.heading.now.line.fields) c.args.form.text.now c.loop-row.row-iterator.now.rdr c.next.new.self.now.rdr c.loop-row.count inv.all inv.read end

@@ -1,11 +1,9 @@
 use Rattle.std.proofs.Common.{◌≡◌, ◌<◌, List}
-use Rattle.std.specs.Prelude.{is_some}
 use Rattle.csv.specs.Records.{fields_of}
 use Rattle.a429_import.specs.declared.lines.CsvLine.{CsvLine}
 use Rattle.a429_import.specs.ImportReading.{HasRead}
 use Rattle.a429_import.specs.ImportAbove.{is_data}
 use Rattle.a429_import.proofs.FaultLines.{line_number}
-use Rattle.a429_import.proofs.ImportAbove.{has_data_line}
 use Rattle.a429_import.proofs.above.data_line.Given as goal
 
 abbrev pub invariant-loop-row : goal.invariant-loop-row
@@ -13,6 +11,5 @@ invariant-loop-row l = record {
   turns : 0 < l.row-iterator.left;
   all : List CsvLine;
   read : HasRead l.form.separator l.form.text.now l.form.text.now l.row-iterator.rdr l.count all;
-  found : is_some l.found ≡ has_data_line (fields_of l.heading.line.fields) all;
   line : l.found ≡ line_number (is_data (fields_of l.heading.line.fields)) all;
 }

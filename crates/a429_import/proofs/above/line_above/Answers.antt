@@ -4,17 +4,11 @@ use Rattle.a429_import.specs.ImportAbove.{first_row}
 use Rattle.a429_import.specs.ImportMaps.{given_texts, names_by}
 use Rattle.a429_import.specs.ImportQuotes.{text_before}
 use Rattle.a429_import.specs.Imports.{separated}
-use Rattle.a429_import.proofs.ImportAbove.{no_data, no_data_line}
+use Rattle.a429_import.proofs.ImportAbove.{no_data_line}
 use Rattle.a429_import.proofs.above.line_above.Goals as goal
 
-pub returns-then-is_empty-clause-line : goal.returns-then-is_empty-clause-line
-returns-then-is_empty-clause-line c =
+pub returns-then-is_empty : goal.returns-then-is_empty
+returns-then-is_empty c =
     let cfg = separated c.args.form.separator in
     let none : (length (text_before c.args.form.text.now c.args.text.now) == 0) ≡ true = sym (ap (λ (xs : List ℕ). length xs == 0) c.text_before-above.ensures) ∙ sym c.is_empty.ensures ∙ c.if-is_empty.true in
     no_data_line cfg (names_by (given_texts c.args.maps.now) (first_row cfg c.args.form.text.now)) (text_before c.args.form.text.now c.args.text.now) none
-
-pub returns-then-is_empty-clause-data : goal.returns-then-is_empty-clause-data
-returns-then-is_empty-clause-data c =
-    let cfg = separated c.args.form.separator in
-    let none : (length (text_before c.args.form.text.now c.args.text.now) == 0) ≡ true = sym (ap (λ (xs : List ℕ). length xs == 0) c.text_before-above.ensures) ∙ sym c.is_empty.ensures ∙ c.if-is_empty.true in
-    no_data cfg (names_by (given_texts c.args.maps.now) (first_row cfg c.args.form.text.now)) (text_before c.args.form.text.now c.args.text.now) none

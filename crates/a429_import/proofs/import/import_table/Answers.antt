@@ -1,11 +1,29 @@
-use Rattle.std.proofs.Common.{List, Option, Some, subst, ℕ}
-use Rattle.a429_import.specs.declared.fault.ImportFault.{ImportFault}
+use Rattle.std.proofs.Common.{◌≡◌, ◌∙◌, List, Some, None, ap, ap₂, is_some, subst, sym, ℕ}
+use Rattle.a429_import.specs.ImportForms.{from_heading, separator_in}
 use Rattle.a429_import.specs.ImportMaps.{given_texts}
-use Rattle.a429_import.specs.Imports.{IsTextFault}
+use Rattle.a429_import.specs.FaultLines.{fault_line}
+use Rattle.a429_import.specs.Imports.{separated, text_fault_line}
+use Rattle.a429_import.specs.LineCounts.{IsEnd}
+use Rattle.a429_import.proofs.FaultLines.{some_fault}
+use Rattle.a429_import.proofs.Imports.{unfit_import}
+use Rattle.a429_import.proofs.RowLines.{from_heading_end}
 use Rattle.a429_import.proofs.import.import_table.Goals as goal
+
+pub unfit_line-requires : goal.unfit_line-requires
+unfit_line-requires g c = subst (λ (xs : List ℕ). IsEnd c.args.bytes.now xs) (sym c.form_of-form.ensures.text) (from_heading_end (given_texts c.args.maps.now) c.args.bytes.now)
 
 pub returns-in-Some : goal.returns-in-Some
 returns-in-Some g c =
     let maps : List (List ℕ) = given_texts c.args.maps.now in
-    let refused : IsTextFault maps c.args.bytes.now (Some c.in-Some.fault) = subst (λ (o : Option ImportFault). IsTextFault maps c.args.bytes.now o) c.in-Some.is c.in_ok-fault.ensures in
-    refused c.args.options
+    let text : List ℕ = c.args.bytes.now in
+    let form = c.form_of-form.ensures in
+    let line : text_fault_line maps text ≡ Some c.in-Some.line = sym (ap₂ (λ (s : ℕ) (xs : List ℕ). fault_line (separated s) maps xs text) form.separator form.text) ∙ sym c.in_ok-line.ensures ∙ c.in-Some.is in
+    unfit_import maps c.args.options text c.in-Some.line c.csv_fault.result line (sym (some_fault (separated (separator_in maps text)) maps (from_heading maps text) text) ∙ ap is_some line) c.csv_fault.ensures
+
+pub returns-in-None : goal.returns-in-None
+returns-in-None g c =
+    let maps : List (List ℕ) = given_texts c.args.maps.now in
+    let text : List ℕ = c.args.bytes.now in
+    let form = c.form_of-form.ensures in
+    let line : text_fault_line maps text ≡ None = sym (ap₂ (λ (s : ℕ) (xs : List ℕ). fault_line (separated s) maps xs text) form.separator form.text) ∙ sym c.in_ok-line.ensures ∙ c.in-None.is in
+    c.table_of_text.ensures (sym (some_fault (separated (separator_in maps text)) maps (from_heading maps text) text) ∙ ap is_some line)

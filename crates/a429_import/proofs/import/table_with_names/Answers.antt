@@ -1,6 +1,12 @@
-use Rattle.a429_import.specs.Renamed.{all_renamed}
+use Rattle.std.proofs.Common.{List, Some, subst}
+use Rattle.a429_import.specs.declared.rows.ImportRow.{ImportRow}
+use Rattle.a429_import.specs.Imports.{IsTableOf}
+use Rattle.a429_import.specs.KeptFields.{lines_kept}
+use Rattle.a429_import.specs.NumberRanges.{HaveRanges}
 use Rattle.a429_import.proofs.ChosenNames.{same_ranges}
 use Rattle.a429_import.proofs.import.table_with_names.Goals as goal
 
-pub returns : goal.returns
-returns c = λ ranges. c.table_of_rows.ensures (all_renamed c.args.rows.now) c.in_ok-read.ensures (same_ranges c.args.rows.now c.args.rows.now ranges)
+pub returns-clause-table : goal.returns-clause-table
+returns-clause-table c = λ ranges.
+    let rows : List ImportRow = c.args.known.now.rows.items in
+    subst (λ (rs : List ImportRow). HaveRanges rs → IsTableOf (lines_kept c.args.kept.now) (Some rows) rs c.table_of_rows.result) c.in_ok-renamed.ensures.rows c.table_of_rows.ensures.table (same_ranges rows rows ranges)

@@ -1,13 +1,12 @@
-use Rattle.std.proofs.Common.{◌≡◌, ◌∙◌, ◌||◌, ◌+◌, Bool, List, None, Some, ℕ, ap, ap₂, cond, drop, false, get_or, refl, sym, true}
+use Rattle.std.proofs.Common.{◌≡◌, ◌∙◌, ◌+◌, Bool, List, None, Some, ℕ, ap, ap₂, cond, drop, false, get_or, sym, true}
 use Rattle.csv.specs.Machine.{step}
 use Rattle.csv.specs.declared.parser.Config.{Config}
 use Rattle.csv.specs.declared.parser.State.{State}
 use Rattle.a429_import.specs.FaultLines.{wrong_from}
-use Rattle.a429_import.specs.ImportQuotes.{breaks_quotes, is_misquoted_from}
+use Rattle.a429_import.specs.ImportQuotes.{breaks_quotes}
 use Rattle.a429_import.specs.ImportSteps.{ended_by, ends_field, state_of}
 use Rattle.a429_import.specs.Imports.{separated}
 use Rattle.a429_import.proofs.FaultLines.{drop_cond, wrong_at_end, wrong_passed}
-use Rattle.a429_import.proofs.ImportQuotes.{at_end_of, passed_to}
 use Rattle.a429_import.proofs.quotes.misquoted_place.Goals as goal
 
 pub loop-place-preserved : goal.loop-place-preserved
@@ -15,8 +14,6 @@ loop-place-preserved c =
     let cfg : Config = separated c.args.separator in
     let text : List ℕ = c.args.text.now in
     let at = c.loop-place in
-    let rest : Bool = is_misquoted_from c.args.of_rows cfg (state_of c.pass-next.result.0) (drop (at.place + 1) text) in
-    let passed = passed_to c.args.of_rows cfg (state_of at.part) (state_of c.pass-next.result.0) text at.place (get_or text at.place 0) c.breaks_quotes.result c.loop-place-test.true refl c.pass-next.ensures.part c.breaks_quotes.ensures in
     let s : State = state_of at.part in
     let next : State = state_of c.pass-next.result.0 in
     let byte : ℕ = get_or text at.place 0 in
@@ -28,34 +25,10 @@ loop-place-preserved c =
     let field : wrong_from c.args.of_rows cfg s (drop at.begin text) (drop at.place text) ≡ wrong_from c.args.of_rows cfg (step cfg s byte).0 (cond (ends_field (ended_by (step cfg s byte).1)) later (drop at.begin text)) later =
     wrong_passed c.args.of_rows cfg s (drop at.begin text) text at.place c.loop-place-test.true
     ∙ ap (λ (t : Bool). cond t (Some (drop at.begin text)) (wrong_from c.args.of_rows cfg (step cfg s byte).0 (cond (ends_field (ended_by (step cfg s byte).1)) later (drop at.begin text)) later)) none in
-    record {
-      wrong = ap (λ (b : Bool). b || rest) (sym c.if-breaks_quotes.false) ∙ sym passed ∙ at.invariant.wrong;
-      field = ap₂ (λ (t : State) (f : List ℕ). wrong_from c.args.of_rows cfg t f later) c.pass-next.ensures.part begin ∙ sym field ∙ at.invariant.field;
-    }
+    ap₂ (λ (t : State) (f : List ℕ). wrong_from c.args.of_rows cfg t f later) c.pass-next.ensures.part begin ∙ sym field ∙ at.invariant
 
-pub returns-then-breaks_quotes-clause-wrong : goal.returns-then-breaks_quotes-clause-wrong
-returns-then-breaks_quotes-clause-wrong c =
-    let cfg : Config = separated c.args.separator in
-    let text : List ℕ = c.args.text.now in
-    let at = c.loop-place in
-    let rest : Bool = is_misquoted_from c.args.of_rows cfg (state_of c.pass-next.result.0) (drop (at.place + 1) text) in
-    let passed = passed_to c.args.of_rows cfg (state_of at.part) (state_of c.pass-next.result.0) text at.place (get_or text at.place 0) c.breaks_quotes.result c.loop-place-test.true refl c.pass-next.ensures.part c.breaks_quotes.ensures in
-    ap (λ (b : Bool). b || rest) (sym c.if-breaks_quotes.true) ∙ sym passed ∙ at.invariant.wrong
-
-pub returns-then-is_inside_quotes-clause-wrong : goal.returns-then-is_inside_quotes-clause-wrong
-returns-then-is_inside_quotes-clause-wrong c =
-    let at = c.loop-place in
-    let ended = at_end_of c.args.of_rows (separated c.args.separator) (state_of at.part) c.args.text.now at.place c.loop-place-test.false in
-    sym c.if-is_inside_quotes.true ∙ c.is_inside_quotes.ensures ∙ sym ended ∙ at.invariant.wrong
-
-pub returns-else-is_inside_quotes-clause-wrong : goal.returns-else-is_inside_quotes-clause-wrong
-returns-else-is_inside_quotes-clause-wrong c =
-    let at = c.loop-place in
-    let ended = at_end_of c.args.of_rows (separated c.args.separator) (state_of at.part) c.args.text.now at.place c.loop-place-test.false in
-    sym c.if-is_inside_quotes.false ∙ c.is_inside_quotes.ensures ∙ sym ended ∙ at.invariant.wrong
-
-pub returns-then-breaks_quotes-clause-field : goal.returns-then-breaks_quotes-clause-field
-returns-then-breaks_quotes-clause-field c =
+pub returns-then-breaks_quotes : goal.returns-then-breaks_quotes
+returns-then-breaks_quotes c =
     let cfg : Config = separated c.args.separator in
     let text : List ℕ = c.args.text.now in
     let at = c.loop-place in
@@ -65,18 +38,18 @@ returns-then-breaks_quotes-clause-field c =
     let is : breaks_quotes c.args.of_rows s (step cfg s byte).0 ≡ true = sym (ap (λ (t : State). breaks_quotes c.args.of_rows s t) c.pass-next.ensures.part) ∙ sym c.breaks_quotes.ensures ∙ c.if-breaks_quotes.true in
     sym (wrong_passed c.args.of_rows cfg s (drop at.begin text) text at.place c.loop-place-test.true
     ∙ ap (λ (t : Bool). cond t (Some (drop at.begin text)) (wrong_from c.args.of_rows cfg (step cfg s byte).0 (cond (ends_field (ended_by (step cfg s byte).1)) later (drop at.begin text)) later)) is)
-    ∙ at.invariant.field
+    ∙ at.invariant
 
-pub returns-then-is_inside_quotes-clause-field : goal.returns-then-is_inside_quotes-clause-field
-returns-then-is_inside_quotes-clause-field c =
+pub returns-then-is_inside_quotes : goal.returns-then-is_inside_quotes
+returns-then-is_inside_quotes c =
     let at = c.loop-place in
     let field : List ℕ = drop at.begin c.args.text.now in
     sym (wrong_at_end c.args.of_rows (separated c.args.separator) (state_of at.part) field c.args.text.now at.place c.loop-place-test.false
-    ∙ ap (λ (t : Bool). cond t (Some field) None) (sym c.is_inside_quotes.ensures ∙ c.if-is_inside_quotes.true)) ∙ at.invariant.field
+    ∙ ap (λ (t : Bool). cond t (Some field) None) (sym c.is_inside_quotes.ensures ∙ c.if-is_inside_quotes.true)) ∙ at.invariant
 
-pub returns-else-is_inside_quotes-clause-field : goal.returns-else-is_inside_quotes-clause-field
-returns-else-is_inside_quotes-clause-field c =
+pub returns-else-is_inside_quotes : goal.returns-else-is_inside_quotes
+returns-else-is_inside_quotes c =
     let at = c.loop-place in
     let field : List ℕ = drop at.begin c.args.text.now in
     sym (wrong_at_end c.args.of_rows (separated c.args.separator) (state_of at.part) field c.args.text.now at.place c.loop-place-test.false
-    ∙ ap (λ (t : Bool). cond t (Some field) None) (sym c.is_inside_quotes.ensures ∙ c.if-is_inside_quotes.false)) ∙ at.invariant.field
+    ∙ ap (λ (t : Bool). cond t (Some field) None) (sym c.is_inside_quotes.ensures ∙ c.if-is_inside_quotes.false)) ∙ at.invariant

@@ -1,24 +1,20 @@
-use Rattle.std.proofs.Common.{◌++◌, ◌∷◌, [], rules}
+use Rattle.std.proofs.Common.{◌++◌, ◌∷◌, [], rules, subst, sym}
+use Rattle.std.proofs.lemmas.Result.{on_ok_weaker}
+use Rattle.a429_import.specs.declared.lines.CsvLine.{CsvLine}
 use Rattle.a429_import.specs.declared.reading.LinesRead.{LinesRead}
-use Rattle.a429_import.proofs.ImportReading.{fault_kept, headed_skipped, line_skipped, unfaulted}
+use Rattle.a429_import.specs.ImportReading.{AreRead, SayRows}
+use Rattle.a429_import.proofs.ImportReading.{line_read, line_skipped, unfaulted}
 use Rattle.a429_import.proofs.reading.take_line.Goals as goal
 
-pub returns-else-is_none-clause-read : goal.returns-else-is_none-clause-read
-returns-else-is_none-clause-read c = λ lines known.
+pub returns-then-is_none : goal.returns-then-is_none
+returns-then-is_none c = λ below known.
+    let heading : CsvLine = c.args.heading.now.line in
     let old : LinesRead = c.args.read.now in
-    let new : LinesRead = record { heading = old.heading; rows = old.rows; notes = old.notes; kept = old.kept; fault = old.fault } in
-    line_skipped old.fault old new lines c.args.line.now (search rules) known
+    let new : LinesRead = record { known = c.take_kept-taken.new.known; notes = c.take_kept-taken.new.notes; kept = c.take_kept-taken.new.kept; fault = c.err-read.result } in
+    let there : SayRows heading below old = unfaulted heading old.fault old below c.if-is_none.ensures known in
+    subst (λ f. AreRead f new heading (below ++ c.args.line.now ∷ [])) (sym c.err-read.ensures.value)
+    (line_read heading c.args.line.now old new below c.take_kept-taken.result there (c.take_kept-taken.ensures.taken below there.are)
+    (on_ok_weaker c.take_kept-taken.result (λ keeps. keeps below there.kept) c.take_kept-taken.ensures.kept))
 
-pub returns-else-is_none-clause-heading : goal.returns-else-is_none-clause-heading
-returns-else-is_none-clause-heading c = λ lines known headed. headed_skipped c.args.read.now.fault c.args.read.now c.args.read.now.heading lines c.args.line.now (search rules) known headed
-
-pub next_line-requires : goal.next_line-requires
-next_line-requires c = (c.requires.0, unfaulted c.args.read.now.fault c.args.read.now c.requires.0 c.if-is_none.ensures c.requires.1)
-
-pub returns-in_ok-fault-clause-read : goal.returns-in_ok-fault-clause-read
-returns-in_ok-fault-clause-read c = λ lines known.
-    fault_kept c.in_ok-fault.fault c.next_line.new.read (lines ++ c.args.line.now ∷ [])
-    (c.in_ok-fault.ensures.read lines (unfaulted c.args.read.now.fault c.args.read.now lines c.if-is_none.ensures known))
-
-pub returns-in_ok-fault-clause-heading : goal.returns-in_ok-fault-clause-heading
-returns-in_ok-fault-clause-heading c = λ lines known headed. c.in_ok-fault.ensures.heading lines headed
+pub returns-else-is_none : goal.returns-else-is_none
+returns-else-is_none c = λ below known. line_skipped c.args.heading.now.line c.args.line.now c.args.read.now.fault c.args.read.now c.args.read.now below (search rules) known

@@ -1,8 +1,8 @@
 use Rattle.std.proofs.Common.{◌≡◌, ◌∙◌, ◌++◌, List, ℕ, ap, arith, false, refl, sym, true}
 use Rattle.a429_import.specs.MadeNames.{numbered_name}
-use Rattle.a429_import.specs.Names.{names_of}
 use Rattle.a429_import.specs.Renamed.{is_taken, long_name}
 use Rattle.a429_import.proofs.ChosenNames.{free_end, free_here, free_step, not_false, not_true}
+use Rattle.a429_import.specs.RenamedReading.{texts_of}
 use Rattle.a429_import.proofs.renamed.long_name.Goals as goal
 
 pub loop-number-init : goal.loop-number-init
@@ -11,7 +11,7 @@ loop-number-init c = refl
 
 pub loop-number-preserved : goal.loop-number-preserved
 loop-number-preserved c =
-    let taken : List (List ℕ) = names_of c.args.names.now ++ names_of c.args.others.now in
+    let taken : List (List ℕ) = texts_of c.args.names.now ++ texts_of c.args.others.now in
     let named = c.deref.ensures.value ∙ c.in_ok-name.ensures in
     let is : is_taken taken (numbered_name c.args.base.now c.args.end.now c.loop-number.number) ≡ true =
     ap (is_taken taken) (sym named) ∙ not_false (is_taken taken c.deref.result.now) (sym c.is_free.ensures ∙ c.if-is_free.false) in
@@ -19,7 +19,7 @@ loop-number-preserved c =
 
 pub returns-then-is_free : goal.returns-then-is_free
 returns-then-is_free c =
-    let taken : List (List ℕ) = names_of c.args.names.now ++ names_of c.args.others.now in
+    let taken : List (List ℕ) = texts_of c.args.names.now ++ texts_of c.args.others.now in
     let named = c.deref.ensures.value ∙ c.in_ok-name.ensures in
     let is : is_taken taken (numbered_name c.args.base.now c.args.end.now c.loop-number.number) ≡ false =
     ap (is_taken taken) (sym named) ∙ not_true (is_taken taken c.deref.result.now) (sym c.is_free.ensures ∙ c.if-is_free.true) in
@@ -27,5 +27,5 @@ returns-then-is_free c =
 
 pub returns : goal.returns
 returns c =
-    let taken : List (List ℕ) = names_of c.args.names.now ++ names_of c.args.others.now in
+    let taken : List (List ℕ) = texts_of c.args.names.now ++ texts_of c.args.others.now in
     c.new.ensures.items ∙ free_end taken c.args.base.now c.args.end.now 1000 c.loop-number.number (omega arith) ∙ c.loop-number.invariant

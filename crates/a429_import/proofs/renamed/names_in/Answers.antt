@@ -1,44 +1,28 @@
-use Rattle.std.proofs.Common.{◌≤◌, ◌∙◌, [], List, ℕ, ap, arith, length, sym}
-use Rattle.std.proofs.lemmas.List.{drop_all}
+use Rattle.std.proofs.Common.{◌∙◌, ◌++◌, ◌∷◌, [], List, ℕ, ap, ap₂, arith, sym}
+use Rattle.std.proofs.lemmas.List.{map-append}
 use Rattle.a429_import.specs.declared.rows.ImportRow.{ImportRow}
 use Rattle.a429_import.specs.ImportTables.{firsts}
-use Rattle.a429_import.specs.Names.{names_of}
-use Rattle.a429_import.specs.Renamed.{names_after, names_in}
-use Rattle.a429_import.proofs.Knowing.{first_is, first_within}
-use Rattle.a429_import.proofs.ChosenNames.{firsts_count, names_more}
+use Rattle.a429_import.specs.Renamed.{chosen, names_after, names_in}
+use Rattle.a429_import.specs.RenamedReading.{texts_of}
+use Rattle.a429_import.proofs.ChosenNames.{names_more, no_more}
 use Rattle.a429_import.proofs.renamed.names_in.Goals as goal
 
 pub loop-place-init : goal.loop-place-init
-loop-place-init c = record {
-  texts = ap (λ (xs : List (List ℕ)). names_after (names_of c.in_ok-plains.plains) c.args.part xs (firsts c.args.part c.args.rows.now)) c.in_ok-names.ensures.1;
-  are = c.in_ok-names.ensures.0;
-}
-
-pub offset_bounds-rows-first_at : goal.offset_bounds-rows-first_at
-offset_bounds-rows-first_at c =
-    let within = first_within c.args.part c.args.named.now c.args.rows.now c.loop-place.place c.first_at.result c.requires (omega arith) c.first_at.ensures in
-    omega (arith, within)
-
-pub bounds-rows-first_at : goal.bounds-rows-first_at
-bounds-rows-first_at c = first_within c.args.part c.args.named.now c.args.rows.now c.loop-place.place c.first_at.result c.requires (omega arith) c.first_at.ensures
+loop-place-init c = ap (λ ns. names_after (texts_of c.in_ok-plains.plains.items) c.args.part (texts_of ns) (firsts c.args.part c.args.known.now.rows.items)) c.new-names.ensures.items
 
 pub loop-place-preserved : goal.loop-place-preserved
 loop-place-preserved c =
-    let rows : List ImportRow = c.args.rows.now in
-    let row : ImportRow = c.index-rows-first_at.result in
-    let plains : List (List ℕ) = names_of c.in_ok-plains.plains in
-    let first = first_is c.args.part c.args.named.now rows c.loop-place.place c.first_at.result row c.requires (omega arith) c.first_at.ensures c.index-rows-first_at.is in
-    record {
-      texts = names_more plains c.args.part (firsts c.args.part rows) c.loop-place.place row (names_of c.loop-place.names) (names_of c.push_chosen.new.names) _ first c.loop-place.invariant.texts c.in_ok-push_chosen.ensures.texts;
-      are = c.in_ok-push_chosen.ensures.are;
-    }
+    let plains : List (List ℕ) = texts_of c.in_ok-plains.plains.items in
+    let old = c.loop-place.names.items in
+    names_more plains c.args.part (firsts c.args.part c.args.known.now.rows.items) c.loop-place.place c.first_row.result.now (texts_of old) (texts_of c.push.new.self.items) _ c.first_row.ensures c.loop-place.invariant
+    (ap texts_of c.in_ok-push.ensures.items ∙ map-append (λ name. name.items) old _ ∙ ap (λ name. texts_of old ++ name ∷ [])
+    (c.in_ok-name.ensures ∙ ap₂ (λ ps ns. chosen (texts_of ps) (texts_of ns) c.args.part c.first_row.result.now) c.deref.ensures.value c.deref-in-loop-place.ensures.value))
 
-pub returns-clause-texts : goal.returns-clause-texts
+pub returns : goal.returns
 unfolding names_in
-returns-clause-texts c =
-    let fs : List ImportRow = firsts c.args.part c.args.rows.now in
-    let plains : List (List ℕ) = names_of c.in_ok-plains.plains in
-    let count = firsts_count c.args.part c.args.named.now c.args.rows.now c.requires in
-    let past : length fs ≤ c.loop-place.place = omega (arith, count) in
-    sym (ap (λ (rs : List ImportRow). names_after plains c.args.part (names_of c.loop-place.names) rs) (drop_all c.loop-place.place fs past)) ∙ c.loop-place.invariant.texts
-    ∙ ap (λ (ps : List (List ℕ)). names_after ps c.args.part [] fs) c.in_ok-plains.ensures.texts
+returns c =
+    let rows : List ImportRow = c.args.known.now.rows.items in
+    let plains : List (List ℕ) = texts_of c.in_ok-plains.plains.items in
+    let none = no_more c.args.part c.args.known.now c.loop-place.place c.requires (omega (arith, c.count-place-end.ensures, c.loop-place-test.false)) in
+    sym (ap (λ (rs : List ImportRow). names_after plains c.args.part (texts_of c.loop-place.names.items) rs) none) ∙ c.loop-place.invariant
+    ∙ ap (λ (ps : List (List ℕ)). names_after ps c.args.part [] (firsts c.args.part rows)) c.in_ok-plains.ensures

@@ -1,11 +1,8 @@
 use Rattle.std.proofs.Common.{◌≡◌, ◌++◌, drop, map}
 use Rattle.a429_import.specs.ImportTables.{firsts}
-use Rattle.a429_import.specs.Names.{IsIndexed, names_of}
 use Rattle.a429_import.specs.Renamed.{plain_of, plains_of}
+use Rattle.a429_import.specs.RenamedReading.{texts_of}
 use Rattle.a429_import.proofs.renamed.plains_of.Given as goal
 
 abbrev pub invariant-loop-place : goal.invariant-loop-place
-invariant-loop-place l = record {
-  texts : names_of l.plains ++ map (plain_of l.part) (drop l.place (firsts l.part l.rows)) ≡ plains_of l.part l.rows;
-  are : IsIndexed l.plains;
-}
+invariant-loop-place l = texts_of l.plains.items ++ map (plain_of l.part) (drop l.place (firsts l.part l.known.rows.items)) ≡ plains_of l.part l.known.rows.items

@@ -10,6 +10,6 @@ use Rattle.a429_import.proofs.tables.put_tables.Given as goal
 
 abbrev pub invariant-loop-place : goal.invariant-loop-place
 invariant-loop-place l =
-    (done : List (List ℕ × Data)) × IsWithTables (string_bytes l.initial.shown) (string_bytes l.shown) l.named.key.now done
-    × (done ++ map (piece_of (lines_kept l.comments.kept.now) (rows_before l.comments.made_of) l.named.part l.named.rows.now) (filter (is_placed l.named.part) (drop l.place (enumerate_from 0 (firsts l.named.part l.named.rows.now))))
-    ≡ pieces (lines_kept l.comments.kept.now) (rows_before l.comments.made_of) l.named.part l.named.rows.now)
+    (done : List (List ℕ × Data)) × IsWithTables (string_bytes l.initial.shown) (string_bytes l.shown) l.key done
+    × (done ++ map (piece_of (lines_kept l.comments.kept.now) (rows_before l.comments.made_of) l.part l.known.rows.items) (filter (is_placed l.part) (drop l.place (enumerate_from 0 (firsts l.part l.known.rows.items))))
+    ≡ pieces (lines_kept l.comments.kept.now) (rows_before l.comments.made_of) l.part l.known.rows.items)

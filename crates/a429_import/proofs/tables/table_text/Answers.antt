@@ -5,7 +5,6 @@ use Rattle.a429_import.proofs.tables.table_text.Goals as goal
 
 pub returns : goal.returns
 returns c =
-    let rows = c.args.rows.now in
     let (head, first_is, printed) = c.in_ok-put_document.ensures in
     let (groups, then, g) = c.in_ok-put_tables.ensures in
     let (receivers, later, r) = c.in_ok-put_tables-2.ensures in
@@ -17,7 +16,7 @@ returns c =
       sources = sources;
       whole = pieces_whole (string_bytes c.new-shown.result) (string_bytes c.put_document.new.shown) (string_bytes c.put_tables.new.shown) (string_bytes c.put_tables-2.new.shown) (string_bytes c.put_tables-3.new.shown)
           head groups receivers sources c.new-shown.ensures.bytes first_is then later last;
-      pairs = subst (λ ms. IsDocumentText false ms head) (c.in_ok-head.ensures rows c.requires.known) printed;
+      pairs = subst (λ ms. IsDocumentText false ms head) c.in_ok-head.ensures printed;
       groups_are = g;
       receivers_are = r;
       sources_are = s;

@@ -16,11 +16,11 @@ returns-then-counts c =
     let said : (has_label heading line && is_word (kept_in heading (fields_of line.fields))) ≡ true = ap (λ (t : List ℕ). has_label heading line && is_word t) (sym text) ∙ sym c.counts.ensures ∙ c.if-counts.true in
     on_ok_weaker c.take.result
     (λ taken below known. row_taken heading c.args.self.now c.take.new.self below line said
-    (subst₂ (λ (source t : List ℕ). TakesText c.args.self.now c.take.new.self source t) c.field_of.ensures (c.deref-then-counts.ensures.value ∙ c.in_ok-text.ensures) taken) known)
+    (subst₂ (λ (source t : List ℕ). TakesText c.args.self.now c.take.new.self source t) c.field_of.ensures c.in_ok-text.ensures taken) known)
     c.take.ensures
 
-pub returns : goal.returns
-returns c = λ below known.
+pub returns-else-counts : goal.returns-else-counts
+returns-else-counts c = λ below known.
     let heading : List (List ℕ) = fields_of c.args.heading.now.line.fields in
     let line = c.args.line.now in
     let text : c.deref.result.now ≡ kept_in heading (fields_of line.fields) = c.deref.ensures.value ∙ c.in_ok-text.ensures in

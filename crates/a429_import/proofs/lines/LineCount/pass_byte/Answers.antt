@@ -3,8 +3,7 @@ use Rattle.std.proofs.Common.{◌≡◌, ◌∙◌, ◌+◌, ◌<◌, ◌≤◌,
 use Rattle.a429_import.specs.LineCounts.{after_return}
 use Rattle.a429_import.specs.RowLines.{ends_from, ends_here}
 use Rattle.a429_import.proofs.ImportForms.{one_or_none}
-use Rattle.a429_import.proofs.NameChains.{one_is}
-use Rattle.a429_import.proofs.RowLines.{after_more, ends_more}
+use Rattle.a429_import.proofs.RowLines.{after_more, ends_more, one_is}
 use Rattle.a429_import.proofs.lines.LineCount.pass_byte.Goals as goal
 
 pub returns-clause-counted : goal.returns-clause-counted
