@@ -17,10 +17,10 @@ returns-then-is_live g c =
       ends = done.ends;
     }))
 
-pub returns : goal.returns
-returns g c =
+pub returns-else-is_live : goal.returns-else-is_live
+returns-else-is_live g c =
     let asked : texts_of c.deref.result.now ≡ map string_bytes c.args.words.now = ap texts_of c.deref.ensures.value ∙ c.in-Ok.ensures in
-    let words : texts_of c.deref-2.result.now ≡ map string_bytes c.args.words.now = ap texts_of c.deref-2.ensures.value ∙ c.in-Ok.ensures in
+    let words : texts_of c.deref-else-is_live.result.now ≡ map string_bytes c.args.words.now = ap texts_of c.deref-else-is_live.ensures.value ∙ c.in-Ok.ensures in
     let other : is_live (map string_bytes c.args.words.now) ≡ false = ap is_live (sym asked) ∙ (sym c.is_live.ensures ∙ c.if-is_live.false) in
     let done = c.command.ensures in
     inl (rw (other, sym words) (record {

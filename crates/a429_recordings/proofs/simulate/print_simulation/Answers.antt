@@ -1,3 +1,4 @@
+use Rattle.std.proofs.Common.{sym}
 use Rattle.std.proofs.lemmas.Result.{IfOk-weaker}
 use Rattle.a429_recordings.specs.SimulationReplies.{IsSummary}
 use Rattle.a429_recordings.proofs.SimulationPrinted.{reply_or_memory}
