@@ -1,6 +1,6 @@
 //! How far a run is, shown while it works.
 ghost use Rattle.a429_word.specs.Written.{Gains};
-ghost use Rattle.a429_live.specs.ProgressLines.{progress_line};
+ghost use Rattle.a429_live.specs.ProgressLines.{counts_text, progress_line};
 
 use a429_console::terminal::{TerminalLine, push_rest};
 use a429_slots::{OUTPUTS, Plan};
@@ -55,14 +55,22 @@ pub struct ProgressLine<'a, C, W> {
     words: AtomicU64,
 }
 
-/// Appends the line's text. Error: an allocation fails.
-fn push_line(text: &mut Vec<u8>, cells: u64, all: u64, words: u64, spent: u32) -> io::Result<()>
-    ensures { Gains result text.old.items text.new.items (progress_line cells all words spent) }
+/// Appends how many cells were sent, of how many, and how many words were accepted. Error: an allocation fails.
+#[tactic(auto, unfolding(crate::specs::ProgressLines::counts_text))]
+fn push_counts(text: &mut Vec<u8>, cells: u64, all: u64, words: u64) -> io::Result<()>
+    ensures { Gains result text.old.items text.new.items (counts_text cells all words) }
 {
     write!(
         text,
         "cells sent {cells} of {all}, words accepted {words}, "
-    )?;
+    )
+}
+
+/// Appends the line's text. Error: an allocation fails.
+fn push_line(text: &mut Vec<u8>, cells: u64, all: u64, words: u64, spent: u32) -> io::Result<()>
+    ensures { Gains result text.old.items text.new.items (progress_line cells all words spent) }
+{
+    push_counts(text, cells, all, words)?;
     push_rest(text, cells.min(all), all, spent)
 }
 
