@@ -8,11 +8,12 @@ use Rattle.std.proofs.Math.Nat.{mod-eq_of_lt}
 use Rattle.std.proofs.lemmas.Bool.Decides.{nat_tests}
 use Rattle.std.proofs.lemmas.Slice.Eq.{bytes_eq-Decides}
 use Rattle.a429_word.proofs.Lists.{false_unless, all_push}
+use Rattle.a429_equipment.specs.SameStation.{same_number}
 use Rattle.a429_cert.specs.declared.due.DueGroup.{DueGroup}
 use Rattle.a429_cert.specs.Spelling.{Heading, Listing, Bounding, when, says_more, group_text, output_text, bound_text, FitsHeading, FitsListing, FitsBounding}
 use Rattle.a429_cert.specs.Reading.{output_line}
 use Rattle.a429_cert.specs.Lines.{lines_of, line_at}
-use Rattle.a429_cert.specs.Faults.{group_fault, output_fault, hold_of, says_other_rate, same_limit, says_other_hold, frame, is_listed, shares, has_bad_place, output_faults, first_no, group_faults, bound_fault, bound_holds, demand, buses_of}
+use Rattle.a429_cert.specs.Faults.{group_fault, output_fault, hold_of, says_other_rate, says_other_hold, frame, is_listed, shares, has_bad_place, output_faults, first_no, group_faults, bound_fault, bound_holds, demand, buses_of}
 use Rattle.a429_cert.specs.Checked.{Stated, CellsAreApart, EachPair}
 use Rattle.a429_cert.proofs.DuePlans.{IsCheckedAsDue, IsPlacedAsDue}
 use Rattle.a429_cert.proofs.LineLaws.{group_again, output_again, bound_again}
@@ -35,7 +36,7 @@ passes_rate : (t : Bool) (rate : ℕ) → says_other_rate (when t rate) rate ≡
 passes_rate true rate = rw (eq-eqb rate rate refl) refl
 passes_rate false rate = refl
 
-same_limits : (l : Option ℕ) → same_limit l l ≡ true
+same_limits : (l : Option ℕ) → same_number l l ≡ true
 same_limits None = refl
 same_limits (Some n) = eq-eqb n n refl
 

@@ -9,13 +9,14 @@ use Rattle.std.proofs.lemmas.Slice.Eq.{bytes_eq-Decides}
 use Rattle.std.proofs.lemmas.List.{length-append}
 use Rattle.std.proofs.Math.Nat.{mul_assoc, mul-add-mod_self_left}
 use Rattle.a429_word.proofs.Lists.{all_push, not_false}
+use Rattle.a429_equipment.specs.SameStation.{same_number}
 use Rattle.a429_cert.specs.declared.verdicts.Reason.{Reason}
 use Rattle.a429_cert.specs.declared.due.DueTable.{DueTable}
 use Rattle.a429_cert.specs.declared.due.DueGroup.{DueGroup}
 use Rattle.a429_cert.specs.Spelling.{Heading, Listing, Bounding, says_more, said_in}
 use Rattle.a429_cert.specs.Reading.{group_line, output_line, bound_line}
 use Rattle.a429_cert.specs.Lines.{line_at, lines_of, lines_of_groups}
-use Rattle.a429_cert.specs.Faults.{first_reason, of_form, group_fault, output_fault, output_faults, bound_fault, bound_holds, group_faults, groups_faults, end_fault, faults, plan_fault, rate_fault, rate_faults, first_no, frame, demand, period_of, hold_of, says_other_rate, same_limit, says_other_hold, is_listed, shares, has_bad_place, buses_of}
+use Rattle.a429_cert.specs.Faults.{first_reason, of_form, group_fault, output_fault, output_faults, bound_fault, bound_holds, group_faults, groups_faults, end_fault, faults, plan_fault, rate_fault, rate_faults, first_no, frame, demand, period_of, hold_of, says_other_rate, says_other_hold, is_listed, shares, has_bad_place, buses_of}
 use Rattle.a429_cert.specs.Checked.{Stated, Fills, CellsAreApart, EachPair}
 use Rattle.a429_cert.proofs.DuePlans.{IsPlacedAsDue, PeriodsNest, StatesAsDue, StateAsDue}
 use Rattle.a429_cert.proofs.LineLaws.{group_takes, output_takes}
@@ -80,7 +81,7 @@ rate_same : (version : ℕ) (said : Option ℕ) (rate : ℕ) → is_some said �
 rate_same version None rate there h = let no : eqb version 2 ≡ false = sym there in rw no refl
 rate_same version (Some r) rate there h = let yes : eqb version 2 ≡ true = sym there in rw yes (ap (λ (n : ℕ). Some n) (eqb-true r rate (not_false _ h)))
 
-limit_same : (m n : Option ℕ) → same_limit m n ≡ true → m ≡ n
+limit_same : (m n : Option ℕ) → same_number m n ≡ true → m ≡ n
 limit_same None None h = refl
 limit_same None (Some n) h = absurd cc
 limit_same (Some m) None h = absurd cc

@@ -2,6 +2,7 @@
 use Rattle.std.specs.Prelude.{◌≡◌, ℕ, zero, suc, ◌+◌, ◌-◌, ◌*◌, ◌/◌, ◌%◌, ◌^◌, ◌<◌, min, max, List, [], ◌∷◌, ◌++◌, take, drop, length, Option, Some, None, option_map, option_and_then, unwrap_or, is_none, Bool, true, false, not, ◌==◌, ◌&&◌, ◌||◌, nat_lt, nat_le, if◌then◌else◌, find, fold, position, Result, Ok, Err, MatchResult}
 use Rattle.std.specs.List.{list_any, sum_by, filter_map, All}
 use Rattle.std.specs.Str.{bytes_eq}
+use Rattle.a429_equipment.specs.SameStation.{same_number}
 use Rattle.a429_equipment.specs.Sound.{HaveOwn}
 use Rattle.a429_cert.specs.declared.verdicts.Reason.{Reason}
 use Rattle.a429_cert.specs.declared.verdicts.Reason.TheVariants as reasons
@@ -101,16 +102,10 @@ differ_by_class l e = (l.period % 16 == 0) && (e.period % 16 == 0) && not (l.off
 abbrev pub has_bad_place : ℕ → Listing → Bool
 has_bad_place buses l = nat_le buses l.bus || nat_le l.period l.offset
 
--- both are none, or the same number
-abbrev pub same_limit : Option ℕ → Option ℕ → Bool
-same_limit None None = true
-same_limit (Some m) (Some n) = m == n
-same_limit _ _ = false
-
 -- a hold is said, and it is not this one
 abbrev pub says_other_hold : Option (Option ℕ) → Option ℕ → Bool
 says_other_hold None hold = false
-says_other_hold (Some said) hold = not (same_limit said hold)
+says_other_hold (Some said) hold = not (same_number said hold)
 
 unfoldable pub output_fault : ℕ → DueGroup → ℕ → List Listing → List ℕ → Option Reason
 output_fault version g buses earlier line = of_form (output_line version line) (λ said.

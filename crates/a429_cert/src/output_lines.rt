@@ -5,7 +5,7 @@ ghost use Rattle.std.specs.List.{list_any};
 ghost use Rattle.a429_cert.specs.Views.{listing};
 ghost use Rattle.a429_cert.specs.Lines.{lines_of};
 ghost use Rattle.a429_cert.specs.Earlier.{AreNoted, IsNextLine};
-ghost use Rattle.a429_cert.specs.Faults.{shares, differ_by_class, same_limit, says_other_hold, output_fault, IsModest, EndsCheckBy, GivesReason, all_output_faults, first_no};
+ghost use Rattle.a429_cert.specs.Faults.{shares, differ_by_class, says_other_hold, output_fault, IsModest, EndsCheckBy, GivesReason, all_output_faults, first_no};
 
 use crate::due::DueGroup;
 use crate::earlier::Earlier;
@@ -14,6 +14,7 @@ use crate::line::{OutputLine, output_line};
 use crate::lines::Lines;
 use crate::stops::{CheckStop, Fault};
 use crate::verdicts::Reason;
+use a429_equipment::same_number;
 use std::alloc::Global;
 
 /// Whether two outputs share no cell because their periods are multiples of 16 and their offsets differ modulo 16. This is
@@ -49,22 +50,11 @@ fn first_sharing(line: &OutputLine<'_>, earlier: &[OutputLine<'_>]) -> Option<us
     earlier.iter().position(|other| shares(line, other))
 }
 
-/// Whether two limits are both none, or the same number.
-fn same_limit(first: Option<u64>, second: Option<u64>) -> bool
-    ensures { result ≡ same_limit first second }
-{
-    match (first, second) {
-        (None, None) => true,
-        (Some(first), Some(second)) => first == second,
-        _ => false,
-    }
-}
-
 /// Whether a line says another hold than this.
 fn says_other_hold(said: Option<Option<u64>>, hold: Option<u64>) -> bool
     ensures { result ≡ says_other_hold said hold }
 {
-    said.is_some_and(|said| !same_limit(said, hold))
+    said.is_some_and(|said| !same_number(said, hold))
 }
 
 /// What the line of an output says, with the output's place in table order.

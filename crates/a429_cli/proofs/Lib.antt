@@ -9,5 +9,4 @@ pub mod LiveAnswers
 pub mod DataBits
 pub mod BnrData
 pub mod BcdData
-pub mod HexData
 pub mod HexRead

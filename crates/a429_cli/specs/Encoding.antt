@@ -4,7 +4,7 @@ use Rattle.std.specs.List.{list_all}
 use Rattle.std.specs.Char.{is_ascii_digit}
 use Rattle.a429_word.specs.Bits.{label_of, sdi_of, ssm_of, data_of, number_from, bnr_of, bcd_of, has_odd_parity}
 use Rattle.a429_word.specs.Texts.{label_value}
-use Rattle.a429_word.specs.Hexadecimal.{hex, hex_onto, raw_word}
+use Rattle.a429_word.specs.Hexadecimal.{hex, hex_number, raw_word}
 use Rattle.a429_word.specs.Decimal.{decimal_number}
 use Rattle.a429_arguments.specs.Given.{Given, number_given, text_given}
 use Rattle.a429_arguments.specs.declared.options.OptionName.TheVariants as option
@@ -16,10 +16,6 @@ use Rattle.a429_console.specs.declared.refusals.CommandRefusal.{CommandRefusal}
 use Rattle.a429_console.specs.declared.refusals.CommandRefusal.TheVariants as refused
 
 -- ---- what the texts of data state
-
--- the number of one to five hexadecimal digits, in either case
-abbrev pub hex_number : List ℕ → Option ℕ
-hex_number text = if nat_le 1 (length text) && nat_le (length text) 5 then hex_onto 0 text else None
 
 -- a whole number: a number, with a minus before it or none
 abbrev pub whole_number : List ℕ → Option ℤ

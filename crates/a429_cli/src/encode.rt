@@ -1,6 +1,6 @@
 //! The command `encode`.
 ghost use Rattle.std.specs.Prelude.{◌≡◌, ◌<◌, ◌≤◌, ◌-◌, ◌%◌, ◌^◌, ◌++◌, ◌∷◌, [], IfOk, MatchOption};
-ghost use Rattle.a429_cli.specs.Encoding.{GivesData, HasBcd, HasBnr, HasData, HasFields, HasHex, IsEncoded, IsNoBcd, IsNoBnr, IsNoHex, IsNotEncoded, NoWordHasData, NoWordHasFields, fields_of, given_sdi, given_ssm, hex_number, in_place};
+ghost use Rattle.a429_cli.specs.Encoding.{GivesData, HasBcd, HasBnr, HasData, HasFields, HasHex, IsEncoded, IsNoBcd, IsNoBnr, IsNoHex, IsNotEncoded, NoWordHasData, NoWordHasFields, fields_of, given_sdi, given_ssm, in_place};
 ghost use Rattle.a429_word.specs.Hexadecimal.{hex};
 ghost use Rattle.a429_console.specs.WholeReplies.{Replies};
 ghost use Rattle.a429_cli.specs.WordRows.{told_word};
@@ -12,7 +12,7 @@ use a429_console::refusals::{CommandRefusal, Refused};
 use a429_console::reply::Reply;
 use a429_text::SheetForm;
 use a429_text::from_end::push_hex;
-use a429_word::{Label, Sdi, Ssm, Word, decimal_number, raw_word};
+use a429_word::{Label, Sdi, Ssm, Word, decimal_number, hex_number};
 use std::alloc::{AllocError, Global};
 
 /// What is given of the fields of a word that is made. The data are given in one of three ways.
@@ -50,19 +50,6 @@ impl<'a> FieldOptions<'a> {
             bcd: asked.text(OptionName::Bcd),
         }
     }
-}
-
-/// The number of one to five hexadecimal digits, in either case.
-fn hex_number(text: &[u8]) -> Option<u32>
-    ensures { result ≡ hex_number text.now }
-{
-    if text.is_empty() || text.len() > 5 {
-        return None;
-    }
-    let mut digits = [b'0'; 8];
-    let start = digits.len() - text.len();
-    digits[start..].copy_from_slice(text);
-    raw_word(&digits)
 }
 
 /// Data of one to five hexadecimal digits, below 2^19.

@@ -12,13 +12,13 @@ use Rattle.a429_word.proofs.Lists.{clash, none_passes}
 use Rattle.a429_word.specs.Texts.{octal}
 use Rattle.a429_equipment.specs.SameStation.{all_agree, same_filters, same_group, same_receiver, same_sdi, same_source, same_station}
 use Rattle.a429_equipment.specs.Sound.{HaveOwn, IsSound}
-use Rattle.a429_equipment.specs.TableRecord.{TableRecord}
+use Rattle.a429_equipment.specs.TableRecord.{TableRecord, receiver_name}
 use Rattle.a429_equipment.specs.declared.rows.GroupRow.{GroupRow}
 use Rattle.a429_equipment.specs.declared.rows.ReceiverRow.{ReceiverRow}
 use Rattle.a429_equipment.specs.declared.rows.SourceRow.{SourceRow}
 use Rattle.a429_equipment.proofs.Stations.{same_station_is}
 use Rattle.a429_text.specs.Fields.{Field}
-use Rattle.a429_documents.specs.Document.{receiver_name, sdi_text}
+use Rattle.a429_documents.specs.Document.{sdi_text}
 use Rattle.a429_documents.specs.Diff.{Subject, change_row, change_rows, filter_change, filter_count, group_rows, item_named, list_rows, lists_rows, lone_rows, no_change, number_named, number_text, of_both, of_group, of_name, receiver_rows, source_change, sources_rows, value_change, with_label, with_receiver}
 use Rattle.a429_documents.proofs.Losses.{found_or_not}
 use Rattle.a429_documents.proofs.NoRows.{none_both, none_if, none_row, of_none, value_none}

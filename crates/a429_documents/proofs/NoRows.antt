@@ -8,7 +8,8 @@ use Rattle.std.proofs.lemmas.List.FromFn.{length-range_with_len}
 use Rattle.std.proofs.lemmas.Option.{none-some, same_Some, slice_get_within}
 use Rattle.a429_word.proofs.Lists.{and_false, clash, not_false}
 use Rattle.a429_text.specs.Fields.{Field}
-use Rattle.a429_documents.specs.Diff.{Subject, change_row, change_rows, comma_after, compared_change, each_of, has_moved, number_text, same_number, value_change, with_change, with_number}
+use Rattle.a429_equipment.specs.SameStation.{same_number}
+use Rattle.a429_documents.specs.Diff.{Subject, change_row, change_rows, comma_after, compared_change, each_of, has_moved, number_text, value_change, with_change, with_number}
 use Rattle.a429_documents.specs.declared.diff.sides.Compared.{Compared}
 
 -- ---- parts

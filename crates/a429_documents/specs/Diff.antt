@@ -7,8 +7,8 @@ use Rattle.std.specs.Str.{bytes_eq}
 use Rattle.a429_filter.specs.declared.filters.Filter.{Filter}
 use Rattle.a429_word.specs.Texts.{octal}
 use Rattle.a429_text.specs.Fields.{Field, Text, Number, Absent}
-use Rattle.a429_equipment.specs.SameStation.{same_filters, same_sdi, same_station}
-use Rattle.a429_equipment.specs.TableRecord.{TableRecord, outputs_in}
+use Rattle.a429_equipment.specs.SameStation.{same_filters, same_number, same_sdi, same_station}
+use Rattle.a429_equipment.specs.TableRecord.{TableRecord, outputs_in, receiver_name}
 use Rattle.a429_equipment.specs.declared.rows.GroupRow.{GroupRow}
 use Rattle.a429_equipment.specs.declared.rows.OutputRow.{OutputRow}
 use Rattle.a429_equipment.specs.declared.rows.ReceiverRow.{ReceiverRow}
@@ -18,7 +18,7 @@ use Rattle.a429_slots.specs.Proposed.{Proposed}
 use Rattle.a429_slots.specs.Tables.{Placed, SlotTable, buses_of, frame_of, groups_of, no_table, outputs_of, placed_at}
 use Rattle.a429_slots.specs.Times.{slots_us}
 use Rattle.a429_cert.specs.PlanText.{source_name}
-use Rattle.a429_documents.specs.Document.{receiver_name, sdi_text}
+use Rattle.a429_documents.specs.Document.{sdi_text}
 use Rattle.a429_documents.specs.declared.diff.sides.Compared.{Compared}
 
 abbrev pub diff_columns : List (List ℕ)
@@ -84,11 +84,6 @@ number_text (Some number) = decimal number
 
 abbrev pub count_change : List ℕ → Option ℕ → Option ℕ → List ℕ
 count_change name first second = value_change name (number_text first) (number_text second)
-
-abbrev pub same_number : Option ℕ → Option ℕ → Bool
-same_number None None = true
-same_number (Some a) (Some b) = a == b
-same_number _ _ = false
 
 -- a text and a number, if it differs, or one side does not have it
 abbrev pub with_number : List ℕ → Option ℕ → Option ℕ → List ℕ → List ℕ

@@ -1,10 +1,9 @@
 -- The interface control document of a plan: the names of its columns, and a row for each output (profile: docs/FORMATS.md, Output of `icd`).
-use Rattle.std.specs.Prelude.{ℕ, ◌^◌, ◌==◌, Bool, true, false, List, [], ◌∷◌, ◌++◌, Option, None, Some, codes, if◌then◌else◌, slice_get}
-use Rattle.std.specs.Option.{option_map_or}
+use Rattle.std.specs.Prelude.{ℕ, ◌^◌, ◌==◌, Bool, true, false, List, [], ◌∷◌, ◌++◌, Option, None, Some, codes, if◌then◌else◌}
 use Rattle.a429_text.specs.Fields.{Field, Text, Number, Absent}
 use Rattle.a429_text.specs.Texts.{formula}
 use Rattle.a429_word.specs.Texts.{octal}
-use Rattle.a429_equipment.specs.TableRecord.{TableRecord}
+use Rattle.a429_equipment.specs.TableRecord.{TableRecord, receiver_name}
 use Rattle.a429_equipment.specs.declared.rows.GroupRow.{GroupRow}
 use Rattle.a429_equipment.specs.declared.rows.OutputRow.{OutputRow}
 use Rattle.a429_equipment.specs.declared.rows.ReceiverRow.{ReceiverRow}
@@ -38,10 +37,6 @@ abbrev pub icd_columns : List (List ℕ)
 icd_columns = sent_columns ++ (place_columns ++ (limit_columns ++ latency_columns))
 
 -- ---- the row of an output
-
--- the name of a receiver; empty if there is no such receiver
-abbrev pub receiver_name : List ReceiverRow → ℕ → List ℕ
-receiver_name receivers n = option_map_or (λ r. r.name) (slice_get receivers n) []
 
 -- an SDI as a text: 0 to 3, or `any`
 abbrev pub sdi_text : Option ℕ → List ℕ

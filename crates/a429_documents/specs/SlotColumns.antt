@@ -2,8 +2,8 @@
 use Rattle.std.specs.Prelude.{ℕ, ◌^◌, List, ◌++◌, Option, None, Some, codes}
 use Rattle.std.specs.Fmt.{decimal}
 use Rattle.a429_text.specs.Nibbles.{nibbles}
+use Rattle.a429_equipment.specs.TableRecord.{receiver_name}
 use Rattle.a429_equipment.specs.declared.rows.GroupRow.{GroupRow}
-use Rattle.a429_documents.specs.Document.{receiver_name}
 use Rattle.a429_documents.specs.PlannedGroups.{PlannedGroup, PlannedOutput, of_outputs}
 use Rattle.a429_documents.specs.SlotNames.{array_name, constant, macro_name}
 use Rattle.a429_documents.specs.declared.slots.header.columns.Column.{Column}

@@ -2,10 +2,10 @@
 ghost use Rattle.std.specs.Prelude.{◌≡◌, ◌∷◌, ◌++◌, []};
 ghost use Rattle.a429_text.specs.Fields.{Number};
 ghost use Rattle.a429_text.specs.Sheets.{field_of};
-ghost use Rattle.a429_documents.specs.Document.{group_rows, label_field, limit_field, output_row, receiver_name, sdi_field, sdi_text};
+ghost use Rattle.a429_documents.specs.Document.{group_rows, label_field, limit_field, output_row, sdi_field, sdi_text};
 
 use crate::planned::{PlannedGroup, PlannedOutput};
-use a429_equipment::ReceiverRow;
+use a429_equipment::receiver_name;
 use a429_slots::{latency_us, slots_us};
 use a429_text::{Cell, Rows};
 use a429_word::{Label, Sdi};
@@ -77,16 +77,6 @@ pub fn limit_cell(limit: Option<u32>) -> Cell<'static>
     match limit {
         None => Cell::Absent,
         Some(limit) => number(limit),
-    }
-}
-
-/// The name of a receiver; empty if there is no such receiver.
-pub(crate) fn receiver_name(receivers: &[ReceiverRow], number: usize) -> &str
-    ensures { result.now ≡ receiver_name receivers.now number }
-{
-    match receivers.get(number) {
-        None => "",
-        Some(receiver) => receiver.name.as_str(),
     }
 }
 

@@ -25,10 +25,13 @@ same_filters _ _ = false
 abbrev pub same_receiver : ReceiverRow → ReceiverRow → Bool
 same_receiver a b = bytes_eq a.name b.name && same_filters a.filters b.filters
 
+abbrev pub same_number : Option ℕ → Option ℕ → Bool
+same_number None None = true
+same_number (Some a) (Some b) = a == b
+same_number _ _ = false
+
 abbrev pub same_sdi : Option ℕ → Option ℕ → Bool
-same_sdi None None = true
-same_sdi (Some a) (Some b) = a == b
-same_sdi _ _ = false
+same_sdi a b = same_number a b
 
 abbrev pub same_source : SourceRow → SourceRow → Bool
 same_source a b = bytes_eq a.name b.name && (a.receiver == b.receiver && (a.label == b.label && same_sdi a.sdi b.sdi))

@@ -45,6 +45,6 @@ pub use limits::{
 };
 pub use loads::Load;
 pub use names::Name;
-pub use rows::{GroupRow, OutputRow, ReceiverRow, SourceRow, StationRows};
-pub use same::{same_filters, same_sdi};
+pub use rows::{GroupRow, OutputRow, ReceiverRow, SourceRow, StationRows, receiver_name};
+pub use same::{same_filters, same_number, same_sdi};
 pub use version::TableVersion;

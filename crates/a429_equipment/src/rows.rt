@@ -1,4 +1,7 @@
 //! The rows of an equipment table.
+ghost use Rattle.std.specs.Prelude.{◌≡◌};
+ghost use Rattle.a429_equipment.specs.TableRecord.{receiver_name};
+
 use crate::names::Name;
 use crate::version::TableVersion;
 use a429_filter::FilterSet;
@@ -10,6 +13,16 @@ pub struct ReceiverRow {
     pub name: Name,
     /// If the table has no `filters`, a set without a list, which passes every label.
     pub filters: FilterSet,
+}
+
+/// The name of the receiver of this number. Empty if there is none.
+pub fn receiver_name(receivers: &[ReceiverRow], number: usize) -> &str
+    ensures { result.now ≡ receiver_name receivers.now number }
+{
+    match receivers.get(number) {
+        None => "",
+        Some(row) => row.name.as_str(),
+    }
 }
 
 /// A source: the number of its receiver, its label, and its SDI; `None` is any SDI.

@@ -1,6 +1,6 @@
 //! Whether the rows of two tables are the same.
 ghost use Rattle.std.specs.Prelude.{◌≡◌};
-ghost use Rattle.a429_equipment.specs.SameStation.{all_agree, same_filter, same_filters, same_receiver, same_sdi, same_source, same_group};
+ghost use Rattle.a429_equipment.specs.SameStation.{all_agree, same_filter, same_filters, same_number, same_receiver, same_sdi, same_source, same_group};
 
 use crate::rows::{GroupRow, ReceiverRow, SourceRow};
 use a429_filter::{Filter, FilterSet};
@@ -37,6 +37,17 @@ pub fn same_receivers(a: &[ReceiverRow], b: &[ReceiverRow]) -> bool
     ensures { result ≡ all_agree same_receiver a.now b.now }
 {
     a.len() == b.len() && a.iter().zip(b).all(|(a, b)| same_receiver(a, b))
+}
+
+/// Whether both are the same number, or both are `None`.
+pub fn same_number(a: Option<u64>, b: Option<u64>) -> bool
+    ensures { result ≡ same_number a b }
+{
+    match (a, b) {
+        (None, None) => true,
+        (Some(a), Some(b)) => a == b,
+        _ => false,
+    }
 }
 
 /// Whether two SDIs are the same number, or both are any.

@@ -2,7 +2,7 @@
 
 use crate::hint::HintText;
 use a429_console::files::reading::printable_name;
-use a429_equipment::{Equipment, GroupRow, Name, ReceiverRow, SourceRow};
+use a429_equipment::{Equipment, GroupRow, Name, ReceiverRow, SourceRow, receiver_name};
 use a429_filter::FilterSet;
 use a429_word::Sdi;
 
@@ -192,14 +192,6 @@ fn say_sdi(words: &str, sdi: Option<Sdi>, hint: &HintText) {
     match sdi {
         Some(sdi) => hint.say_value(words, sdi),
         None => hint.say_value(words, "any"),
-    }
-}
-
-/// The name of a receiver; both tables have the same ones.
-fn receiver_name<'a>(receivers: &'a [ReceiverRow], number: usize) -> &'a str {
-    match receivers.get(number) {
-        Some(row) => row.name.as_str(),
-        None => "",
     }
 }
 

@@ -2,7 +2,7 @@
 use Rattle.std.proofs.Common.{◌≡◌, ℕ, Bool, true, false, List, [], ◌∷◌, ap, refl}
 use Rattle.std.specs.Prelude.{◌==◌, ◌&&◌, if◌then◌else◌}
 use Rattle.csv.specs.Reading.{strip_bom}
-use Rattle.a429_import.specs.ImportForms.{without_byte_order_mark}
+use Rattle.a429_text.specs.CutText.{without_byte_order_mark}
 
 and_assoc : (a b c : Bool) → ((a && b) && c) ≡ (a && (b && c))
 and_assoc true b c = refl

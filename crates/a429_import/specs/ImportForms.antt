@@ -2,14 +2,10 @@
 use Rattle.std.specs.Prelude.{ℕ, zero, suc, ◌+◌, ◌==◌, ◌&&◌, ◌||◌, if◌then◌else◌, Bool, not, List, [], ◌∷◌, Option, None, Some, true, false, drop, length, nat_lt, position, take, unwrap_or}
 use Rattle.std.specs.List.{find}
 use Rattle.std.specs.Option.{option_map, option_map_or, option_or}
+use Rattle.a429_text.specs.CutText.{without_byte_order_mark}
 use Rattle.a429_import.specs.ImportMaps.{mapped}
 use Rattle.a429_import.specs.ImportRows.{is_column}
 use Rattle.a429_import.specs.ImportWords.{trimmed, unquoted}
-
--- a byte order mark (UTF-8) may come first
-abbrev pub without_byte_order_mark : List ℕ → List ℕ
-without_byte_order_mark (a ∷ b ∷ c ∷ text) = if a == 239 && (b == 187 && c == 191) then text else a ∷ b ∷ c ∷ text
-without_byte_order_mark text = text
 
 -- a line feed or a carriage return
 abbrev pub ends_line : ℕ → Bool

@@ -1,13 +1,14 @@
 //! The heading of a text: its line, and what separates its fields.
 ghost use Rattle.std.specs.Prelude.{◌≡◌, ◌≤◌, ◌+◌, ◌==◌, ◌&&◌, ◌||◌, IfSome, false, if◌then◌else◌, drop, length, not, option_map, position};
 ghost use Rattle.std.specs.List.{find};
-ghost use Rattle.a429_import.specs.ImportForms.{after_separator, closed_len, count_before, ends_field, ends_line, field_len, from_heading, from_line, heading_among, is_heading, later_lines, len_before, names_column, quoted_len, quotes_end, separator_in, separators, without_byte_order_mark};
+ghost use Rattle.a429_import.specs.ImportForms.{after_separator, closed_len, count_before, ends_field, ends_line, field_len, from_heading, from_line, heading_among, is_heading, later_lines, len_before, names_column, quoted_len, quotes_end, separator_in, separators};
 ghost use Rattle.a429_import.specs.ImportMaps.{given_texts};
 ghost use Rattle.a429_import.specs.ImportQuotes.{text_before};
 
 use crate::blanks::trimmed;
 use crate::maps::names_column_by;
 use crate::plain::unquoted;
+use a429_text::cut::without_byte_order_mark;
 
 /// A text from its heading on, and what separates its fields.
 #[derive(Clone, Copy)]
@@ -246,16 +247,6 @@ fn heading_among<'a>(maps: &[&str], lines: usize, text: &'a [u8]) -> Option<Form
     None
 }
 
-/// A text without the byte order mark at its beginning (UTF-8), if it has one.
-pub fn without_mark(text: &[u8]) -> &[u8]
-    ensures { result.now ≡ without_byte_order_mark text.now }
-{
-    match text {
-        [0xEF, 0xBB, 0xBF, rest @ ..] => rest,
-        _ => text,
-    }
-}
-
 /// What comes before the end of a text.
 pub fn text_before<'a>(end: &[u8], text: &'a [u8]) -> &'a [u8]
     ensures { result.now ≡ text_before end.now text.now }
@@ -272,7 +263,7 @@ pub fn form_of<'a>(maps: &[&str], text: &'a [u8]) -> Form<'a>
     ensures separator { result.separator ≡ separator_in (given_texts maps.now) text.now }
     ensures text { result.text.now ≡ from_heading (given_texts maps.now) text.now }
 {
-    match heading_among(maps, 11, from_line(without_mark(text))) {
+    match heading_among(maps, 11, from_line(without_byte_order_mark(text))) {
         Some(form) => form,
         None => Form {
             separator: b',',

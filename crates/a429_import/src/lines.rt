@@ -12,8 +12,9 @@ ghost use Rattle.a429_import.specs.LineCounts.{HasCounted, IsBefore, IsEnd, begi
 ghost use Rattle.a429_import.specs.RowLines.{ends_here, from_row, line_of};
 
 use crate::blanks::trimmed_row;
-use crate::forms::{Form, ends_line, without_mark};
+use crate::forms::{Form, ends_line};
 use crate::steps::{Part, ends_row, pass};
+use a429_text::cut::without_byte_order_mark;
 use csv::{ByteRecord, ByteRecordsIntoIter, Error, ReaderBuilder};
 use std::alloc::{AllocError, Global};
 
@@ -206,7 +207,7 @@ pub fn count_before(text: &[u8], end: &[u8]) -> LineCount
     ensures { IsBefore text.now end.now result }
 {
     let mut count = LineCount::new();
-    count.pass_to(text, text.len() - without_mark(end).len());
+    count.pass_to(text, text.len() - without_byte_order_mark(end).len());
     count
 }
 

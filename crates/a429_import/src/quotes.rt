@@ -7,9 +7,10 @@ ghost use Rattle.a429_import.specs.ImportSteps.{ends_field, state_of};
 ghost use Rattle.a429_import.specs.Imports.{separated};
 ghost use Rattle.a429_import.specs.LineCounts.{IsEnd};
 
-use crate::forms::{Form, from_place, text_before, without_mark};
+use crate::forms::{Form, from_place, text_before};
 use crate::lines::line_at;
 use crate::steps::{Ended, Part, pass};
+use a429_text::cut::without_byte_order_mark;
 
 /// Whether a byte is inside quotes.
 fn is_inside_quotes(part: Part) -> bool
@@ -79,7 +80,7 @@ fn wrong_line(of_rows: bool, separator: u8, text: &[u8], end: &[u8]) -> Option<u
     requires { IsEnd text.now end.now }
     ensures { result ≡ wrong_line of_rows (separated separator) text.now end.now }
 {
-    let rows = without_mark(end);
+    let rows = without_byte_order_mark(end);
     match misquoted_place(of_rows, separator, rows) {
         Some(place) => Some(line_at(text, from_place(rows, place))),
         None => None,

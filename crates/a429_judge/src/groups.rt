@@ -105,7 +105,7 @@ impl Group {
     /// Notes a word of the group.
     pub fn add_word(&mut self, word: &Sent)
         ensures outputs { self.new.outputs ≡ self.old.outputs }
-        ensures words { (sent : List SentWord) → IsGroup word.now.group sent self.old → IsGroup word.now.group (sent ++ word.now ∷ []) self.new }
+        ensures words { (ws : List SentWord) → IsGroup word.now.group ws self.old → IsGroup word.now.group (ws ++ word.now ∷ []) self.new }
     {
         let own = self.outputs.add_word(&mut self.sends, word);
         add_foreign(&mut self.foreign, own, word);

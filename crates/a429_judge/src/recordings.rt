@@ -124,7 +124,7 @@ fn stays_in_order(in_order: bool, last: u64, time: u64) -> bool
 /// Adds a word to those of the source that accepted it. A source above those of all outputs has no list.
 fn add_accepted(lists: &mut Vec<Gathered<Mark>>, source: Option<usize>, mark: Mark)
     ensures lists { length lists.new.items ≡ length lists.old.items }
-    ensures words { (heard : List HeardWord) → AreAccepted heard lists.old.items → AreAccepted (heard ++ heard_by source mark) lists.new.items }
+    ensures words { (ws : List HeardWord) → AreAccepted ws lists.old.items → AreAccepted (ws ++ heard_by source mark) lists.new.items }
 {
     if let Some(source) = source
         && source < lists.len()

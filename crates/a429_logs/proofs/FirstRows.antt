@@ -10,12 +10,12 @@ use Rattle.std.proofs.lemmas.List.Folds.{list_all-append}
 use Rattle.std.proofs.lemmas.List.Splits.{slice_split-cons_no, slice_split-cons_yes}
 use Rattle.a429_word.specs.Hexadecimal.{hex_digit, hex_onto, raw_word}
 use Rattle.a429_logs.specs.LogColumns.{plain_places}
-use Rattle.a429_logs.specs.LogFields.{field_in, fields_of, has_quotes, is_mark, parts_of}
+use Rattle.a429_logs.specs.LogFields.{field_in, fields_of, has_quotes, is_separator, parts_of}
 use Rattle.a429_logs.specs.LogRows.{in_micros, row_of, unreversed, whole_word}
 use Rattle.a429_logs.specs.LogTimes.{decimal_digits}
 use Rattle.a429_logs.specs.Logs.{is_passed_over}
 use Rattle.a429_logs.specs.QuickRows.{IsWordSize, StartsPlain, ends_name, is_gap}
-use Rattle.a429_logs.specs.declared.fields.Mark.TheVariants.{Blank, LineFeed}
+use Rattle.a429_logs.specs.declared.fields.Separator.TheVariants.{Blank, LineFeed}
 use Rattle.a429_logs.specs.declared.times.TimeUnit.TheVariants.{Microseconds}
 use Rattle.a429_logs.specs.declared.words.BitOrder.{BitOrder}
 use Rattle.a429_logs.proofs.PassedLines.{passed_first}
@@ -23,7 +23,7 @@ use Rattle.a429_logs.proofs.PlainRows.{fields_row, filled, number}
 use Rattle.a429_logs.proofs.QuickRows.{all_plain, around, blank_plain, both_true, gap_blank, is_inner, is_plain, name-inner, no_quotes, number-inner, parts-first, parts-last, raw_by, word-inner}
 
 abbrev is_within : ℕ → Bool
-is_within b = not (is_mark LineFeed b)
+is_within b = not (is_separator LineFeed b)
 
 inner_within : (b : ℕ) → is_inner b ≡ true → is_within b ≡ true
 inner_within b inner = grind (arith, nat_tests)
@@ -31,7 +31,7 @@ inner_within b inner = grind (arith, nat_tests)
 gap_within : (b : ℕ) → is_gap b ≡ true → is_within b ≡ true
 gap_within b gap = grind (arith, nat_tests)
 
-no_end : (b : ℕ) → is_within b ≡ true → is_mark LineFeed b ≡ false
+no_end : (b : ℕ) → is_within b ≡ true → is_separator LineFeed b ≡ false
 no_end b within = grind (arith, nat_tests)
 
 all_within : (xs : List ℕ) → list_all is_inner xs ≡ true → list_all is_within xs ≡ true
@@ -40,12 +40,12 @@ all_within (x ∷ xs) all =
     let both = and_parts (is_inner x) (list_all is_inner xs) all in
     both_true (inner_within x both.0) (all_within xs both.1)
 
-line_first : (xs : List ℕ) (b : ℕ) (ys : List ℕ) → list_all is_within xs ≡ true → is_mark LineFeed b ≡ true
+line_first : (xs : List ℕ) (b : ℕ) (ys : List ℕ) → list_all is_within xs ≡ true → is_separator LineFeed b ≡ true
     → parts_of LineFeed (xs ++ b ∷ ys) ≡ xs ∷ parts_of LineFeed ys
-line_first [] b ys all ends = slice_split-cons_yes (is_mark LineFeed) b ys ends
+line_first [] b ys all ends = slice_split-cons_yes (is_separator LineFeed) b ys ends
 line_first (x ∷ xs) b ys all ends =
     let both = and_parts (is_within x) (list_all is_within xs) all in
-    slice_split-cons_no (is_mark LineFeed) x (xs ++ b ∷ ys) (no_end x both.0)
+    slice_split-cons_no (is_separator LineFeed) x (xs ++ b ∷ ys) (no_end x both.0)
     ∙ ap (λ (l : List (List ℕ)). onto_first x l) (line_first xs b ys both.1 ends)
 
 -- a list around one of its places, up to a later one
@@ -120,10 +120,10 @@ line_fields t n e w b c first second E gap other some full =
 pub first_line : (text line : List ℕ) (end : ℕ) → end < length text → line ≡ take end text → list_all is_within line ≡ true
     → get_or text end 0 ≡ 10 → parts_of LineFeed text ≡ take end text ∷ parts_of LineFeed (drop (end + 1) text)
 first_line text line end within is all ends =
-    let mark : is_mark LineFeed (get_or text end 0) ≡ true = rw ends refl in
+    let separator : is_separator LineFeed (get_or text end 0) ≡ true = rw ends refl in
     let same : list_all is_within (take end text) ≡ true = subst (λ (l : List ℕ). list_all is_within l ≡ true) is all in
     ap (λ (l : List ℕ). parts_of LineFeed l) (sym (around text end within))
-    ∙ line_first (take end text) (get_or text end 0) (drop (end + 1) text) same mark
+    ∙ line_first (take end text) (get_or text end 0) (drop (end + 1) text) same separator
 
 -- ---- a line that begins with a digit
 

@@ -5,12 +5,12 @@ use Rattle.std.specs.List.{enumerate_from}
 use Rattle.std.proofs.lemmas.List.Sums.{count_by-le-length}
 use Rattle.std.proofs.lemmas.List.Splits.{length-slice_split}
 use Rattle.a429_logs.specs.LogColumns.{found_next, found_with, is_column, names_of, noted, places_in, width_from}
-use Rattle.a429_logs.specs.LogFields.{field_in, fields_of, has_quotes, is_mark, parts_of, quoted_field_in, quoted_parts}
+use Rattle.a429_logs.specs.LogFields.{field_in, fields_of, has_quotes, is_separator, parts_of, quoted_field_in, quoted_parts}
 use Rattle.a429_logs.specs.declared.cells.Column.{Column}
 use Rattle.a429_logs.specs.declared.cells.Found.{Found}
 use Rattle.a429_logs.specs.declared.cells.Found.TheVariants.{Absent, At, Twice}
 use Rattle.a429_logs.specs.declared.columns.Width.{Width}
-use Rattle.a429_logs.specs.declared.fields.Mark.{Mark}
+use Rattle.a429_logs.specs.declared.fields.Separator.{Separator}
 use Rattle.a429_logs.proofs.QuotedText.{quoted-few}
 
 noted_with : (found : Found) (place : ℕ) (later : List ℕ) → found_with (noted found place) later ≡ found_with found (place ∷ later)
@@ -44,20 +44,20 @@ kept_few : {X Y : Type 0} (f : X → Option Y) (xs : List X) → length (filter_
 kept_few f [] = omega arith
 kept_few f (x ∷ xs) = kept_one f x xs (f x) refl (kept_few f xs)
 
-plain_few : (mark : Mark) (line : List ℕ) → length (filter_map (field_in mark) (parts_of mark line)) ≤ length line + 1
-plain_few mark line =
-    omega (arith, kept_few (field_in mark) (parts_of mark line), length-slice_split (is_mark mark) line, count_by-le-length (is_mark mark) line)
+plain_few : (separator : Separator) (line : List ℕ) → length (filter_map (field_in separator) (parts_of separator line)) ≤ length line + 1
+plain_few separator line =
+    omega (arith, kept_few (field_in separator) (parts_of separator line), length-slice_split (is_separator separator) line, count_by-le-length (is_separator separator) line)
 
-quoted_few : (mark : Mark) (line : List ℕ) → length (filter_map (quoted_field_in mark) (quoted_parts mark false line)) ≤ length line + 1
-quoted_few mark line = omega (arith, kept_few (quoted_field_in mark) (quoted_parts mark false line), quoted-few mark false line)
+quoted_few : (separator : Separator) (line : List ℕ) → length (filter_map (quoted_field_in separator) (quoted_parts separator false line)) ≤ length line + 1
+quoted_few separator line = omega (arith, kept_few (quoted_field_in separator) (quoted_parts separator false line), quoted-few separator false line)
 
-few_by : (mark : Mark) (line : List ℕ) (quotes : Bool) → has_quotes line ≡ quotes → length (fields_of mark line) ≤ length line + 1
+few_by : (separator : Separator) (line : List ℕ) (quotes : Bool) → has_quotes line ≡ quotes → length (fields_of separator line) ≤ length line + 1
 unfolding fields_of
-few_by mark line true e = rw e (quoted_few mark line)
-few_by mark line false e = rw e (plain_few mark line)
+few_by separator line true e = rw e (quoted_few separator line)
+few_by separator line false e = rw e (plain_few separator line)
 
-pub fields_few : (mark : Mark) (line : List ℕ) → length (fields_of mark line) ≤ length line + 1
-fields_few mark line = few_by mark line (has_quotes line) refl
+pub fields_few : (separator : Separator) (line : List ℕ) → length (fields_of separator line) ≤ length line + 1
+fields_few separator line = few_by separator line (has_quotes line) refl
 
 pub found-end : (column : Column) (found : Found) (place : ℕ) (fields : List (List ℕ)) → length fields ≡ 0
     → found ≡ found_with found (places_in column (enumerate_from place fields))

@@ -7,11 +7,12 @@ use Rattle.std.specs.declared.alloc.Global.{Global}
 use Rattle.std.specs.declared.vec.Vec.{Vec}
 use Rattle.std.proofs.Math.Seq.{drop-length}
 use Rattle.std.proofs.lemmas.List.Splits.{length-slice_split}
-use Rattle.a429_logs.specs.LogFields.{Takes, is_mark, parts_in, parts_of, without_byte_order_mark}
+use Rattle.a429_text.specs.CutText.{without_byte_order_mark}
+use Rattle.a429_logs.specs.LogFields.{Takes, is_separator, parts_in, parts_of}
 use Rattle.a429_logs.specs.Logs.{joined, lines_of, numbered, one_more}
 use Rattle.a429_logs.specs.LogPieces.{IsBetweenIn, TakesHere, first_lines, left_in, lines_in, next_in, pieces_in, taken_in, texts_in}
 use Rattle.a429_logs.specs.declared.lines.Lines.{Lines}
-use Rattle.a429_logs.specs.declared.fields.Mark.TheVariants.{LineFeed}
+use Rattle.a429_logs.specs.declared.fields.Separator.TheVariants.{LineFeed}
 
 -- ---- the lines of texts that are joined
 
@@ -35,7 +36,7 @@ slice_split-append p (x ∷ xs) y ys e = split-one p x xs ys (xs ++ (y ∷ ys)) 
 parts_of-joined : (text : List ℕ) (texts : List (List ℕ)) → parts_of LineFeed (joined (text ∷ texts)) ≡ parts_of LineFeed text ++ lines_in texts
 parts_of-joined text [] = sym (append-nil (parts_of LineFeed text))
 parts_of-joined text (next ∷ texts) =
-    slice_split-append (is_mark LineFeed) text 10 (joined (next ∷ texts)) refl
+    slice_split-append (is_separator LineFeed) text 10 (joined (next ∷ texts)) refl
     ∙ ap (λ (lines : List (List ℕ)). parts_of LineFeed text ++ lines) (parts_of-joined next texts)
 
 -- ---- a byte order mark is in the first piece
@@ -52,24 +53,24 @@ if-append : (a : Bool) (s t later : List ℕ) → (if a then s ++ later else t +
 if-append true s t later = refl
 if-append false s t later = refl
 
-mark-append : (text later : List ℕ) → without_byte_order_mark (text ++ (10 ∷ later)) ≡ without_byte_order_mark text ++ (10 ∷ later)
-mark-append [] [] = refl
-mark-append [] (x ∷ []) = refl
-mark-append [] (x ∷ (y ∷ later)) = refl
-mark-append (a ∷ []) [] = refl
-mark-append (a ∷ []) (x ∷ later) = and-false (a == 239) later (a ∷ (10 ∷ (x ∷ later)))
-mark-append (a ∷ (b ∷ [])) later = and-and-false (a == 239) (b == 187) later (a ∷ (b ∷ (10 ∷ later)))
-mark-append (a ∷ (b ∷ (c ∷ text))) later = if-append (a == 239 && (b == 187 && c == 191)) text (a ∷ (b ∷ (c ∷ text))) (10 ∷ later)
+separator-append : (text later : List ℕ) → without_byte_order_mark (text ++ (10 ∷ later)) ≡ without_byte_order_mark text ++ (10 ∷ later)
+separator-append [] [] = refl
+separator-append [] (x ∷ []) = refl
+separator-append [] (x ∷ (y ∷ later)) = refl
+separator-append (a ∷ []) [] = refl
+separator-append (a ∷ []) (x ∷ later) = and-false (a == 239) later (a ∷ (10 ∷ (x ∷ later)))
+separator-append (a ∷ (b ∷ [])) later = and-and-false (a == 239) (b == 187) later (a ∷ (b ∷ (10 ∷ later)))
+separator-append (a ∷ (b ∷ (c ∷ text))) later = if-append (a == 239 && (b == 187 && c == 191)) text (a ∷ (b ∷ (c ∷ text))) (10 ∷ later)
 
-mark-joined : (text : List ℕ) (texts : List (List ℕ)) → without_byte_order_mark (joined (text ∷ texts)) ≡ joined (without_byte_order_mark text ∷ texts)
-mark-joined text [] = refl
-mark-joined text (next ∷ texts) = mark-append text (joined (next ∷ texts))
+separator-joined : (text : List ℕ) (texts : List (List ℕ)) → without_byte_order_mark (joined (text ∷ texts)) ≡ joined (without_byte_order_mark text ∷ texts)
+separator-joined text [] = refl
+separator-joined text (next ∷ texts) = separator-append text (joined (next ∷ texts))
 
--- the lines of a log are those of its first piece without the mark, and then those of the later pieces
+-- the lines of a log are those of its first piece without the separator, and then those of the later pieces
 lines-joined : (text : List ℕ) (texts : List (List ℕ))
     → parts_of LineFeed (without_byte_order_mark text) ++ lines_in texts ≡ parts_of LineFeed (without_byte_order_mark (joined (text ∷ texts)))
 lines-joined text texts =
-    sym (parts_of-joined (without_byte_order_mark text) texts) ∙ ap (λ (t : List ℕ). parts_of LineFeed t) (sym (mark-joined text texts))
+    sym (parts_of-joined (without_byte_order_mark text) texts) ∙ ap (λ (t : List ℕ). parts_of LineFeed t) (sym (separator-joined text texts))
 
 -- all lines of a log
 pub lines-of-none : (pieces : List (Vec ℕ Global)) → length pieces < 1 → first_lines [] (texts_in (drop 0 pieces)) ≡ lines_of (joined (texts_in pieces))

@@ -6,7 +6,6 @@ mod CaughtFields
 mod ReadEntries
 mod JoinedPieces
 mod PartsWords
-mod HexNumbers
 pub mod NeverFall
 mod PlainRows
 mod QuickRows
@@ -14,7 +13,7 @@ mod DigitValues
 mod PassedLines
 mod FirstRows
 mod PlainReadings
-mod FirstMarks
+mod FirstSeparators
 mod ReadDigits
 mod TickLengths
 mod MovedDigits

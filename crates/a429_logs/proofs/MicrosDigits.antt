@@ -44,6 +44,9 @@ whole_few unit whole is = leb-true _ _ (and_parts _ _ (and_parts _ _ is).0).1
 pub whole_short : (unit : TimeUnit) (whole : List ℕ) → is_whole unit whole ≡ true → length whole ≤ 18
 whole_short unit whole is = omega (arith, whole_few unit whole is)
 
+pub whole_fits : (unit : TimeUnit) (whole : List ℕ) → is_whole unit whole ≡ true → digits_value 10 whole < 2 ^ 64
+whole_fits unit whole is = omega (arith, digits_value_short digits_model whole 18 (whole_digits unit whole is) (whole_short unit whole is))
+
 length-micros : (unit : TimeUnit) (whole fraction : List ℕ) → length (micros_digits unit whole fraction) ≡ length whole + decimals unit
 length-micros unit whole fraction = length-append whole (first_digits (decimals unit) fraction) ∙ ap (λ (n : ℕ). length whole + n) (length-first_digits (decimals unit) fraction)
 

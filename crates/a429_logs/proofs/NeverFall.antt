@@ -4,12 +4,12 @@ use Rattle.std.specs.Prelude.{Option, Some, None, Result, Ok, Err, nat_lt}
 use Rattle.std.proofs.lemmas.Bool.Decides.{nat_tests}
 use Rattle.a429_logs.specs.Calendars.{Timed}
 use Rattle.a429_logs.specs.LogColumns.{columns_of, is_heading, names_of, plain_places}
-use Rattle.a429_logs.specs.LogFields.{fields_of, mark_in}
+use Rattle.a429_logs.specs.LogFields.{fields_of, separator_in}
 use Rattle.a429_logs.specs.LogRows.{Stated}
 use Rattle.a429_logs.specs.Logs.{LineRead, NoneBefore, WordAt, and_then, base_of, entries_from, entry_then, is_passed_over, log_entries, on_clock, past_then, reading_after, reading_past, series_entries, tail_at, renames_of, unit_for, read_first, read_line, read_stated, with_calendar, with_clock, with_heading, word_of_row}
 use Rattle.a429_logs.specs.declared.columns.HeadingFault.{HeadingFault}
 use Rattle.a429_logs.specs.declared.columns.Places.{Places}
-use Rattle.a429_logs.specs.declared.fields.Mark.{Mark}
+use Rattle.a429_logs.specs.declared.fields.Separator.{Separator}
 use Rattle.a429_logs.specs.declared.reader.LogFault.{LogFault}
 use Rattle.a429_logs.specs.declared.reading.LineFault.{LineFault}
 use Rattle.a429_logs.specs.declared.reading.Reading.{Reading}
@@ -39,16 +39,16 @@ by_row : (reading : Reading) (shape : Shape) (row : Result Timed RowFault) → K
 by_row reading shape (Err why) = refl
 by_row reading shape (Ok timed) = by_tests reading shape timed _ _ refl refl
 
-by_heading : (reading : Reading) (mark : Mark) (places : Result Places HeadingFault) → Keeps reading (with_heading reading mark places)
-by_heading reading mark (Err why) = refl
-by_heading reading mark (Ok places) = refl
+by_heading : (reading : Reading) (separator : Separator) (places : Result Places HeadingFault) → Keeps reading (with_heading reading separator places)
+by_heading reading separator (Err why) = refl
+by_heading reading separator (Ok places) = refl
 
-by_first : (reading : Reading) (line : List ℕ) (mark : Mark) (heads : Bool) → is_heading (unit_for reading.unit None) (names_of (renames_of reading) (fields_of mark line)) ≡ heads → Keeps reading (read_first reading line mark)
-by_first reading line mark true e = rw e (by_heading reading mark (columns_of (renames_of reading) (fields_of mark line)))
-by_first reading line mark false e = rw e (by_row reading (record { mark = mark; unit = unit_for reading.unit None; places = plain_places }) (word_of_row reading line (record { mark = mark; unit = unit_for reading.unit None; places = plain_places })))
+by_first : (reading : Reading) (line : List ℕ) (separator : Separator) (heads : Bool) → is_heading (unit_for reading.unit None) (names_of (renames_of reading) (fields_of separator line)) ≡ heads → Keeps reading (read_first reading line separator)
+by_first reading line separator true e = rw e (by_heading reading separator (columns_of (renames_of reading) (fields_of separator line)))
+by_first reading line separator false e = rw e (by_row reading (record { separator = separator; unit = unit_for reading.unit None; places = plain_places }) (word_of_row reading line (record { separator = separator; unit = unit_for reading.unit None; places = plain_places })))
 
 by_shape : (reading : Reading) (line : List ℕ) (shape : Option Shape) → Keeps reading (read_stated reading line shape)
-by_shape reading line None = by_first reading line (mark_in line) _ refl
+by_shape reading line None = by_first reading line (separator_in line) _ refl
 by_shape reading line (Some shape) = by_row reading shape (word_of_row reading line shape)
 
 by_passed : (reading : Reading) (line : List ℕ) (passed : Bool) → is_passed_over line ≡ passed → Keeps reading (read_line reading line)

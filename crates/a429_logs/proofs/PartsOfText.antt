@@ -1,10 +1,10 @@
--- The first part of a text between marks.
+-- The first part of a text between separators.
 use Rattle.std.proofs.Common.{◌≡◌, ◌∙◌, ◌+◌, ℕ, suc, Bool, true, false, cond, List, take, drop, [], ◌∷◌, length, refl, ap, arith, add-one}
 use Rattle.std.specs.Prelude.{Option, Some, None, nat_lt, position}
 use Rattle.std.specs.List.{slice_split, onto_first, position_or_len}
 use Rattle.std.proofs.lemmas.Bool.Decides.{nat_tests}
 
--- the parts, by the place of the first mark
+-- the parts, by the place of the first separator
 abbrev pub parts_by : {X : Type 0} → (X → Bool) → Option ℕ → List X → List (List X)
 parts_by p None xs = xs ∷ []
 parts_by p (Some k) xs = take k xs ∷ slice_split p (drop (k + 1) xs)

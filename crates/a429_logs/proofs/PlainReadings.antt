@@ -8,7 +8,7 @@ use Rattle.a429_logs.specs.LogRows.{in_micros, row_of, stated_by}
 use Rattle.a429_logs.specs.Logs.{is_passed_over, read_line, read_stated, with_calendar}
 use Rattle.a429_logs.specs.QuickRows.{IsPlain, in_units, plain_shape}
 use Rattle.a429_logs.specs.declared.calendars.Calendar.{Calendar}
-use Rattle.a429_logs.specs.declared.fields.Mark.TheVariants.{Blank}
+use Rattle.a429_logs.specs.declared.fields.Separator.TheVariants.{Blank}
 use Rattle.a429_logs.specs.declared.reading.Reading.{Reading}
 use Rattle.a429_logs.specs.declared.reading.Shape.{Shape}
 use Rattle.a429_logs.specs.declared.rows.StatedWord.{StatedWord}

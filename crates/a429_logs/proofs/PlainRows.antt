@@ -15,7 +15,7 @@ use Rattle.a429_logs.specs.LogExponents.{exponent_time}
 use Rattle.a429_logs.specs.LogFields.{field_in, fields_of, has_quotes, parts_of}
 use Rattle.a429_logs.specs.LogRows.{in_micros, row_of, unreversed, whole_word, written_time}
 use Rattle.a429_logs.specs.LogTimes.{decimal_digits, decimal_time, is_point, micros, time_by, time_of, whole_time}
-use Rattle.a429_logs.specs.declared.fields.Mark.TheVariants.{Blank}
+use Rattle.a429_logs.specs.declared.fields.Separator.TheVariants.{Blank}
 use Rattle.a429_logs.specs.declared.times.TimeUnit.TheVariants.{Microseconds}
 use Rattle.a429_logs.specs.declared.words.BitOrder.{BitOrder}
 use Rattle.a429_logs.specs.declared.written.WrittenTime.TheVariants.{Micros}

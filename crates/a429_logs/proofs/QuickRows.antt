@@ -10,11 +10,11 @@ use Rattle.std.proofs.lemmas.List.Folds.{list_all-append}
 use Rattle.std.proofs.lemmas.List.Splits.{slice_split-cons_no, slice_split-cons_yes}
 use Rattle.std.proofs.lemmas.Option.{cond_some}
 use Rattle.a429_word.specs.Hexadecimal.{hex_digit, hex_onto, raw_word}
-use Rattle.a429_logs.specs.LogFields.{has_quotes, is_mark, is_quote, parts_of}
+use Rattle.a429_logs.specs.LogFields.{has_quotes, is_separator, is_quote, parts_of}
 use Rattle.a429_logs.specs.LogRows.{whole_word}
 use Rattle.a429_logs.specs.LogTimes.{decimal_digits}
 use Rattle.a429_logs.specs.QuickRows.{ends_name, is_gap}
-use Rattle.a429_logs.specs.declared.fields.Mark.TheVariants.{Blank}
+use Rattle.a429_logs.specs.declared.fields.Separator.TheVariants.{Blank}
 use Rattle.a429_logs.proofs.PlainRows.{number}
 
 -- a byte within a field
@@ -29,16 +29,16 @@ both_true e f = rw (e, f) refl
 
 -- ---- bytes
 
-inner_no_blank : (b : ℕ) → is_inner b ≡ true → is_mark Blank b ≡ false
+inner_no_blank : (b : ℕ) → is_inner b ≡ true → is_separator Blank b ≡ false
 inner_no_blank b inner = grind (arith, nat_tests)
 
 inner_plain : (b : ℕ) → is_inner b ≡ true → is_plain b ≡ true
 inner_plain b inner = grind (arith, nat_tests)
 
-pub blank_plain : (b : ℕ) → is_mark Blank b ≡ true → is_plain b ≡ true
+pub blank_plain : (b : ℕ) → is_separator Blank b ≡ true → is_plain b ≡ true
 blank_plain b blank = grind (arith, nat_tests)
 
-pub gap_blank : (b : ℕ) → is_gap b ≡ true → is_mark Blank b ≡ true
+pub gap_blank : (b : ℕ) → is_gap b ≡ true → is_separator Blank b ≡ true
 gap_blank b gap = grind (arith, nat_tests)
 
 digit_inner : (b : ℕ) → is_ascii_digit b ≡ true → is_inner b ≡ true
@@ -116,18 +116,18 @@ name-inner xs k is =
 
 -- ---- lines
 
-pub parts-first : (xs : List ℕ) (b : ℕ) (ys : List ℕ) → list_all is_inner xs ≡ true → is_mark Blank b ≡ true → parts_of Blank (xs ++ b ∷ ys) ≡ xs ∷ parts_of Blank ys
-parts-first [] b ys all blank = slice_split-cons_yes (is_mark Blank) b ys blank
+pub parts-first : (xs : List ℕ) (b : ℕ) (ys : List ℕ) → list_all is_inner xs ≡ true → is_separator Blank b ≡ true → parts_of Blank (xs ++ b ∷ ys) ≡ xs ∷ parts_of Blank ys
+parts-first [] b ys all blank = slice_split-cons_yes (is_separator Blank) b ys blank
 parts-first (x ∷ xs) b ys all blank =
     let both = and_parts (is_inner x) (list_all is_inner xs) all in
-    slice_split-cons_no (is_mark Blank) x (xs ++ b ∷ ys) (inner_no_blank x both.0)
+    slice_split-cons_no (is_separator Blank) x (xs ++ b ∷ ys) (inner_no_blank x both.0)
     ∙ ap (λ (l : List (List ℕ)). onto_first x l) (parts-first xs b ys both.1 blank)
 
 pub parts-last : (xs : List ℕ) → list_all is_inner xs ≡ true → parts_of Blank xs ≡ xs ∷ []
 parts-last [] all = refl
 parts-last (x ∷ xs) all =
     let both = and_parts (is_inner x) (list_all is_inner xs) all in
-    slice_split-cons_no (is_mark Blank) x xs (inner_no_blank x both.0) ∙ ap (λ (l : List (List ℕ)). onto_first x l) (parts-last xs both.1)
+    slice_split-cons_no (is_separator Blank) x xs (inner_no_blank x both.0) ∙ ap (λ (l : List (List ℕ)). onto_first x l) (parts-last xs both.1)
 
 none_at : (xs : List ℕ) → list_all is_plain xs ≡ true → position_or_len is_quote xs ≡ length xs
 none_at [] all = refl

@@ -6,7 +6,7 @@ use Rattle.a429_logs.specs.LateDates.{late_time}
 use Rattle.a429_logs.specs.LogDates.{of_day}
 use Rattle.a429_logs.specs.LogExponents.{exponent_time}
 use Rattle.a429_logs.specs.LogTicks.{tick_time}
-use Rattle.a429_logs.specs.declared.fields.Mark.TheVariants.{Blank}
+use Rattle.a429_logs.specs.declared.fields.Separator.TheVariants.{Blank}
 use Rattle.a429_logs.specs.declared.rows.RowFault.TheVariants as fault
 use Rattle.a429_logs.specs.declared.times.TimeUnit.TheVariants.{Nanoseconds, Microseconds, Seconds}
 use Rattle.a429_logs.specs.declared.written.DateOrder.TheVariants.{DayFirst, MonthFirst}

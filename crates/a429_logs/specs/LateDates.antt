@@ -5,8 +5,8 @@ use Rattle.a429_logs.specs.LogColumns.{is_named}
 use Rattle.a429_logs.specs.LogDates.{Three, at_time, day_time, digits_within, if_some, is_date_end, of_day, or_second, three_of, without_zone}
 use Rattle.a429_logs.specs.LogFields.{parts_of}
 use Rattle.a429_logs.specs.LogTimes.{two_digits, within}
-use Rattle.a429_logs.specs.declared.fields.Mark.{Mark}
-use Rattle.a429_logs.specs.declared.fields.Mark.TheVariants.{Colon, Dash, Point, Slash}
+use Rattle.a429_logs.specs.declared.fields.Separator.{Separator}
+use Rattle.a429_logs.specs.declared.fields.Separator.TheVariants.{Colon, Dash, Point, Slash}
 use Rattle.a429_logs.specs.declared.written.Date.{Date}
 use Rattle.a429_logs.specs.declared.written.NumberedDate.{NumberedDate}
 use Rattle.a429_logs.specs.declared.written.WrittenTime.{WrittenTime}
@@ -75,10 +75,10 @@ last_end text zero = None
 last_end text (suc n) = end_or (get_or text n 0) n (last_end text n)
 
 -- a date, a `T` or a space at this place, and a time of day, which may end in `Z`
-abbrev pub late_by : Mark → List ℕ → ℕ → Option WrittenTime
-late_by mark text k =
-    if_some (day_time mark (parts_of Colon (without_zone (drop (k + 1) text)))) (λ time. late_date_of time (take k text))
+abbrev pub late_by : Separator → List ℕ → ℕ → Option WrittenTime
+late_by separator text k =
+    if_some (day_time separator (parts_of Colon (without_zone (drop (k + 1) text)))) (λ time. late_date_of time (take k text))
 
 -- a date with the year last, and a time of day
-unfoldable pub late_time : Mark → List ℕ → Option WrittenTime
-late_time mark text = if_some (last_end text (length text)) (λ k. late_by mark text k)
+unfoldable pub late_time : Separator → List ℕ → Option WrittenTime
+late_time separator text = if_some (last_end text (length text)) (λ k. late_by separator text k)

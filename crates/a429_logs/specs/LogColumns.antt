@@ -289,7 +289,7 @@ plain_places = record { width = record { all = 3; bare = 3 }; unit = None; time 
 
 -- what the fields of a heading count as
 abbrev pub names_in : Heading → List (List ℕ)
-names_in h = names_of (map (λ text. text.now) h.renames.now) (fields_of h.mark h.line.now)
+names_in h = names_of (map (λ text. text.now) h.renames.now) (fields_of h.separator h.line.now)
 
 -- found so far, and at these places besides
 abbrev pub found_with : Found → List ℕ → Found

@@ -3,8 +3,8 @@ use Rattle.std.specs.Prelude.{◌==◌, ◌||◌, ◌+◌, ◌-◌, ◌*◌, ◌
 use Rattle.a429_logs.specs.GregorianCalendar.{days_before, is_leap, month_length}
 use Rattle.a429_logs.specs.LogFields.{parts_of}
 use Rattle.a429_logs.specs.LogTimes.{decimal_digits, decimal_time, is_point, two_digits, within}
-use Rattle.a429_logs.specs.declared.fields.Mark.{Mark}
-use Rattle.a429_logs.specs.declared.fields.Mark.TheVariants.{Colon, Dash, Slash}
+use Rattle.a429_logs.specs.declared.fields.Separator.{Separator}
+use Rattle.a429_logs.specs.declared.fields.Separator.TheVariants.{Colon, Dash, Slash}
 use Rattle.a429_logs.specs.declared.times.TimeUnit.TheVariants.{Seconds}
 use Rattle.a429_logs.specs.declared.written.Date.{Date}
 use Rattle.a429_logs.specs.declared.written.ThreeParts.{ThreeParts}
@@ -54,30 +54,30 @@ abbrev pub hour_of : List ℕ → Option ℕ
 hour_of text = two_digits 23 text
 
 -- seconds have two digits, and decimals after them; no minute has more than 60 of them
-abbrev pub seconds_of : Mark → List ℕ → Option ℕ
-seconds_of mark text =
-    if unwrap_or (position (is_point mark) text) (length text) == 2 then within 0 59999999 (decimal_time Seconds mark text) else None
+abbrev pub seconds_of : Separator → List ℕ → Option ℕ
+seconds_of separator text =
+    if unwrap_or (position (is_point separator) text) (length text) == 2 then within 0 59999999 (decimal_time Seconds separator text) else None
 
-abbrev pub time_of_day : Mark → Three → Option ℕ
-time_of_day mark t =
-    if_some (hour_of t.first) (λ hour. if_some (digits_within 2 0 59 t.second) (λ minute. if_some (seconds_of mark t.third) (λ seconds.
+abbrev pub time_of_day : Separator → Three → Option ℕ
+time_of_day separator t =
+    if_some (hour_of t.first) (λ hour. if_some (digits_within 2 0 59 t.second) (λ minute. if_some (seconds_of separator t.third) (λ seconds.
     Some (of_minute * (60 * hour + minute) + seconds))))
 
 -- HH:MM:SS, in microseconds from midnight
-unfoldable pub day_time : Mark → List (List ℕ) → Option ℕ
-day_time mark parts = if_some (three_of parts) (λ three. time_of_day mark three)
+unfoldable pub day_time : Separator → List (List ℕ) → Option ℕ
+day_time separator parts = if_some (three_of parts) (λ three. time_of_day separator three)
 
 -- ---- times of the year
 
 -- DDD:HH:MM:SS, in microseconds from the beginning of the year, of which the first day is 001
-abbrev pub year_time : Mark → List (List ℕ) → Option ℕ
-year_time mark [] = None
-year_time mark (day ∷ parts) =
-    if_some (digits_within 3 1 366 day) (λ number. if_some (day_time mark parts) (λ time. Some (of_day * (number - 1) + time)))
+abbrev pub year_time : Separator → List (List ℕ) → Option ℕ
+year_time separator [] = None
+year_time separator (day ∷ parts) =
+    if_some (digits_within 3 1 366 day) (λ number. if_some (day_time separator parts) (λ time. Some (of_day * (number - 1) + time)))
 
 -- a time of day, or a time of the year
-unfoldable pub clock_time : Mark → List ℕ → Option WrittenTime
-clock_time mark text = or_second (option_map OfDay (day_time mark (parts_of Colon text))) (option_map OfYear (year_time mark (parts_of Colon text)))
+unfoldable pub clock_time : Separator → List ℕ → Option WrittenTime
+clock_time separator text = or_second (option_map OfDay (day_time separator (parts_of Colon text))) (option_map OfYear (year_time separator (parts_of Colon text)))
 
 -- ---- dates
 
@@ -98,16 +98,16 @@ without_zone text = if get_or text (length text - 1) 0 == 90 then take (length t
 abbrev pub at_time : Option Date → Option ℕ → Option WrittenTime
 at_time date time = if_some date (λ d. option_map (λ t. OfDate (record d { time = d.time + t })) time)
 
-unfoldable pub dated_time : Mark → List ℕ → List ℕ → Option WrittenTime
-dated_time mark date time = at_time (date_of date) (day_time mark (parts_of Colon (without_zone time)))
+unfoldable pub dated_time : Separator → List ℕ → List ℕ → Option WrittenTime
+dated_time separator date time = at_time (date_of date) (day_time separator (parts_of Colon (without_zone time)))
 
 -- a date and a time of day have a `T` or a space between them
 abbrev pub is_date_end : ℕ → Bool
 is_date_end b = b == 84 || b == 32
 
-abbrev pub calendar_by : Mark → List ℕ → Option ℕ → Option WrittenTime
-calendar_by mark text None = clock_time mark text
-calendar_by mark text (Some k) = dated_time mark (take k text) (drop (k + 1) text)
+abbrev pub calendar_by : Separator → List ℕ → Option ℕ → Option WrittenTime
+calendar_by separator text None = clock_time separator text
+calendar_by separator text (Some k) = dated_time separator (take k text) (drop (k + 1) text)
 
-unfoldable pub calendar_time : Mark → List ℕ → Option WrittenTime
-calendar_time mark text = calendar_by mark text (position is_date_end text)
+unfoldable pub calendar_time : Separator → List ℕ → Option WrittenTime
+calendar_time separator text = calendar_by separator text (position is_date_end text)

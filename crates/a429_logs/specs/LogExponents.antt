@@ -6,7 +6,7 @@ use Rattle.std.specs.Str.Parse.{digits_value}
 use Rattle.a429_logs.specs.LogTicks.{in_18_digits}
 use Rattle.a429_logs.specs.LogTimes.{decimals, first_digits, is_point, two_digits}
 use Rattle.a429_logs.specs.declared.exponents.PointMove.{PointMove}
-use Rattle.a429_logs.specs.declared.fields.Mark.{Mark}
+use Rattle.a429_logs.specs.declared.fields.Separator.{Separator}
 use Rattle.a429_logs.specs.declared.times.TimeUnit.{TimeUnit}
 use Rattle.a429_logs.specs.declared.times.TimeUnit.TheVariants.{Nanoseconds, Ticks}
 
@@ -55,12 +55,12 @@ mantissa_time unit move text (Some k) =
     if has_digits_only (take k text) && has_digits_only (drop (k + 1) text) then moved_time unit move (take k text) (drop (k + 1) text) else None
 
 -- a mantissa, and an exponent after the first `e` or `E`, at this place
-abbrev pub exponent_by : TimeUnit → Mark → List ℕ → Option ℕ → Option ℕ
-exponent_by unit mark text None = None
-exponent_by unit mark text (Some k) =
-    option_and_then (λ move. mantissa_time unit move (take k text) (position (is_point mark) (take k text))) (exponent_in (drop (k + 1) text))
+abbrev pub exponent_by : TimeUnit → Separator → List ℕ → Option ℕ → Option ℕ
+exponent_by unit separator text None = None
+exponent_by unit separator text (Some k) =
+    option_and_then (λ move. mantissa_time unit move (take k text) (position (is_point separator) (take k text))) (exponent_in (drop (k + 1) text))
 
 -- the microseconds that a number with an exponent states in a unit; ticks have none
-unfoldable pub exponent_time : TimeUnit → Mark → List ℕ → Option ℕ
-exponent_time (Ticks nanoseconds) mark text = None
-exponent_time unit mark text = exponent_by unit mark text (position is_exponent_mark text)
+unfoldable pub exponent_time : TimeUnit → Separator → List ℕ → Option ℕ
+exponent_time (Ticks nanoseconds) separator text = None
+exponent_time unit separator text = exponent_by unit separator text (position is_exponent_mark text)

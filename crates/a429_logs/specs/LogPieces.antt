@@ -3,9 +3,10 @@ use Rattle.std.specs.Prelude.{◌≡◌, ◌∷◌, ◌++◌, ℕ, List, Option,
 use Rattle.std.specs.List.{flat_map}
 use Rattle.std.specs.declared.alloc.Global.{Global}
 use Rattle.std.specs.declared.vec.Vec.{Vec}
-use Rattle.a429_logs.specs.LogFields.{parts_in, parts_of, without_byte_order_mark}
+use Rattle.a429_text.specs.CutText.{without_byte_order_mark}
+use Rattle.a429_logs.specs.LogFields.{parts_in, parts_of}
 use Rattle.a429_logs.specs.Logs.{numbered, one_more}
-use Rattle.a429_logs.specs.declared.fields.Mark.TheVariants.{LineFeed}
+use Rattle.a429_logs.specs.declared.fields.Separator.TheVariants.{LineFeed}
 use Rattle.a429_logs.specs.declared.lines.Lines.{Lines}
 
 -- the texts of pieces

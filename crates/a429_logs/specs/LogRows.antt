@@ -1,7 +1,7 @@
 -- The rows of a log: a time, a name and a word (profile: log).
 use Rattle.std.specs.Prelude.{◌==◌, ◌&&◌, ◌||◌, ◌+◌, ◌-◌, ◌*◌, ◌/◌, ◌^◌, ◌∷◌, [], ℕ, Bool, true, false, List, Option, Some, None, Result, Ok, Err, if◌then◌else◌, codes, get_or, length, nat_le, nat_lt, option_map}
 use Rattle.a429_word.specs.Bits.{has_odd_parity, reversed_from}
-use Rattle.a429_word.specs.Hexadecimal.{hex_onto, raw_word}
+use Rattle.a429_word.specs.Hexadecimal.{hex_number, raw_word}
 use Rattle.a429_logs.specs.LateDates.{late_time}
 use Rattle.a429_logs.specs.LogColumns.{and_then, fits, is_named, width_of}
 use Rattle.a429_logs.specs.LogDates.{calendar_time, if_some, or_second}
@@ -14,7 +14,7 @@ use Rattle.a429_logs.specs.declared.columns.PartsPlaces.{PartsPlaces}
 use Rattle.a429_logs.specs.declared.columns.Places.{Places}
 use Rattle.a429_logs.specs.declared.columns.WordPlaces.{WordPlaces}
 use Rattle.a429_logs.specs.declared.columns.WordPlaces.TheVariants.{Whole, Parts}
-use Rattle.a429_logs.specs.declared.fields.Mark.{Mark}
+use Rattle.a429_logs.specs.declared.fields.Separator.{Separator}
 use Rattle.a429_logs.specs.declared.rows.RowFault.{RowFault}
 use Rattle.a429_logs.specs.declared.rows.RowFields.{RowFields}
 use Rattle.a429_logs.specs.declared.rows.RowWord.{RowWord}
@@ -44,10 +44,6 @@ unreversed WordReversed raw = reversed_from 1 32 raw
 -- the word that eight hexadecimal digits write
 abbrev pub written_word : BitOrder → List ℕ → Option ℕ
 written_word order text = option_map (unreversed order) (whole_word text)
-
--- one to five hexadecimal digits
-abbrev pub hex_number : List ℕ → Option ℕ
-hex_number text = if nat_le 1 (length text) && nat_le (length text) 5 then hex_onto 0 text else None
 
 -- a number of 19 bits
 abbrev pub as_value : Option ℕ → Option ℕ
@@ -187,19 +183,19 @@ word_in order (Parts places) fields = parts_word places fields
 
 -- The time that a text writes: digits in the unit of the log, a time by a calendar with the year first or none, one with the year last,
 -- or a number with an exponent. No text has two of these forms.
-unfoldable pub written_time : TimeUnit → Mark → List ℕ → Option WrittenTime
-written_time unit mark text =
-    or_second (option_map Micros (time_of unit mark text))
-    (or_second (calendar_time mark text) (or_second (late_time mark text) (option_map Micros (exponent_time unit mark text))))
+unfoldable pub written_time : TimeUnit → Separator → List ℕ → Option WrittenTime
+written_time unit separator text =
+    or_second (option_map Micros (time_of unit separator text))
+    (or_second (calendar_time separator text) (or_second (late_time separator text) (option_map Micros (exponent_time unit separator text))))
 
-abbrev pub row_in : TimeUnit → BitOrder → Mark → Places → List (List ℕ) → Result Written RowFault
-row_in unit order mark places fields =
-    and_then (or_fault fault.Time (written_time unit mark (field_at places.time fields))) (λ time. and_then (word_in order places.word fields) (λ raw.
+abbrev pub row_in : TimeUnit → BitOrder → Separator → Places → List (List ℕ) → Result Written RowFault
+row_in unit order separator places fields =
+    and_then (or_fault fault.Time (written_time unit separator (field_at places.time fields))) (λ time. and_then (word_in order places.word fields) (λ raw.
     Ok (record { time = time; name = field_at places.name fields; raw = raw })))
 
 -- what a row writes by its fields, one for each column; or the first fault of it
-unfoldable pub row_of : TimeUnit → BitOrder → Mark → Places → List (List ℕ) → Result Written RowFault
-row_of unit order mark places fields = if fits places (width_of fields) then row_in unit order mark places fields else Err fault.Fields
+unfoldable pub row_of : TimeUnit → BitOrder → Separator → Places → List (List ℕ) → Result Written RowFault
+row_of unit order separator places fields = if fits places (width_of fields) then row_in unit order separator places fields else Err fault.Fields
 
 -- a word with a time in microseconds, as a row writes it
 abbrev pub in_micros : Stated → Written

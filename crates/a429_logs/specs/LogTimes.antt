@@ -4,8 +4,8 @@ use Rattle.std.specs.List.{list_all}
 use Rattle.std.specs.Char.{is_ascii_digit}
 use Rattle.std.specs.Str.Parse.{digits_value}
 use Rattle.a429_logs.specs.LogTicks.{tick_count, tick_time}
-use Rattle.a429_logs.specs.declared.fields.Mark.{Mark}
-use Rattle.a429_logs.specs.declared.fields.Mark.TheVariants.{Semicolon}
+use Rattle.a429_logs.specs.declared.fields.Separator.{Separator}
+use Rattle.a429_logs.specs.declared.fields.Separator.TheVariants.{Semicolon}
 use Rattle.a429_logs.specs.declared.times.TimeUnit.{TimeUnit}
 use Rattle.a429_logs.specs.declared.times.TimeUnit.TheVariants.{Nanoseconds, Microseconds, Milliseconds, Seconds, Ticks}
 
@@ -30,7 +30,7 @@ decimals Seconds = 6
 decimals _ = 0
 
 -- what separates whole units from decimals: a point, and between semicolons a comma too
-abbrev pub is_point : Mark → ℕ → Bool
+abbrev pub is_point : Separator → ℕ → Bool
 is_point Semicolon b = b == 46 || b == 44
 is_point _ b = b == 46
 
@@ -77,13 +77,13 @@ time_by unit text None = whole_time unit text
 time_by unit text (Some k) = parted_time unit (take k text) (drop (k + 1) text)
 
 -- the microseconds that a decimal number of a unit states
-unfoldable pub decimal_time : TimeUnit → Mark → List ℕ → Option ℕ
-decimal_time unit mark text = time_by unit text (position (is_point mark) text)
+unfoldable pub decimal_time : TimeUnit → Separator → List ℕ → Option ℕ
+decimal_time unit separator text = time_by unit text (position (is_point separator) text)
 
 -- the microseconds that a text states in a unit
-abbrev pub time_of : TimeUnit → Mark → List ℕ → Option ℕ
-time_of (Ticks nanoseconds) mark text = tick_time nanoseconds text
-time_of unit mark text = decimal_time unit mark text
+abbrev pub time_of : TimeUnit → Separator → List ℕ → Option ℕ
+time_of (Ticks nanoseconds) separator text = tick_time nanoseconds text
+time_of unit separator text = decimal_time unit separator text
 
 -- ---- what can be a time
 

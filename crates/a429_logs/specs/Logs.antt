@@ -1,15 +1,16 @@
 -- Logs of words, as recorders write them (profile: log): what their lines state, in order, up to the first fault.
 use Rattle.std.specs.Prelude.{◌==◌, ◌&&◌, ◌||◌, ◌+◌, ◌-◌, ◌^◌, ◌≤◌, ◌∷◌, ◌++◌, [], ⊤, ℕ, Bool, true, false, List, Option, Some, None, Result, Ok, Err, if◌then◌else◌, is_ok, map, min, nat_lt, not, unwrap_or}
+use Rattle.a429_text.specs.CutText.{without_byte_order_mark}
 use Rattle.a429_logs.specs.Calendars.{Timed, timed_row}
 use Rattle.a429_logs.specs.LogColumns.{columns_of, is_heading, names_of, plain_places, width_of}
-use Rattle.a429_logs.specs.LogFields.{fields_of, mark_in, parts_of, trimmed, without_byte_order_mark}
+use Rattle.a429_logs.specs.LogFields.{fields_of, separator_in, parts_of, trimmed}
 use Rattle.a429_logs.specs.LogRows.{Stated, field_at, row_of, stated_by}
 use Rattle.a429_logs.specs.LogTimes.{can_be_time}
 use Rattle.a429_logs.specs.declared.clocks.Clock.{Clock}
 use Rattle.a429_logs.specs.declared.columns.HeadingFault.{HeadingFault}
 use Rattle.a429_logs.specs.declared.columns.Places.{Places}
-use Rattle.a429_logs.specs.declared.fields.Mark.{Mark}
-use Rattle.a429_logs.specs.declared.fields.Mark.TheVariants.{LineFeed}
+use Rattle.a429_logs.specs.declared.fields.Separator.{Separator}
+use Rattle.a429_logs.specs.declared.fields.Separator.TheVariants.{LineFeed}
 use Rattle.a429_logs.specs.declared.reader.LogFault.{LogFault}
 use Rattle.a429_logs.specs.declared.reading.LineFault.{LineFault}
 use Rattle.a429_logs.specs.declared.reading.LineFault.TheVariants.{Heading, Row}
@@ -91,7 +92,7 @@ with_calendar reading shape (Ok timed) = with_clock reading shape timed (on_cloc
 -- the word of a row in a form
 abbrev pub word_of_row : Reading → List ℕ → Shape → Result Timed RowFault
 word_of_row reading line shape =
-    timed_row reading.dates reading.calendar (row_of shape.unit reading.order shape.mark shape.places (fields_of shape.mark line))
+    timed_row reading.dates reading.calendar (row_of shape.unit reading.order shape.separator shape.places (fields_of shape.separator line))
 
 abbrev pub read_row : Reading → List ℕ → Shape → LineRead
 read_row reading line shape = with_calendar reading shape (word_of_row reading line shape)
@@ -105,23 +106,23 @@ abbrev pub unit_for : Option TimeUnit → Option TimeUnit → TimeUnit
 unit_for (Some unit) heading = unit
 unit_for None heading = unwrap_or heading Microseconds
 
-abbrev pub with_heading : Reading → Mark → Result Places HeadingFault → LineRead
-with_heading reading mark (Err why) = record { next = reading; states = Err (Heading why) }
-with_heading reading mark (Ok places) =
+abbrev pub with_heading : Reading → Separator → Result Places HeadingFault → LineRead
+with_heading reading separator (Err why) = record { next = reading; states = Err (Heading why) }
+with_heading reading separator (Ok places) =
     record {
-      next = record reading { shape = Some (record { mark = mark; unit = unit_for reading.unit places.unit; places = places }) };
+      next = record reading { shape = Some (record { separator = separator; unit = unit_for reading.unit places.unit; places = places }) };
       states = Ok None;
     }
 
--- the first line that is not passed over is a heading or a row, and its marks are those of all lines
-abbrev pub read_first : Reading → List ℕ → Mark → LineRead
-read_first reading line mark =
-    if is_heading (unit_for reading.unit None) (names_of (renames_of reading) (fields_of mark line))
-    then with_heading reading mark (columns_of (renames_of reading) (fields_of mark line))
-    else read_row reading line (record { mark = mark; unit = unit_for reading.unit None; places = plain_places })
+-- the first line that is not passed over is a heading or a row, and its separators are those of all lines
+abbrev pub read_first : Reading → List ℕ → Separator → LineRead
+read_first reading line separator =
+    if is_heading (unit_for reading.unit None) (names_of (renames_of reading) (fields_of separator line))
+    then with_heading reading separator (columns_of (renames_of reading) (fields_of separator line))
+    else read_row reading line (record { separator = separator; unit = unit_for reading.unit None; places = plain_places })
 
 abbrev pub read_stated : Reading → List ℕ → Option Shape → LineRead
-read_stated reading line None = read_first reading line (mark_in line)
+read_stated reading line None = read_first reading line (separator_in line)
 read_stated reading line (Some shape) = read_row reading line shape
 
 unfoldable pub read_line : Reading → List ℕ → LineRead
@@ -134,11 +135,11 @@ read_line reading line =
 -- what a line is before the first heading or row
 abbrev pub names_columns : Reading → List ℕ → Bool
 names_columns reading line =
-    is_heading (unit_for reading.unit None) (names_of (renames_of reading) (fields_of (mark_in line) line))
-    && is_ok (columns_of (renames_of reading) (fields_of (mark_in line) line))
+    is_heading (unit_for reading.unit None) (names_of (renames_of reading) (fields_of (separator_in line) line))
+    && is_ok (columns_of (renames_of reading) (fields_of (separator_in line) line))
 
 abbrev pub is_plain_row : Reading → List ℕ → Bool
-is_plain_row reading line = is_ok (row_of (unit_for reading.unit None) reading.order (mark_in line) plain_places (fields_of (mark_in line) line))
+is_plain_row reading line = is_ok (row_of (unit_for reading.unit None) reading.order (separator_in line) plain_places (fields_of (separator_in line) line))
 
 unfoldable pub opening_line : Reading → List ℕ → OpeningLine
 opening_line reading line =
@@ -175,11 +176,11 @@ without_titles reading lines = unwrap_or (heading_from reading lines) (record { 
 
 -- a line has a field that can be its time
 abbrev pub has_time : Shape → List ℕ → Bool
-has_time shape line = can_be_time shape.unit (field_at shape.places.time (fields_of shape.mark line))
+has_time shape line = can_be_time shape.unit (field_at shape.places.time (fields_of shape.separator line))
 
 -- a line with fewer fields than the heading
 abbrev pub is_short : Shape → List ℕ → Bool
-is_short shape line = nat_lt (width_of (fields_of shape.mark line)).bare shape.places.width.bare
+is_short shape line = nat_lt (width_of (fields_of shape.separator line)).bare shape.places.width.bare
 
 abbrev pub are_passed : List (ℕ × List ℕ) → Bool
 are_passed [] = true

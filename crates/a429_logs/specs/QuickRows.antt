@@ -2,11 +2,11 @@
 use Rattle.std.specs.Prelude.{◌≡◌, ◌<◌, ◌≤◌, ◌+◌, ◌==◌, ◌||◌, ◌∷◌, ℕ, Bool, false, List, Ok, Some, drop, get_or, length, take}
 use Rattle.a429_logs.specs.Calendars.{Timed}
 use Rattle.a429_logs.specs.LogColumns.{plain_places}
-use Rattle.a429_logs.specs.LogFields.{fields_of, is_mark, is_quote, parts_of}
+use Rattle.a429_logs.specs.LogFields.{fields_of, is_separator, is_quote, parts_of}
 use Rattle.a429_logs.specs.LogRows.{Stated, in_micros, row_of, stated_by}
 use Rattle.a429_logs.specs.Logs.{is_passed_over, read_line, shown_line}
 use Rattle.a429_logs.specs.declared.calendars.Calendar.TheVariants.{Units}
-use Rattle.a429_logs.specs.declared.fields.Mark.TheVariants.{Blank, LineFeed}
+use Rattle.a429_logs.specs.declared.fields.Separator.TheVariants.{Blank, LineFeed}
 use Rattle.a429_logs.specs.declared.reading.Reading.{Reading}
 use Rattle.a429_logs.specs.declared.reading.Shape.{Shape}
 use Rattle.a429_logs.specs.declared.rows.StatedWord.{StatedWord}
@@ -19,7 +19,7 @@ is_gap b = b == 32 || b == 9
 
 -- a byte at which a name ends, or which has to be read another way
 abbrev pub ends_name : ℕ → Bool
-ends_name b = is_quote b || is_mark Blank b
+ends_name b = is_quote b || is_separator Blank b
 
 -- a word with its time in the unit of the log
 abbrev pub in_units : StatedWord → Timed
@@ -42,7 +42,7 @@ pub record StartsPlain (order : BitOrder) (text : List ℕ) (end : ℕ) (word : 
 
 -- the form of such rows, in a log with times in a unit
 abbrev pub plain_shape : Shape
-plain_shape = record { mark = Blank; unit = Microseconds; places = plain_places }
+plain_shape = record { separator = Blank; unit = Microseconds; places = plain_places }
 
 pub record IsPlain (reading : Reading) : Type 0 where
   pub shape : reading.shape ≡ Some plain_shape

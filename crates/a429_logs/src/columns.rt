@@ -5,7 +5,7 @@ ghost use Rattle.a429_logs.specs.LogFields.{fields_of};
 ghost use Rattle.a429_logs.specs.declared.cells.Column.TheVariants.{DecimalLabel, Hex, HexLabel, Label};
 
 use crate::cells::{Column, Found};
-use crate::fields::{Fields, Mark};
+use crate::fields::{Fields, Separator};
 use crate::times::{TimeUnit, can_be_time};
 use a429_text::renames::renamed;
 
@@ -75,12 +75,12 @@ impl Width {
     }
 
     /// The width of a line.
-    pub fn of(mark: Mark, line: &[u8]) -> Width
-        ensures width { result ≡ width_of (fields_of mark line.now) }
-        ensures all { result.all ≡ length (fields_of mark line.now) }
+    pub fn of(separator: Separator, line: &[u8]) -> Width
+        ensures width { result ≡ width_of (fields_of separator line.now) }
+        ensures all { result.all ≡ length (fields_of separator line.now) }
     {
         let mut width = Width { all: 0, bare: 0 };
-        let mut fields = Fields::of(mark, line);
+        let mut fields = Fields::of(separator, line);
         for place in 0..line.len() + 1 {
             let Some(field) = fields.next() else {
                 return width;
@@ -112,10 +112,10 @@ impl Places {
     }
 }
 
-/// A log's first line, cut at these marks.
+/// A log's first line, cut at these separators.
 #[derive(Clone, Copy)]
 pub struct Heading<'a> {
-    pub mark: Mark,
+    pub separator: Separator,
     pub line: &'a [u8],
     /// Texts FROM=TO. A field FROM counts as TO.
     pub renames: &'a [&'a str],
@@ -126,7 +126,7 @@ impl Heading<'_> {
     pub fn is_heading(&self, unit: TimeUnit) -> bool
         ensures { result ≡ is_heading unit (names_in self.now) }
     {
-        let mut fields = Fields::of(self.mark, self.line);
+        let mut fields = Fields::of(self.separator, self.line);
         match fields.next() {
             Some(first) => !can_be_time(unit, renamed(self.renames, first)),
             None => !can_be_time(unit, &[]),
@@ -138,7 +138,7 @@ impl Heading<'_> {
         ensures { result ≡ found_in (names_in self.now) column }
     {
         let mut found = Found::Absent;
-        let mut fields = Fields::of(self.mark, self.line);
+        let mut fields = Fields::of(self.separator, self.line);
         for place in 0..self.line.len() + 1 {
             let Some(name) = fields.next() else {
                 return found;
@@ -301,13 +301,13 @@ impl Heading<'_> {
     /// with one that it has twice or more.
     #[tactic(auto, unfolding(crate::specs::LogColumns::places_of))]
     pub fn places(&self) -> Result<Places, HeadingFault>
-        ensures { result ≡ places_of (width_of (fields_of self.now.mark self.now.line.now)) (names_in self.now) }
+        ensures { result ≡ places_of (width_of (fields_of self.now.separator self.now.line.now)) (names_in self.now) }
     {
         let time = self.place(Column::Time)?;
         let name = self.place(Column::Name)?;
         let word = self.word_places()?;
         Ok(Places {
-            width: Width::of(self.mark, self.line),
+            width: Width::of(self.separator, self.line),
             unit: self.unit(),
             time,
             name,

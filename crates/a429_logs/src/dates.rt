@@ -3,11 +3,11 @@ ghost use Rattle.std.specs.Prelude.{◌≡◌, ◌≤◌, ◌<◌, IfSome, lengt
 ghost use Rattle.a429_logs.specs.LateDates.{date_at, day_in_month, end_or, is_month, last_end, late_by, late_date, late_date_of, late_time, month_named, numbered, pointed_date};
 ghost use Rattle.a429_logs.specs.LogDates.{if_some, or_second, shown_three, three_of};
 ghost use Rattle.a429_logs.specs.LogFields.{parts_of};
-ghost use Rattle.a429_logs.specs.declared.fields.Mark.TheVariants.{Dash, Slash};
+ghost use Rattle.a429_logs.specs.declared.fields.Separator.TheVariants.{Dash, Slash};
 ghost use Rattle.a429_logs.specs.LogTimes.{two_digits};
 
 use crate::cells::is_named;
-use crate::fields::{Mark, Parts};
+use crate::fields::{Parts, Separator};
 use crate::gregorian::{days_before, is_leap, month_length};
 use crate::times::{two_digits, within};
 use crate::written::{
@@ -138,7 +138,7 @@ fn pointed_date(time: u64, parts: &ThreeParts<'_>) -> Option<WrittenTime>
 }
 
 /// A date between dashes or slashes, if it is one.
-fn marked_date(time: u64, text: &[u8]) -> Option<WrittenTime>
+fn separated_date(time: u64, text: &[u8]) -> Option<WrittenTime>
     requires { time < 86400000000 }
     ensures { result ≡ if_some (or_second (three_of (parts_of Dash text.now)) (three_of (parts_of Slash text.now)))
         (λ t. late_date time t) }
@@ -153,10 +153,10 @@ fn late_date_of(time: u64, text: &[u8]) -> Option<WrittenTime>
     requires { time < 86400000000 }
     ensures { result ≡ late_date_of time text.now }
 {
-    if let Some(date) = marked_date(time, text) {
+    if let Some(date) = separated_date(time, text) {
         return Some(date);
     }
-    let parts = three_of(Parts::of(Mark::Point, text))?;
+    let parts = three_of(Parts::of(Separator::Point, text))?;
     pointed_date(time, &parts)
 }
 
@@ -184,22 +184,22 @@ fn last_end(text: &[u8]) -> Option<usize>
 }
 
 /// A date with the year last and a time of day, with this byte between them.
-fn late_by(mark: Mark, text: &[u8], place: usize) -> Option<WrittenTime>
+fn late_by(separator: Separator, text: &[u8], place: usize) -> Option<WrittenTime>
     requires { place < length text.now }
-    ensures { result ≡ late_by mark text.now place }
+    ensures { result ≡ late_by separator text.now place }
 {
     let time = day_time(
-        mark,
-        Parts::of(Mark::Colon, without_zone(&text[place + 1..])),
+        separator,
+        Parts::of(Separator::Colon, without_zone(&text[place + 1..])),
     )?;
     late_date_of(time, &text[..place])
 }
 
 /// The time that a date with the year last and a time of day state. `None` if the text has not this form.
 #[tactic(auto, unfolding(crate::specs::LateDates::late_time))]
-pub fn late_time(mark: Mark, text: &[u8]) -> Option<WrittenTime>
-    ensures { result ≡ late_time mark text.now }
+pub fn late_time(separator: Separator, text: &[u8]) -> Option<WrittenTime>
+    ensures { result ≡ late_time separator text.now }
 {
     let place = last_end(text)?;
-    late_by(mark, text, place)
+    late_by(separator, text, place)
 }

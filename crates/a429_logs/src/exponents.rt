@@ -7,9 +7,10 @@ ghost use Rattle.a429_logs.specs.LogExponents.{exponent_by, exponent_in, exponen
 ghost use Rattle.a429_logs.specs.LogTicks.{in_18_digits};
 ghost use Rattle.a429_logs.specs.LogTimes.{first_digits, is_point, two_digits};
 
-use crate::fields::Mark;
+use crate::fields::Separator;
 use crate::ticks::LIMIT;
-use crate::times::{TimeUnit, are_digits, digit_at, first_point, two_digits};
+use crate::times::{TimeUnit, digit_at, first_point, two_digits};
+use a429_word::are_digits;
 
 /// By how many places an exponent moves the point: to the right, or to the left.
 #[derive(Clone, Copy)]
@@ -162,33 +163,33 @@ fn parted_time(unit: TimeUnit, moves: PointMove, text: &[u8], point: usize) -> O
 }
 
 /// The microseconds of a mantissa, if its point then moves. `None` if it is no mantissa, or if these are 10^18 or more.
-fn mantissa_time(unit: TimeUnit, mark: Mark, moves: PointMove, text: &[u8]) -> Option<u64>
+fn mantissa_time(unit: TimeUnit, separator: Separator, moves: PointMove, text: &[u8]) -> Option<u64>
     requires { moves.right ≤ 99 }
-    ensures { result ≡ mantissa_time unit moves text.now (position (is_point mark) text.now) }
+    ensures { result ≡ mantissa_time unit moves text.now (position (is_point separator) text.now) }
 {
-    match first_point(mark, text) {
+    match first_point(separator, text) {
         None => whole_time(unit, moves, text),
         Some(point) => parted_time(unit, moves, text, point),
     }
 }
 
 /// The time that a mantissa and an exponent state.
-fn number_time(unit: TimeUnit, mark: Mark, text: &[u8]) -> Option<u64>
-    ensures { result ≡ exponent_by unit mark text.now (position is_exponent_mark text.now) }
+fn number_time(unit: TimeUnit, separator: Separator, text: &[u8]) -> Option<u64>
+    ensures { result ≡ exponent_by unit separator text.now (position is_exponent_mark text.now) }
 {
     let place = exponent_mark(text)?;
     let moves = exponent_in(&text[place + 1..])?;
-    mantissa_time(unit, mark, moves, &text[..place])
+    mantissa_time(unit, separator, moves, &text[..place])
 }
 
 /// The time in microseconds, below 10^18, that a number with an exponent states in a unit, such as `3.60e-04`. Decimals below
 /// a microsecond are dropped. `None` if the text is no such number, or if the unit is ticks.
 #[tactic(auto, unfolding(crate::specs::LogExponents::exponent_time))]
-pub fn exponent_time(unit: TimeUnit, mark: Mark, text: &[u8]) -> Option<u64>
-    ensures { result ≡ exponent_time unit mark text.now }
+pub fn exponent_time(unit: TimeUnit, separator: Separator, text: &[u8]) -> Option<u64>
+    ensures { result ≡ exponent_time unit separator text.now }
 {
     match unit {
         TimeUnit::Ticks(_) => None,
-        _ => number_time(unit, mark, text),
+        _ => number_time(unit, separator, text),
     }
 }

@@ -2,13 +2,13 @@
 ghost use Rattle.std.specs.Prelude.{◌≡◌, ◌<◌, ◌∷◌, [], Some, None, IfSome, MatchOption, filter_map, length, option_map, position};
 ghost use Rattle.std.specs.List.{list_any};
 ghost use Rattle.std.specs.Prelude.{false};
-ghost use Rattle.a429_logs.specs.LogFields.{Takes, ends_part, field_in, fields_left, fields_of, first_outside, has_mark, has_quotes, is_mark, is_quote, is_quoted, line_fields_left, mark_in, parts_in, parts_left, parts_of, quoted_field_in, quoted_left, quoted_parts, trimmed, turned, unquoted, without_byte_order_mark};
+ghost use Rattle.a429_logs.specs.LogFields.{Takes, ends_part, field_in, fields_left, fields_of, first_outside, has_separator, has_quotes, is_separator, is_quote, is_quoted, line_fields_left, separator_in, parts_in, parts_left, parts_of, quoted_field_in, quoted_left, quoted_parts, trimmed, turned, unquoted};
 
 use memchr::memchr;
 
 /// What ends a line of a log, a field of a line, or a part of a time or a date.
 #[derive(Clone, Copy, PartialEq, Eq)]
-pub enum Mark {
+pub enum Separator {
     LineFeed,
     /// A space, a tab, a carriage return or a form feed.
     Blank,
@@ -24,49 +24,49 @@ pub enum Mark {
     Point,
 }
 
-impl Mark {
-    /// Whether a byte is this mark.
+impl Separator {
+    /// Whether a byte is this separator.
     fn is(self, byte: u8) -> bool
-        ensures { result ≡ is_mark self byte }
+        ensures { result ≡ is_separator self byte }
     {
         match self {
-            Mark::LineFeed => byte == b'\n',
-            Mark::Blank => byte.is_ascii_whitespace(),
-            Mark::Comma => byte == b',',
-            Mark::Semicolon => byte == b';',
-            Mark::Colon => byte == b':',
-            Mark::Dash => byte == b'-',
-            Mark::Slash => byte == b'/',
-            Mark::Point => byte == b'.',
+            Separator::LineFeed => byte == b'\n',
+            Separator::Blank => byte.is_ascii_whitespace(),
+            Separator::Comma => byte == b',',
+            Separator::Semicolon => byte == b';',
+            Separator::Colon => byte == b':',
+            Separator::Dash => byte == b'-',
+            Separator::Slash => byte == b'/',
+            Separator::Point => byte == b'.',
         }
     }
 
-    /// The place of the first such mark.
+    /// The place of the first such separator.
     #[inline(always)]
     fn first(self, text: &[u8]) -> Option<usize>
-        ensures { result ≡ position (is_mark self) text.now }
+        ensures { result ≡ position (is_separator self) text.now }
     {
         match self {
-            Mark::LineFeed => memchr(b'\n', text),
+            Separator::LineFeed => memchr(b'\n', text),
             _ => text.iter().position(|byte| self.is(*byte)),
         }
     }
 
-    /// Whether a text has such a mark.
+    /// Whether a text has such a separator.
     fn is_in(self, text: &[u8]) -> bool
-        ensures { result ≡ list_any (is_mark self) text.now }
+        ensures { result ≡ list_any (is_separator self) text.now }
     {
         text.iter().any(|byte| self.is(*byte))
     }
 
-    /// Whether a byte is this mark, outside quotes.
+    /// Whether a byte is this separator, outside quotes.
     fn ends_part(self, inside: bool, byte: u8) -> bool
         ensures { result ≡ ends_part self inside byte }
     {
         !inside && self.is(byte)
     }
 
-    /// The place of the first such mark outside quotes.
+    /// The place of the first such separator outside quotes.
     fn first_outside(self, text: &[u8]) -> Option<usize>
         ensures place { result ≡ first_outside self false text.now }
         ensures within { IfSome result (λ place. place < length text.now) }
@@ -81,9 +81,9 @@ impl Mark {
         None
     }
 
-    /// Whether a line has such a mark outside quotes.
+    /// Whether a line has such a separator outside quotes.
     fn is_in_line(self, line: &[u8]) -> bool
-        ensures { result ≡ has_mark self line.now }
+        ensures { result ≡ has_separator self line.now }
     {
         if has_quotes(line) {
             self.first_outside(line).is_some()
@@ -94,16 +94,16 @@ impl Mark {
 
     /// What separates the fields of a log with this first line: semicolons if it has one, otherwise commas if it has
     /// one, otherwise blanks.
-    #[tactic(auto, unfolding(crate::specs::LogFields::mark_in))]
-    pub fn in_line(line: &[u8]) -> Mark
-        ensures { result ≡ mark_in line.now }
+    #[tactic(auto, unfolding(crate::specs::LogFields::separator_in))]
+    pub fn in_line(line: &[u8]) -> Separator
+        ensures { result ≡ separator_in line.now }
     {
-        if Mark::Semicolon.is_in_line(line) {
-            Mark::Semicolon
-        } else if Mark::Comma.is_in_line(line) {
-            Mark::Comma
+        if Separator::Semicolon.is_in_line(line) {
+            Separator::Semicolon
+        } else if Separator::Comma.is_in_line(line) {
+            Separator::Comma
         } else {
-            Mark::Blank
+            Separator::Blank
         }
     }
 }
@@ -158,24 +158,14 @@ pub fn trimmed(text: &[u8]) -> &[u8]
     text.trim_ascii()
 }
 
-/// A text without the byte order mark at its beginning (UTF-8), if it has one.
-pub fn without_byte_order_mark(text: &[u8]) -> &[u8]
-    ensures { result.now ≡ without_byte_order_mark text.now }
-{
-    match text {
-        [0xEF, 0xBB, 0xBF, rest @ ..] => rest,
-        _ => text,
-    }
-}
-
 /// Takes the first part of what is left of a text. `None` if nothing is left.
 #[inline(always)]
-pub fn next_part<'a>(mark: Mark, left: &mut Option<&'a [u8]>) -> Option<&'a [u8]>
-    ensures taken { Takes (λ part. part.now) result (parts_in mark left.old) (parts_in mark left.new) }
+pub fn next_part<'a>(separator: Separator, left: &mut Option<&'a [u8]>) -> Option<&'a [u8]>
+    ensures taken { Takes (λ part. part.now) result (parts_in separator left.old) (parts_in separator left.new) }
     ensures ended { result ≡ None → (left.old ≡ None) × (left.new ≡ None) }
 {
     let text = (*left)?;
-    match mark.first(text) {
+    match separator.first(text) {
         Some(end) => {
             *left = Some(&text[end + 1..]);
             Some(&text[..end])
@@ -187,21 +177,21 @@ pub fn next_part<'a>(mark: Mark, left: &mut Option<&'a [u8]>) -> Option<&'a [u8]
     }
 }
 
-/// The parts of a text before, between and after marks, as long as some are left.
+/// The parts of a text before, between and after separators, as long as some are left.
 #[derive(Clone, Copy)]
 pub struct Parts<'a> {
-    mark: Mark,
+    separator: Separator,
     left: Option<&'a [u8]>,
 }
 
 impl<'a> Parts<'a> {
     /// All parts of a text.
-    pub fn of(mark: Mark, text: &'a [u8]) -> Parts<'a>
-        ensures mark { result.mark ≡ mark }
-        ensures parts { parts_left result ≡ parts_of mark text.now }
+    pub fn of(separator: Separator, text: &'a [u8]) -> Parts<'a>
+        ensures separator { result.separator ≡ separator }
+        ensures parts { parts_left result ≡ parts_of separator text.now }
     {
         Parts {
-            mark,
+            separator,
             left: Some(text),
         }
     }
@@ -209,48 +199,48 @@ impl<'a> Parts<'a> {
     /// Takes the next part. `None` if none is left.
     #[inline(always)]
     pub fn next(&mut self) -> Option<&'a [u8]>
-        ensures mark { self.new.mark ≡ self.old.mark }
+        ensures separator { self.new.separator ≡ self.old.separator }
         ensures taken { Takes (λ part. part.now) result (parts_left self.old) (parts_left self.new) }
     {
-        next_part(self.mark, &mut self.left)
+        next_part(self.separator, &mut self.left)
     }
 }
 
-/// The field of a part between two marks: between blanks nothing is no field.
-fn field_in(mark: Mark, part: &[u8]) -> Option<&[u8]>
-    ensures { option_map (λ field. field.now) result ≡ field_in mark part.now }
+/// The field of a part between two separators: between blanks nothing is no field.
+fn field_in(separator: Separator, part: &[u8]) -> Option<&[u8]>
+    ensures { option_map (λ field. field.now) result ≡ field_in separator part.now }
 {
-    match mark {
-        Mark::Blank => { if part.is_empty() { None } else { Some(part) } }
+    match separator {
+        Separator::Blank => { if part.is_empty() { None } else { Some(part) } }
         _ => Some(trimmed(part)),
     }
 }
 
 /// The field of a part of a line with quotes.
-fn quoted_field_in(mark: Mark, part: &[u8]) -> Option<&[u8]>
-    ensures { option_map (λ field. field.now) result ≡ quoted_field_in mark part.now }
+fn quoted_field_in(separator: Separator, part: &[u8]) -> Option<&[u8]>
+    ensures { option_map (λ field. field.now) result ≡ quoted_field_in separator part.now }
 {
-    match field_in(mark, part) {
+    match field_in(separator, part) {
         Some(field) => Some(unquoted(field)),
         None => None,
     }
 }
 
-/// The parts of a text before, between and after marks outside quotes, as long as some are left.
+/// The parts of a text before, between and after separators outside quotes, as long as some are left.
 #[derive(Clone, Copy)]
 pub struct QuotedParts<'a> {
-    mark: Mark,
+    separator: Separator,
     left: Option<&'a [u8]>,
 }
 
 impl<'a> QuotedParts<'a> {
     /// Takes the next part. `None` if none is left.
     fn next(&mut self) -> Option<&'a [u8]>
-        ensures mark { self.new.mark ≡ self.old.mark }
+        ensures separator { self.new.separator ≡ self.old.separator }
         ensures taken { Takes (λ part. part.now) result (quoted_left self.old) (quoted_left self.new) }
     {
         let text = self.left?;
-        match self.mark.first_outside(text) {
+        match self.separator.first_outside(text) {
             Some(end) => {
                 self.left = Some(&text[end + 1..]);
                 Some(&text[..end])
@@ -264,12 +254,12 @@ impl<'a> QuotedParts<'a> {
 
     /// Takes the next field. `None` if none is left.
     fn next_field(&mut self) -> Option<&'a [u8]>
-        ensures mark { self.new.mark ≡ self.old.mark }
-        ensures taken { Takes (λ field. field.now) result (filter_map (quoted_field_in self.old.mark) (quoted_left self.old))
-            (filter_map (quoted_field_in self.old.mark) (quoted_left self.new)) }
+        ensures separator { self.new.separator ≡ self.old.separator }
+        ensures taken { Takes (λ field. field.now) result (filter_map (quoted_field_in self.old.separator) (quoted_left self.old))
+            (filter_map (quoted_field_in self.old.separator) (quoted_left self.new)) }
     {
         while let Some(part) = self.next() {
-            if let Some(field) = quoted_field_in(self.mark, part) {
+            if let Some(field) = quoted_field_in(self.separator, part) {
                 return Some(field);
             }
         }
@@ -280,12 +270,12 @@ impl<'a> QuotedParts<'a> {
 impl<'a> Parts<'a> {
     /// Takes the next field. `None` if none is left.
     fn next_field(&mut self) -> Option<&'a [u8]>
-        ensures mark { self.new.mark ≡ self.old.mark }
-        ensures taken { Takes (λ field. field.now) result (filter_map (field_in self.old.mark) (parts_left self.old))
-            (filter_map (field_in self.old.mark) (parts_left self.new)) }
+        ensures separator { self.new.separator ≡ self.old.separator }
+        ensures taken { Takes (λ field. field.now) result (filter_map (field_in self.old.separator) (parts_left self.old))
+            (filter_map (field_in self.old.separator) (parts_left self.new)) }
     {
         while let Some(part) = self.next() {
-            if let Some(field) = field_in(self.mark, part) {
+            if let Some(field) = field_in(self.separator, part) {
                 return Some(field);
             }
         }
@@ -311,16 +301,16 @@ pub struct Fields<'a> {
 impl<'a> Fields<'a> {
     /// All fields of a line.
     #[tactic(auto, unfolding(crate::specs::LogFields::fields_of))]
-    pub fn of(mark: Mark, line: &'a [u8]) -> Fields<'a>
-        ensures { fields_left result ≡ fields_of mark line.now }
+    pub fn of(separator: Separator, line: &'a [u8]) -> Fields<'a>
+        ensures { fields_left result ≡ fields_of separator line.now }
     {
         let parts = if has_quotes(line) {
             LineParts::Quoted(QuotedParts {
-                mark,
+                separator,
                 left: Some(line),
             })
         } else {
-            LineParts::Plain(Parts::of(mark, line))
+            LineParts::Plain(Parts::of(separator, line))
         };
         Fields { parts }
     }

@@ -43,7 +43,7 @@ pub use calendars::{Calendar, DateSpan, Span};
 pub use cells::Column;
 pub use clocks::Clock;
 pub use columns::{Base, HeadingFault, PartsPlaces, Places, ValuePlace, Width, WordPlaces};
-pub use fields::{Fields, Mark};
+pub use fields::{Fields, Separator};
 pub use reader::{LogFault, LogPoint, LogReader, LogWord, PassedOver};
 pub use reading::{LineFault, Reading, Shape};
 pub use rows::{RowFault, StatedWord};

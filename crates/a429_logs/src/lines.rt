@@ -1,8 +1,9 @@
 //! The lines of a log that comes in pieces.
 ghost use Rattle.std.specs.Prelude.{◌≡◌, ◌≤◌, ◌∷◌, [], MatchOption, None, length};
 
-use crate::fields::{Mark, next_part, without_byte_order_mark};
+use crate::fields::{Separator, next_part};
 use crate::reading::{Shape, is_passed_over};
+use a429_text::cut::without_byte_order_mark;
 
 /// The lines of a log, with their numbers from 1, as long as some are left.
 #[derive(Clone, Copy)]
@@ -94,7 +95,7 @@ impl<'t> Lines<'t> {
         ensures next { next_in self.new ≡ next_in self.old }
         ensures between { result ≡ None → IsBetweenIn self.old × IsBetweenIn self.new }
     {
-        let text = next_part(Mark::LineFeed, &mut self.here)?;
+        let text = next_part(Separator::LineFeed, &mut self.here)?;
         self.taken = self.taken.saturating_add(1);
         Some((self.taken, text))
     }

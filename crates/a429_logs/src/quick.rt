@@ -5,11 +5,11 @@ ghost use Rattle.a429_logs.specs.LogFields.{fields_of};
 ghost use Rattle.a429_logs.specs.LogRows.{in_micros, row_of, stated_by};
 ghost use Rattle.a429_logs.specs.LogTimes.{decimal_digits};
 ghost use Rattle.a429_logs.specs.QuickRows.{IsWordSize, StartsPlain, ends_name, is_gap};
-ghost use Rattle.a429_logs.specs.declared.fields.Mark.TheVariants.{Blank};
+ghost use Rattle.a429_logs.specs.declared.fields.Separator.TheVariants.{Blank};
 ghost use Rattle.a429_logs.specs.declared.times.TimeUnit.TheVariants.{Microseconds};
 
 use crate::columns::{Places, WordPlaces};
-use crate::fields::Mark;
+use crate::fields::Separator;
 use crate::hexadecimal::eight_digits;
 use crate::rows::StatedWord;
 use crate::times::TimeUnit;
@@ -17,11 +17,11 @@ use crate::words::{BitOrder, whole_word};
 
 /// Whether rows are times in microseconds, names and words between blanks, as most are.
 #[inline(always)]
-pub fn is_plain(unit: TimeUnit, mark: Mark, places: &Places) -> bool
-    ensures { result ≡ true → (unit ≡ Microseconds) × (mark ≡ Blank) × (places.now ≡ plain_places) }
+pub fn is_plain(unit: TimeUnit, separator: Separator, places: &Places) -> bool
+    ensures { result ≡ true → (unit ≡ Microseconds) × (separator ≡ Blank) × (places.now ≡ plain_places) }
 {
-    match (unit, mark, places.word) {
-        (TimeUnit::Microseconds, Mark::Blank, WordPlaces::Whole(2)) => {
+    match (unit, separator, places.word) {
+        (TimeUnit::Microseconds, Separator::Blank, WordPlaces::Whole(2)) => {
             places.width.all == 3
                 && places.width.bare == 3
                 && places.unit.is_none()
@@ -143,13 +143,13 @@ pub fn plain_start(order: BitOrder, text: &[u8]) -> Option<(StatedWord<'_>, usiz
 pub fn quick_word<'a>(
     unit: TimeUnit,
     order: BitOrder,
-    mark: Mark,
+    separator: Separator,
     places: &Places,
     line: &'a [u8],
 ) -> Option<StatedWord<'a>>
-    ensures { IfSome result (λ w. row_of unit order mark places.now (fields_of mark line.now) ≡ Ok (in_micros (stated_by w))) }
+    ensures { IfSome result (λ w. row_of unit order separator places.now (fields_of separator line.now) ≡ Ok (in_micros (stated_by w))) }
 {
-    if is_plain(unit, mark, places) {
+    if is_plain(unit, separator, places) {
         plain_row(order, line)
     } else {
         None

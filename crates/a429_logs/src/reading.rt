@@ -1,7 +1,7 @@
 //! The lines of a log.
 ghost use Rattle.std.specs.Prelude.{◌≡◌, [], IfSome, None, Ok, Some, false, true};
 ghost use Rattle.a429_logs.specs.LogColumns.{plain_places};
-ghost use Rattle.a429_logs.specs.LogFields.{mark_in};
+ghost use Rattle.a429_logs.specs.LogFields.{separator_in};
 ghost use Rattle.a429_logs.specs.Calendars.{shown_timed, timed_by};
 ghost use Rattle.a429_logs.specs.declared.calendars.Calendar.TheVariants.{Open, Units};
 ghost use Rattle.a429_logs.specs.QuickRows.{IsPlain, TakesRow, in_units};
@@ -11,7 +11,7 @@ ghost use Rattle.a429_logs.specs.Logs.{has_time, is_no_row, is_passed, is_passed
 use crate::calendars::{Calendar, TimedWord};
 use crate::clocks::Clock;
 use crate::columns::{Heading, HeadingFault, Places, Width, WordPlaces};
-use crate::fields::{Mark, trimmed};
+use crate::fields::{Separator, trimmed};
 use crate::quick::{is_plain, plain_start, quick_word};
 use crate::rows::{RowFault, StatedWord, field_at, row_of};
 use crate::times::{TimeUnit, can_be_time};
@@ -21,7 +21,7 @@ use crate::written::DateOrder;
 /// What separates the fields of a log, and which columns it has.
 #[derive(Clone, Copy)]
 pub struct Shape {
-    pub mark: Mark,
+    pub separator: Separator,
     /// The unit of times.
     pub unit: TimeUnit,
     pub places: Places,
@@ -29,11 +29,11 @@ pub struct Shape {
 
 impl Shape {
     /// A log without a heading: each line is a time, a name and a word.
-    fn plain(mark: Mark, unit: TimeUnit) -> Shape
-        ensures { result ≡ record { mark = mark; unit = unit; places = plain_places } }
+    fn plain(separator: Separator, unit: TimeUnit) -> Shape
+        ensures { result ≡ record { separator = separator; unit = unit; places = plain_places } }
     {
         Shape {
-            mark,
+            separator,
             unit,
             places: Places {
                 width: Width { all: 3, bare: 3 },
@@ -51,14 +51,14 @@ impl Shape {
     fn has_time(&self, line: &[u8]) -> bool
         ensures { result ≡ has_time self.now line.now }
     {
-        can_be_time(self.unit, field_at(self.mark, line, self.places.time))
+        can_be_time(self.unit, field_at(self.separator, line, self.places.time))
     }
 
     /// Whether a line has fewer fields than the heading.
     pub fn is_short(&self, line: &[u8]) -> bool
         ensures { result ≡ is_short self.now line.now }
     {
-        Width::of(self.mark, line).bare < self.places.width.bare
+        Width::of(self.separator, line).bare < self.places.width.bare
     }
 
     /// Whether a line is no row, since it is passed over or has no time.
@@ -209,7 +209,7 @@ impl<'a> Reading<'a> {
     fn word_of_row<'b>(&self, line: &'b [u8], shape: &Shape) -> Result<TimedWord<'b>, RowFault>
         ensures { shown_timed result ≡ word_of_row self.now line.now shape.now }
     {
-        match row_of(shape.unit, self.order, shape.mark, &shape.places, line) {
+        match row_of(shape.unit, self.order, shape.separator, &shape.places, line) {
             Ok(row) => self.calendar.timed(self.dates, row),
             Err(why) => Err(why),
         }
@@ -256,7 +256,7 @@ impl<'a> Reading<'a> {
         if !self.calendar.is_of_units() {
             return None;
         }
-        let word = quick_word(shape.unit, self.order, shape.mark, &shape.places, line)?;
+        let word = quick_word(shape.unit, self.order, shape.separator, &shape.places, line)?;
         Some(TimedWord {
             word,
             calendar: Calendar::Units,
@@ -287,7 +287,7 @@ impl<'a> Reading<'a> {
     {
         match &self.shape {
             Some(shape) => {
-                self.calendar.is_of_units() && is_plain(shape.unit, shape.mark, &shape.places)
+                self.calendar.is_of_units() && is_plain(shape.unit, shape.separator, &shape.places)
             }
             None => false,
         }
@@ -312,22 +312,26 @@ impl<'a> Reading<'a> {
     #[cold]
     #[inline(never)]
     fn first<'b>(&mut self, line: &'b [u8]) -> Result<Option<StatedWord<'b>>, LineFault>
-        ensures { shown_line self.new result ≡ read_first self.old line.now (mark_in line.now) }
+        ensures { shown_line self.new result ≡ read_first self.old line.now (separator_in line.now) }
     {
-        let mark = Mark::in_line(line);
+        let separator = Separator::in_line(line);
         let heading = Heading {
-            mark,
+            separator,
             line,
             renames: self.renames,
         };
         let unit = self.unit_for(None);
         if !heading.is_heading(unit) {
-            return self.row(line, Shape::plain(mark, unit));
+            return self.row(line, Shape::plain(separator, unit));
         }
         match heading.places() {
             Ok(places) => {
                 let unit = self.unit_for(places.unit);
-                self.shape = Some(Shape { mark, unit, places });
+                self.shape = Some(Shape {
+                    separator,
+                    unit,
+                    places,
+                });
                 Ok(None)
             }
             Err(why) => Err(LineFault::Heading(why)),
@@ -339,7 +343,7 @@ impl<'a> Reading<'a> {
         ensures { result ≡ names_columns self.now line.now }
     {
         let heading = Heading {
-            mark: Mark::in_line(line),
+            separator: Separator::in_line(line),
             line,
             renames: self.renames,
         };
@@ -350,8 +354,8 @@ impl<'a> Reading<'a> {
     fn is_plain_row(&self, line: &[u8]) -> bool
         ensures { result ≡ is_plain_row self.now line.now }
     {
-        let shape = Shape::plain(Mark::in_line(line), self.unit_for(None));
-        row_of(shape.unit, self.order, shape.mark, &shape.places, line).is_ok()
+        let shape = Shape::plain(Separator::in_line(line), self.unit_for(None));
+        row_of(shape.unit, self.order, shape.separator, &shape.places, line).is_ok()
     }
 
     /// What a line is above the first row.

@@ -10,7 +10,7 @@ ghost use Rattle.a429_logs.specs.declared.written.WrittenTime.TheVariants.{Micro
 use crate::columns::{PartsPlaces, Places, Width, WordPlaces};
 use crate::dates::late_time;
 use crate::exponents::exponent_time;
-use crate::fields::{Fields, Mark};
+use crate::fields::{Fields, Separator};
 use crate::parts::{WrittenParity, parity_in, ssm_in, written_word};
 use crate::times::{TimeUnit, time_of};
 use crate::words::{BitOrder, label_in, two_bits, value_in, whole_word};
@@ -88,15 +88,15 @@ fn caught<'a>(column: usize, place: usize, field: &'a [u8], old: &'a [u8]) -> &'
 fn row_fields<'a>(
     count: usize,
     places: &Places,
-    mark: Mark,
+    separator: Separator,
     line: &'a [u8],
 ) -> Option<RowFields<'a>>
-    ensures { option_map shown result ≡ caught_in count places.now (fields_of mark line.now) }
+    ensures { option_map shown result ≡ caught_in count places.now (fields_of separator line.now) }
 {
     let mut time: &'a [u8] = &[];
     let mut name: &'a [u8] = &[];
     let mut word: &'a [u8] = &[];
-    let mut fields = Fields::of(mark, line);
+    let mut fields = Fields::of(separator, line);
     for place in 0..count {
         let field = fields.next()?;
         time = caught(places.time, place, field, time);
@@ -110,10 +110,10 @@ fn row_fields<'a>(
 }
 
 /// The field of a line in a column.
-pub fn field_at(mark: Mark, line: &[u8], place: usize) -> &[u8]
-    ensures { result.now ≡ field_at place (fields_of mark line.now) }
+pub fn field_at(separator: Separator, line: &[u8], place: usize) -> &[u8]
+    ensures { result.now ≡ field_at place (fields_of separator line.now) }
 {
-    let mut fields = Fields::of(mark, line);
+    let mut fields = Fields::of(separator, line);
     for passed in 0..place {
         let Some(_field) = fields.next() else {
             return &[];
@@ -123,26 +123,26 @@ pub fn field_at(mark: Mark, line: &[u8], place: usize) -> &[u8]
 }
 
 /// The parity that a row states; without a column of parities it is odd.
-fn row_parity(place: Option<usize>, mark: Mark, line: &[u8]) -> Option<WrittenParity>
-    ensures { result ≡ row_parity place (fields_of mark line.now) }
+fn row_parity(place: Option<usize>, separator: Separator, line: &[u8]) -> Option<WrittenParity>
+    ensures { result ≡ row_parity place (fields_of separator line.now) }
 {
     match place {
-        Some(place) => parity_in(field_at(mark, line, place)),
+        Some(place) => parity_in(field_at(separator, line, place)),
         None => Some(WrittenParity::Odd(true)),
     }
 }
 
 /// A word by its label, SDI, SSM and data.
-fn parts_word(parts: &PartsPlaces, mark: Mark, line: &[u8]) -> Result<u32, RowFault>
-    ensures { result ≡ parts_word parts.now (fields_of mark line.now) }
+fn parts_word(parts: &PartsPlaces, separator: Separator, line: &[u8]) -> Result<u32, RowFault>
+    ensures { result ≡ parts_word parts.now (fields_of separator line.now) }
 {
-    let text = field_at(mark, line, parts.label.place);
+    let text = field_at(separator, line, parts.label.place);
     let label = label_in(parts.label.base, text).ok_or(RowFault::Label)?;
-    let sdi = two_bits(field_at(mark, line, parts.sdi)).ok_or(RowFault::Sdi)?;
-    let ssm = ssm_in(field_at(mark, line, parts.ssm)).ok_or(RowFault::Ssm)?;
-    let text = field_at(mark, line, parts.value.place);
+    let sdi = two_bits(field_at(separator, line, parts.sdi)).ok_or(RowFault::Sdi)?;
+    let ssm = ssm_in(field_at(separator, line, parts.ssm)).ok_or(RowFault::Ssm)?;
+    let text = field_at(separator, line, parts.value.place);
     let value = value_in(parts.value.base, text).ok_or(RowFault::Value)?;
-    let parity = row_parity(parts.parity, mark, line).ok_or(RowFault::Parity)?;
+    let parity = row_parity(parts.parity, separator, line).ok_or(RowFault::Parity)?;
     Ok(written_word(label, sdi, ssm, value, parity))
 }
 
@@ -150,12 +150,12 @@ fn parts_word(parts: &PartsPlaces, mark: Mark, line: &[u8]) -> Result<u32, RowFa
 fn word_in(
     order: BitOrder,
     place: &WordPlaces,
-    mark: Mark,
+    separator: Separator,
     line: &[u8],
     word: &[u8],
 ) -> Result<u32, RowFault>
-    requires { word.now ≡ field_at (word_place place.now) (fields_of mark line.now) }
-    ensures { result ≡ word_in order place.now (fields_of mark line.now) }
+    requires { word.now ≡ field_at (word_place place.now) (fields_of separator line.now) }
+    ensures { result ≡ word_in order place.now (fields_of separator line.now) }
 {
     match place {
         WordPlaces::Whole(_) => {
@@ -164,34 +164,34 @@ fn word_in(
                 None => Err(RowFault::Word),
             }
         }
-        WordPlaces::Parts(parts) => parts_word(parts, mark, line),
+        WordPlaces::Parts(parts) => parts_word(parts, separator, line),
     }
 }
 
 /// The time that a text writes by a date with the year last, or as a number with an exponent.
 #[cold]
 #[inline(never)]
-fn longer_time(unit: TimeUnit, mark: Mark, text: &[u8]) -> Option<WrittenTime>
-    ensures { result ≡ or_second (late_time mark text.now) (option_map Micros (exponent_time unit mark text.now)) }
+fn longer_time(unit: TimeUnit, separator: Separator, text: &[u8]) -> Option<WrittenTime>
+    ensures { result ≡ or_second (late_time separator text.now) (option_map Micros (exponent_time unit separator text.now)) }
 {
-    match late_time(mark, text) {
+    match late_time(separator, text) {
         Some(time) => Some(time),
-        None => Some(WrittenTime::Micros(exponent_time(unit, mark, text)?)),
+        None => Some(WrittenTime::Micros(exponent_time(unit, separator, text)?)),
     }
 }
 
 /// The time that a text writes: digits in this unit, a time by a calendar, or a number with an exponent. `None` if it
 /// writes none.
 #[tactic(auto, unfolding(crate::specs::LogRows::written_time))]
-fn written_time(unit: TimeUnit, mark: Mark, text: &[u8]) -> Option<WrittenTime>
-    ensures { result ≡ written_time unit mark text.now }
+fn written_time(unit: TimeUnit, separator: Separator, text: &[u8]) -> Option<WrittenTime>
+    ensures { result ≡ written_time unit separator text.now }
 {
-    if let Some(micros) = time_of(unit, mark, text) {
+    if let Some(micros) = time_of(unit, separator, text) {
         return Some(WrittenTime::Micros(micros));
     }
-    match calendar_time(mark, text) {
+    match calendar_time(separator, text) {
         Some(time) => Some(time),
-        None => longer_time(unit, mark, text),
+        None => longer_time(unit, separator, text),
     }
 }
 
@@ -200,23 +200,23 @@ fn written_time(unit: TimeUnit, mark: Mark, text: &[u8]) -> Option<WrittenTime>
 pub fn row_of<'a>(
     unit: TimeUnit,
     order: BitOrder,
-    mark: Mark,
+    separator: Separator,
     places: &Places,
     line: &'a [u8],
 ) -> Result<RowWord<'a>, RowFault>
-    ensures { shown_written result ≡ row_of unit order mark places.now (fields_of mark line.now) }
+    ensures { shown_written result ≡ row_of unit order separator places.now (fields_of separator line.now) }
 {
-    let width = Width::of(mark, line);
+    let width = Width::of(separator, line);
     if !places.fits(width) {
         return Err(RowFault::Fields);
     }
-    let Some(row) = row_fields(width.all, places, mark, line) else {
+    let Some(row) = row_fields(width.all, places, separator, line) else {
         return Err(RowFault::Fields);
     };
-    let Some(time) = written_time(unit, mark, row.time) else {
+    let Some(time) = written_time(unit, separator, row.time) else {
         return Err(RowFault::Time);
     };
-    let raw = word_in(order, &places.word, mark, line, row.word)?;
+    let raw = word_in(order, &places.word, separator, line, row.word)?;
     Ok(RowWord {
         time,
         name: row.name,

@@ -1,7 +1,8 @@
 //! Times in ticks of a recorder's clock.
 ghost use Rattle.std.specs.Prelude.{◌≡◌, ◌<◌, IfSome};
-ghost use Rattle.a429_word.specs.Hexadecimal.{hex_digit};
 ghost use Rattle.a429_logs.specs.LogTicks.{hex_count, in_18_digits, tick_count, tick_micros, tick_time, without_prefix};
+
+use a429_word::hex_digit;
 
 /// Times are below this number of microseconds.
 pub const LIMIT: u64 = 1_000_000_000_000_000_000;
@@ -16,19 +17,6 @@ pub fn without_prefix(text: &[u8]) -> &[u8]
     }
 }
 
-/// The value of a hexadecimal digit, in either case.
-fn hex_digit(digit: u8) -> Option<u64>
-    ensures value { result ≡ hex_digit digit }
-    ensures small { IfSome result (λ d. d < 16) }
-{
-    match digit {
-        b'0'..=b'9' => Some(u64::from(digit - b'0')),
-        b'a'..=b'f' => Some(u64::from(digit - b'a' + 10)),
-        b'A'..=b'F' => Some(u64::from(digit - b'A' + 10)),
-        _ => None,
-    }
-}
-
 /// The number of one to sixteen hexadecimal digits, in either case. `None` for any other text.
 #[tactic(auto, unfolding(crate::specs::LogTicks::hex_count))]
 fn hex_count(digits: &[u8]) -> Option<u64>
@@ -39,7 +27,7 @@ fn hex_count(digits: &[u8]) -> Option<u64>
     }
     let mut count = 0;
     for digit in digits {
-        count = count * 16 + hex_digit(*digit)?;
+        count = count * 16 + u64::from(hex_digit(*digit)?);
     }
     Some(count)
 }

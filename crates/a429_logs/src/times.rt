@@ -5,8 +5,9 @@ ghost use Rattle.std.specs.Char.{is_ascii_digit};
 ghost use Rattle.std.specs.Str.Parse.{digits_value};
 ghost use Rattle.a429_logs.specs.LogTimes.{begins_with_digit, can_be_time, decimal_digits, decimal_time, decimals, has_fractions, in_micros, is_fraction, is_point, is_whole, micros, parted_time, time_of, two_digits, whole_time, within};
 
-use crate::fields::Mark;
+use crate::fields::Separator;
 use crate::ticks::{tick_count, tick_time};
+use a429_word::{are_digits, digits_value};
 
 /// The unit of the times in a log.
 #[derive(Clone, Copy, PartialEq, Eq)]
@@ -55,27 +56,20 @@ impl TimeUnit {
 }
 
 /// Whether a byte separates whole units from decimals.
-fn is_point(mark: Mark, byte: u8) -> bool
-    ensures { result ≡ is_point mark byte }
+fn is_point(separator: Separator, byte: u8) -> bool
+    ensures { result ≡ is_point separator byte }
 {
-    match mark {
-        Mark::Semicolon => byte == b'.' || byte == b',',
+    match separator {
+        Separator::Semicolon => byte == b'.' || byte == b',',
         _ => byte == b'.',
     }
 }
 
 /// The place of the first such byte.
-pub fn first_point(mark: Mark, text: &[u8]) -> Option<usize>
-    ensures { result ≡ position (is_point mark) text.now }
+pub fn first_point(separator: Separator, text: &[u8]) -> Option<usize>
+    ensures { result ≡ position (is_point separator) text.now }
 {
-    text.iter().position(|byte| is_point(mark, *byte))
-}
-
-/// Whether each byte is a decimal digit.
-pub fn are_digits(text: &[u8]) -> bool
-    ensures { result ≡ list_all is_ascii_digit text.now }
-{
-    text.iter().all(|byte| byte.is_ascii_digit())
+    text.iter().position(|byte| is_point(separator, *byte))
 }
 
 /// Whether digits are whole units of a time.
@@ -103,19 +97,6 @@ pub fn digit_at(fraction: &[u8], place: usize) -> u8
         Some(digit) => *digit,
         None => b'0',
     }
-}
-
-/// The number that digits state.
-fn value(digits: &[u8]) -> u64
-    requires digits { list_all is_ascii_digit digits.now ≡ true }
-    requires few { length digits.now ≤ 18 }
-    ensures { result ≡ digits_value 10 digits.now }
-{
-    let mut value = 0;
-    for digit in digits {
-        value = value * 10 + u64::from(*digit - b'0');
-    }
-    value
 }
 
 /// The number that one to eighteen decimal digits state. `None` for any other text.
@@ -160,12 +141,13 @@ pub fn two_digits(most: u64, text: &[u8]) -> Option<u64>
 }
 
 /// The microseconds that whole units and the decimals below them state.
+#[tactic(auto, using(crate::proofs::MicrosDigits::whole_digits, crate::proofs::MicrosDigits::whole_fits))]
 fn micros(unit: TimeUnit, whole: &[u8], fraction: &[u8]) -> u64
     requires whole { is_whole unit whole.now ≡ true }
     requires fraction { list_all is_ascii_digit fraction.now ≡ true }
     ensures { result ≡ micros unit whole.now fraction.now }
 {
-    let mut micros = value(whole);
+    let mut micros = digits_value(whole);
     for place in 0..unit.decimals() {
         micros = micros * 10 + u64::from(digit_at(fraction, place) - b'0');
     }
@@ -197,22 +179,22 @@ fn parted_time(unit: TimeUnit, whole: &[u8], fraction: &[u8]) -> Option<u64>
 /// The time in microseconds, below 10^18, that a decimal number of a unit states. Decimals below a microsecond are
 /// dropped. `None` if the text is no such number.
 #[tactic(auto, unfolding(crate::specs::LogTimes::decimal_time))]
-pub fn decimal_time(unit: TimeUnit, mark: Mark, text: &[u8]) -> Option<u64>
-    ensures { result ≡ decimal_time unit mark text.now }
+pub fn decimal_time(unit: TimeUnit, separator: Separator, text: &[u8]) -> Option<u64>
+    ensures { result ≡ decimal_time unit separator text.now }
 {
-    match first_point(mark, text) {
+    match first_point(separator, text) {
         None => whole_time(unit, text),
         Some(point) => parted_time(unit, &text[..point], &text[point + 1..]),
     }
 }
 
 /// The time in microseconds, below 10^18, that a text states in a unit. `None` if the text is no time.
-pub fn time_of(unit: TimeUnit, mark: Mark, text: &[u8]) -> Option<u64>
-    ensures { result ≡ time_of unit mark text.now }
+pub fn time_of(unit: TimeUnit, separator: Separator, text: &[u8]) -> Option<u64>
+    ensures { result ≡ time_of unit separator text.now }
 {
     match unit {
         TimeUnit::Ticks(nanoseconds) => tick_time(nanoseconds, text),
-        _ => decimal_time(unit, mark, text),
+        _ => decimal_time(unit, separator, text),
     }
 }
 

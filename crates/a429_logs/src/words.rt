@@ -1,6 +1,6 @@
 //! Words of a log, whole or by their fields.
 ghost use Rattle.std.specs.Prelude.{◌≡◌, ◌<◌, ◌^◌, IfSome, true};
-ghost use Rattle.a429_logs.specs.LogRows.{as_value, digits_onto, hex_number, is_digit_of, label_in, next_value, small_number, two_bits, unreversed, value_after, value_in, whole_word, with_parity, word_bits};
+ghost use Rattle.a429_logs.specs.LogRows.{as_value, digits_onto, is_digit_of, label_in, next_value, small_number, two_bits, unreversed, value_after, value_in, whole_word, with_parity, word_bits};
 ghost use Rattle.a429_logs.specs.LogTicks.{without_prefix};
 ghost use Rattle.a429_logs.specs.LogTimes.{decimal_digits};
 
@@ -44,19 +44,6 @@ impl BitOrder {
             BitOrder::WordReversed => raw.reverse_bits(),
         }
     }
-}
-
-/// The number of one to five hexadecimal digits, in either case.
-fn hex_number(text: &[u8]) -> Option<u32>
-    ensures { result ≡ hex_number text.now }
-{
-    if text.is_empty() || text.len() > 5 {
-        return None;
-    }
-    let mut digits = [b'0'; 8];
-    let start = digits.len() - text.len();
-    digits[start..].copy_from_slice(text);
-    raw_word(&digits)
 }
 
 /// A number, if it has 19 bits.

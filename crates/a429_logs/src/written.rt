@@ -2,9 +2,9 @@
 ghost use Rattle.std.specs.Prelude.{◌≡◌, ◌≤◌, ◌<◌, ◌*◌, IfSome, option_map, position};
 ghost use Rattle.a429_logs.specs.LogDates.{or_second, calendar_time, clock_time, date_of, dated_time, day_of, day_time, digits_within, hour_of, is_date_end, seconds_of, shown_three, three_of, time_of_day, without_zone, year_time};
 ghost use Rattle.a429_logs.specs.LogFields.{parts_left, parts_of};
-ghost use Rattle.a429_logs.specs.declared.fields.Mark.TheVariants.{Dash, Slash};
+ghost use Rattle.a429_logs.specs.declared.fields.Separator.TheVariants.{Dash, Slash};
 
-use crate::fields::{Mark, Parts};
+use crate::fields::{Parts, Separator};
 use crate::gregorian::{days_before, is_leap, month_length};
 use crate::times::{TimeUnit, decimal_digits, decimal_time, first_point, two_digits, within};
 
@@ -97,58 +97,62 @@ fn hour_of(text: &[u8]) -> Option<u64>
 }
 
 /// The microseconds of seconds of two digits, 00 to 59, and their decimals.
-fn seconds_of(mark: Mark, text: &[u8]) -> Option<u64>
-    ensures value { result ≡ seconds_of mark text.now }
+fn seconds_of(separator: Separator, text: &[u8]) -> Option<u64>
+    ensures value { result ≡ seconds_of separator text.now }
     ensures few { IfSome result (λ n. n ≤ 59999999) }
 {
-    if first_point(mark, text).unwrap_or(text.len()) == 2 {
-        within(0, 59_999_999, decimal_time(TimeUnit::Seconds, mark, text))
+    if first_point(separator, text).unwrap_or(text.len()) == 2 {
+        within(
+            0,
+            59_999_999,
+            decimal_time(TimeUnit::Seconds, separator, text),
+        )
     } else {
         None
     }
 }
 
 /// The microseconds of hours, minutes and seconds.
-fn time_of_day(mark: Mark, parts: &ThreeParts<'_>) -> Option<u64>
-    ensures value { result ≡ time_of_day mark (shown_three parts.now) }
+fn time_of_day(separator: Separator, parts: &ThreeParts<'_>) -> Option<u64>
+    ensures value { result ≡ time_of_day separator (shown_three parts.now) }
     ensures few { IfSome result (λ n. n < 86400000000) }
 {
     let hour = hour_of(parts.first)?;
     let minute = digits_within(2, 0, 59, parts.second)?;
-    let seconds = seconds_of(mark, parts.third)?;
+    let seconds = seconds_of(separator, parts.third)?;
     Some(MINUTE * (60 * hour + minute) + seconds)
 }
 
 /// The microseconds from midnight that `HH:MM:SS` states, with decimals or without.
 #[tactic(auto, unfolding(crate::specs::LogDates::day_time))]
-pub fn day_time(mark: Mark, parts: Parts<'_>) -> Option<u64>
-    ensures value { result ≡ day_time mark (parts_left parts.entry) }
+pub fn day_time(separator: Separator, parts: Parts<'_>) -> Option<u64>
+    ensures value { result ≡ day_time separator (parts_left parts.entry) }
     ensures few { IfSome result (λ n. n < 86400000000) }
 {
     let three = three_of(parts)?;
-    time_of_day(mark, &three)
+    time_of_day(separator, &three)
 }
 
 /// The microseconds from the beginning of the year that `DDD:HH:MM:SS` states, from 001:00:00:00 on.
-fn year_time(mark: Mark, mut parts: Parts<'_>) -> Option<u64>
-    ensures { result ≡ year_time mark (parts_left parts.entry) }
+fn year_time(separator: Separator, mut parts: Parts<'_>) -> Option<u64>
+    ensures { result ≡ year_time separator (parts_left parts.entry) }
 {
     let day = parts.next()?;
     let number = digits_within(3, 1, 366, day)?;
-    let time = day_time(mark, parts)?;
+    let time = day_time(separator, parts)?;
     Some(DAY * (number - 1) + time)
 }
 
 /// A time of day, or a time of the year.
 #[tactic(auto, unfolding(crate::specs::LogDates::clock_time))]
-fn clock_time(mark: Mark, text: &[u8]) -> Option<WrittenTime>
-    ensures { result ≡ clock_time mark text.now }
+fn clock_time(separator: Separator, text: &[u8]) -> Option<WrittenTime>
+    ensures { result ≡ clock_time separator text.now }
 {
-    let parts = Parts::of(Mark::Colon, text);
-    if let Some(time) = day_time(mark, parts) {
+    let parts = Parts::of(Separator::Colon, text);
+    if let Some(time) = day_time(separator, parts) {
         return Some(WrittenTime::OfDay(time));
     }
-    match year_time(mark, parts) {
+    match year_time(separator, parts) {
         Some(time) => Some(WrittenTime::OfYear(time)),
         None => None,
     }
@@ -173,9 +177,9 @@ fn day_of(parts: &ThreeParts<'_>) -> Option<Date>
 pub fn date_parts(text: &[u8]) -> Option<ThreeParts<'_>>
     ensures { option_map shown_three result ≡ or_second (three_of (parts_of Dash text.now)) (three_of (parts_of Slash text.now)) }
 {
-    match three_of(Parts::of(Mark::Dash, text)) {
+    match three_of(Parts::of(Separator::Dash, text)) {
         Some(three) => Some(three),
-        None => three_of(Parts::of(Mark::Slash, text)),
+        None => three_of(Parts::of(Separator::Slash, text)),
     }
 }
 
@@ -202,11 +206,11 @@ pub fn without_zone(text: &[u8]) -> &[u8]
 
 /// The time of a day: a date, and a time of day.
 #[tactic(auto, unfolding(crate::specs::LogDates::dated_time))]
-fn dated_time(mark: Mark, date: &[u8], time: &[u8]) -> Option<WrittenTime>
-    ensures { result ≡ dated_time mark date.now time.now }
+fn dated_time(separator: Separator, date: &[u8], time: &[u8]) -> Option<WrittenTime>
+    ensures { result ≡ dated_time separator date.now time.now }
 {
     let date = date_of(date)?;
-    let time = day_time(mark, Parts::of(Mark::Colon, without_zone(time)))?;
+    let time = day_time(separator, Parts::of(Separator::Colon, without_zone(time)))?;
     Some(WrittenTime::OfDate(Date {
         year: date.year,
         time: date.time + time,
@@ -229,11 +233,11 @@ fn date_end(text: &[u8]) -> Option<usize>
 
 /// A time of day, a time of the year, or a date with a time of day. `None` if the text has none of these forms.
 #[tactic(auto, unfolding(crate::specs::LogDates::calendar_time))]
-pub fn calendar_time(mark: Mark, text: &[u8]) -> Option<WrittenTime>
-    ensures { result ≡ calendar_time mark text.now }
+pub fn calendar_time(separator: Separator, text: &[u8]) -> Option<WrittenTime>
+    ensures { result ≡ calendar_time separator text.now }
 {
     match date_end(text) {
-        None => clock_time(mark, text),
-        Some(place) => dated_time(mark, &text[..place], &text[place + 1..]),
+        None => clock_time(separator, text),
+        Some(place) => dated_time(separator, &text[..place], &text[place + 1..]),
     }
 }

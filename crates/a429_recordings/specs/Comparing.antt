@@ -6,14 +6,14 @@ use Rattle.a429_text.specs.Sheets.{sheet_text}
 use Rattle.a429_arguments.specs.Given.{text_given}
 use Rattle.a429_arguments.specs.Requests.{AskedBytes}
 use Rattle.a429_arguments.specs.declared.options.OptionName.TheVariants as option
-use Rattle.a429_equipment.specs.TableRecord.{TableRecord, outputs_in}
+use Rattle.a429_equipment.specs.TableRecord.{TableRecord, outputs_in, receiver_name}
 use Rattle.a429_equipment.specs.declared.rows.OutputRow.{OutputRow}
 use Rattle.a429_equipment.specs.declared.rows.SourceRow.{SourceRow}
 use Rattle.a429_table.specs.Reading.{reading}
 use Rattle.a429_survey.specs.Expected.{Expectation, compared_columns, compared_rows, has_finding, heard_at, sent_by}
 use Rattle.a429_survey.specs.Figures.{Noted}
 use Rattle.a429_console.specs.FileReadings.{AreReadLogs, IsFileRefusal, IsFirstUnreadLog, readable}
-use Rattle.a429_console.specs.Names.{group_name, name_at, naming_of}
+use Rattle.a429_console.specs.Names.{group_name}
 use Rattle.a429_console.specs.Tables.{IsTableFault}
 use Rattle.a429_console.specs.WholeReplies.{finding_status}
 use Rattle.a429_console.specs.declared.refusals.CommandRefusal.{CommandRefusal}
@@ -25,7 +25,7 @@ use Rattle.a429_recordings.specs.declared.survey.SurveyForm.{SurveyForm}
 
 -- the words of a source come in at its receiver, at any interval
 abbrev pub heard_by : TableRecord → SourceRow → Expectation
-heard_by t s = heard_at (name_at (naming_of t).receivers s.receiver) s.label s.sdi
+heard_by t s = heard_at (receiver_name t.receivers s.receiver) s.label s.sdi
 
 -- the words of an output go out on a bus of its group, at its transmit interval
 abbrev pub sent_in_group : TableRecord → ℕ → OutputRow → Expectation

@@ -2,7 +2,7 @@
 //!
 //! `read_equipment` takes the bytes of a table. Its error is the kind of the first fault with its place, or
 //! `NoMemory`. `read_or_keep` also keeps what was read of a refused table, for hints. `columns_of` lists the keys of a
-//! row.
+//! row. `rows_at` and `text_at` read a value at a key.
 //!
 //! ```text
 //! let equipment = read_equipment(alloc, table).ok()?;
@@ -47,4 +47,5 @@ pub use fault_places::FaultPlaces;
 pub use reading::{read_equipment, read_or_keep};
 pub use search::places_of;
 pub use table_index::number_name;
+pub use tree::{rows_at, text_at};
 pub use version::version_of;

@@ -1,5 +1,5 @@
--- Texts cut at a byte, and into lines (profile: replay script, words file).
-use Rattle.std.specs.Prelude.{◌==◌, ◌+◌, ◌∷◌, [], ℕ, zero, suc, List, Option, Some, None, if◌then◌else◌, take, drop, position, option_map}
+-- Texts cut at a byte, and into lines (profile: replay script, words file, logs, rows to import).
+use Rattle.std.specs.Prelude.{◌==◌, ◌&&◌, ◌+◌, ◌∷◌, [], ℕ, zero, suc, List, Option, Some, None, if◌then◌else◌, take, drop, position, option_map}
 
 -- the parts before and after the first byte b
 unfoldable pub cut : ℕ → List ℕ → Option (List ℕ × List ℕ)
@@ -33,3 +33,8 @@ after_cut (Some parts) = parts.1
 abbrev pub after_lines : ℕ → List ℕ → List ℕ
 after_lines zero text = text
 after_lines (suc n) text = after_lines n (after_cut (cut 10 text))
+
+-- a byte order mark (UTF-8) may come first
+abbrev pub without_byte_order_mark : List ℕ → List ℕ
+without_byte_order_mark (a ∷ b ∷ c ∷ text) = if a == 239 && (b == 187 && c == 191) then text else a ∷ b ∷ c ∷ text
+without_byte_order_mark text = text

@@ -1,6 +1,6 @@
-//! Texts cut at a byte, and into lines.
+//! Texts cut at a byte, and into lines, and texts after a byte order mark.
 ghost use Rattle.std.specs.Prelude.{◌≡◌, ◌<◌, ◌-◌, length, IfSome, option_map};
-ghost use Rattle.a429_text.specs.CutText.{after_lines, cut, first_line};
+ghost use Rattle.a429_text.specs.CutText.{after_lines, cut, first_line, without_byte_order_mark};
 
 /// The texts before and after the first byte of this value. `None` if there is no such byte.
 #[tactic(auto, unfolding(crate::specs::CutText::cut))]
@@ -35,4 +35,14 @@ pub fn lines_from(text: &[u8], number: usize) -> &[u8]
         before -= 1;
     }
     rest
+}
+
+/// A text without the byte order mark at its beginning (UTF-8), if it has one.
+pub fn without_byte_order_mark(text: &[u8]) -> &[u8]
+    ensures { result.now ≡ without_byte_order_mark text.now }
+{
+    match text {
+        [0xEF, 0xBB, 0xBF, rest @ ..] => rest,
+        _ => text,
+    }
 }

@@ -18,6 +18,10 @@ hex_onto n (c ∷ cs) = option_and_then (λ d. hex_onto (n * 16 + d) cs) (hex_di
 unfoldable pub raw_word : List ℕ → Option ℕ
 raw_word text = if length text == 8 then hex_onto 0 text else None
 
+-- the number of one to five hexadecimal digits
+abbrev pub hex_number : List ℕ → Option ℕ
+hex_number text = if nat_le 1 (length text) && nat_le (length text) 5 then hex_onto 0 text else None
+
 -- eight hexadecimal digits in lower case
 unfoldable pub hex : ℕ → List ℕ
 hex raw = padded_integral (format_spec 32 0 4 8 (2 ^ 64 - 1)) false [] (digits 16 false raw)

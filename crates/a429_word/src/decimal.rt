@@ -5,8 +5,8 @@ ghost use Rattle.std.specs.Char.{is_ascii_digit};
 ghost use Rattle.std.specs.Str.Parse.{digits_value};
 ghost use Rattle.a429_word.specs.Decimal.{decimal_number, is_numeral};
 
-/// Whether each byte is a decimal digit.
-fn are_digits(text: &[u8]) -> bool
+/// Whether each byte of a text is a decimal digit.
+pub fn are_digits(text: &[u8]) -> bool
     ensures { result ≡ list_all is_ascii_digit text.now }
 {
     text.iter().all(|byte| byte.is_ascii_digit())
@@ -20,8 +20,8 @@ fn is_numeral(text: &[u8]) -> bool
     !text.is_empty() && text.len() <= 10 && (text.len() <= 1 || text[0] != b'0') && are_digits(text)
 }
 
-/// The number that digits state.
-fn value(digits: &[u8]) -> u64
+/// The number that decimal digits state, below 2^64. None state 0.
+pub fn digits_value(digits: &[u8]) -> u64
     requires digits { list_all is_ascii_digit digits.now ≡ true }
     requires fits { digits_value 10 digits.now < 2 ^ 64 }
     ensures { result ≡ digits_value 10 digits.now }
@@ -40,7 +40,7 @@ pub fn decimal_number(text: &[u8]) -> Option<u64>
     ensures { result ≡ decimal_number text.now }
 {
     if is_numeral(text) {
-        Some(value(text))
+        Some(digits_value(text))
     } else {
         None
     }

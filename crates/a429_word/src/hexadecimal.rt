@@ -1,9 +1,9 @@
 //! Raw words as hexadecimal digits.
 ghost use Rattle.std.specs.Prelude.{◌≡◌, ◌<◌, IfSome};
-ghost use Rattle.a429_word.specs.Hexadecimal.{hex_digit, raw_word};
+ghost use Rattle.a429_word.specs.Hexadecimal.{hex_digit, hex_number, raw_word};
 
-/// The value of a hexadecimal digit, in either case.
-fn hex_digit(digit: u8) -> Option<u32>
+/// The value of a hexadecimal digit, in either case; `None` for any other byte.
+pub fn hex_digit(digit: u8) -> Option<u32>
     ensures value { result ≡ hex_digit digit }
     ensures small { IfSome result (λ d. d < 16) }
 {
@@ -29,4 +29,17 @@ pub fn raw_word(text: &[u8]) -> Option<u32>
         raw = raw * 16 + hex_digit(*digit)?;
     }
     Some(raw)
+}
+
+/// The number of one to five hexadecimal digits, in either case; `None` for any other text (profile).
+pub fn hex_number(text: &[u8]) -> Option<u32>
+    ensures { result ≡ hex_number text.now }
+{
+    if text.is_empty() || text.len() > 5 {
+        return None;
+    }
+    let mut digits = [b'0'; 8];
+    let start = digits.len() - text.len();
+    digits[start..].copy_from_slice(text);
+    raw_word(&digits)
 }

@@ -2,7 +2,8 @@
 //!
 //! A `Word` has 32 bits, of which an odd number are ones. `Word::build` makes one from its label, SDI, data and SSM,
 //! `Word::from_raw` makes one from a number, `raw_word` reads eight hexadecimal digits. `label`, `sdi`, `data`, `ssm`,
-//! `bnr` and `bcd` read its fields. `Label::parse` reads three octal digits. No call allocates memory.
+//! `bnr` and `bcd` read its fields. `Label::parse` reads three octal digits, `decimal_number` and `digits_value` decimal
+//! ones. No call allocates memory.
 //!
 //! ```text
 //! let Ok(word) = Word::from_raw(raw) else {
@@ -32,8 +33,8 @@ pub mod laws;
 mod meanings;
 mod words;
 
-pub use decimal::decimal_number;
-pub use hexadecimal::raw_word;
+pub use decimal::{are_digits, decimal_number, digits_value};
+pub use hexadecimal::{hex_digit, hex_number, raw_word};
 pub use identifiers::{Sdi, Ssm};
 pub use labels::{Label, LabelText};
 pub use meanings::{BcdMeaning, BnrMeaning};

@@ -15,6 +15,7 @@ use Rattle.a429_word.specs.Texts.{label_value, octal}
 use Rattle.a429_word.proofs.LabelTexts.{value_of_written}
 use Rattle.a429_word.proofs.Lists.{false_unless, or_parts}
 use Rattle.a429_equipment.specs.NameForm.{is_name, is_name_byte}
+use Rattle.a429_equipment.specs.TableRecord.{receiver_name}
 use Rattle.a429_equipment.specs.declared.rows.GroupRow.{GroupRow}
 use Rattle.a429_equipment.specs.declared.rows.OutputRow.{OutputRow}
 use Rattle.a429_equipment.specs.declared.rows.ReceiverRow.{ReceiverRow}
@@ -29,7 +30,7 @@ use Rattle.a429_import.specs.declared.fault.ImportColumn.TheVariants.{Group, Rat
 use Rattle.a429_import.specs.declared.rows.ImportRow.{ImportRow}
 use Rattle.a429_import.specs.declared.rows.RowNumbers.{RowNumbers}
 use Rattle.a429_import.specs.declared.rows.RowTexts.{RowTexts}
-use Rattle.a429_documents.specs.Document.{icd_columns, icd_row, limit_field, receiver_name, sdi_field}
+use Rattle.a429_documents.specs.Document.{icd_columns, icd_row, limit_field, sdi_field}
 use Rattle.a429_import.specs.ImportFields.{filters_in, hold_in, label_in, padded, number_in, rate_in, sdi_in, text_in, utf8_in}
 use Rattle.a429_import.specs.ImportIntervals.{in_micros, interval_in}
 use Rattle.a429_import.specs.Imports.{has_text, is_filled}

@@ -12,7 +12,7 @@ use Rattle.a429_word.proofs.Lists.{all_at}
 use Rattle.a429_equipment.specs.NameForm.{is_name}
 use Rattle.a429_equipment.specs.SameStation.{same_sdi}
 use Rattle.a429_equipment.specs.Sound.{IsGroupRow, IsHold, IsInterval, IsRate, IsReceiverRow, IsSound, IsSourceRow}
-use Rattle.a429_equipment.specs.TableRecord.{TableRecord}
+use Rattle.a429_equipment.specs.TableRecord.{TableRecord, receiver_name}
 use Rattle.a429_equipment.specs.declared.rows.GroupRow.{GroupRow}
 use Rattle.a429_equipment.specs.declared.rows.OutputRow.{OutputRow}
 use Rattle.a429_equipment.specs.declared.rows.ReceiverRow.{ReceiverRow}
@@ -27,7 +27,7 @@ use Rattle.a429_import.specs.declared.fault.ImportColumn.{ImportColumn}
 use Rattle.a429_import.specs.declared.fault.ImportColumn.TheVariants.{Filters, Label, Rate, Receiver, Sdi}
 use Rattle.a429_import.specs.declared.lines.CsvLine.{CsvLine}
 use Rattle.a429_import.specs.declared.rows.ImportRow.{ImportRow}
-use Rattle.a429_documents.specs.Document.{icd_columns, icd_rows, receiver_name}
+use Rattle.a429_documents.specs.Document.{icd_columns, icd_rows}
 use Rattle.a429_documents.proofs.IcdRows.{groups_rows, icd_rows_are, output_row, output_rows}
 use Rattle.a429_import.specs.ImportLimits.{has_too_many_filters, too_many}
 use Rattle.a429_import.specs.ImportRows.{◌>>=◌, CsvFault, agreed, clash, first_clash, is_named, joined, limited, next_row, numbers_of, other_clash, row_of, rows_after, rows_stated, source_clash, texts_of, unless_wrong, with_row, without_notes, wrong_column, is_wrong}

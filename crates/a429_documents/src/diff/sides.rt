@@ -4,8 +4,8 @@ ghost use Rattle.a429_slots.specs.Tables.{buses_of, frame_of, outputs_of, placed
 ghost use Rattle.a429_cert.specs.PlanText.{source_name};
 ghost use Rattle.a429_documents.specs.Diff.{compared_at, compared_change, compared_of, gap_of, has_moved, name_at, output_named, sent_by};
 
-use crate::diff::texts::{put_counts, put_number_change, same_number, wide};
-use a429_equipment::{OutputRow, SourceRow};
+use crate::diff::texts::{put_counts, put_number_change, wide};
+use a429_equipment::{OutputRow, SourceRow, same_number};
 use a429_slots::{GroupPlan, OUTPUTS, OutputId, Proposal, SendLimits, SlotPlace};
 use std::alloc::{AllocError, Global};
 use std::marker::Model;

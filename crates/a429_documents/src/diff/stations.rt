@@ -5,8 +5,10 @@ ghost use Rattle.a429_documents.specs.Diff.{filter_change, filter_count, lists_r
 use crate::diff::names::{Named, add_list};
 use crate::diff::rows::{Subject, add_row};
 use crate::diff::texts::{put_change, put_counts};
-use crate::document::{receiver_name, sdi_text};
-use a429_equipment::{Equipment, GroupRow, ReceiverRow, SourceRow, same_filters, same_sdi};
+use crate::document::sdi_text;
+use a429_equipment::{
+    Equipment, GroupRow, ReceiverRow, SourceRow, receiver_name, same_filters, same_sdi,
+};
 use a429_filter::FilterSet;
 use a429_text::Rows;
 use std::alloc::{AllocError, Global};

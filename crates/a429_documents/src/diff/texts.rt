@@ -1,21 +1,11 @@
 //! Texts of what changes: `min_us 31250 -> 15625, hold - -> 3`.
 ghost use Rattle.std.specs.Prelude.{◌≡◌, ◌++◌, OnOk, string_bytes};
 ghost use Rattle.a429_word.specs.Written.{Writes};
-ghost use Rattle.a429_documents.specs.Diff.{comma_after, count_change, number_text, same_number, value_change, with_change, with_number};
+ghost use Rattle.a429_documents.specs.Diff.{comma_after, count_change, number_text, value_change, with_change, with_number};
 
+use a429_equipment::same_number;
 use std::alloc::AllocError;
 use std::fmt::Write;
-
-/// Whether both are the same number, or both are `None`.
-pub fn same_number(first: Option<u64>, second: Option<u64>) -> bool
-    ensures { result ≡ same_number first second }
-{
-    match (first, second) {
-        (None, None) => true,
-        (Some(first), Some(second)) => first == second,
-        _ => false,
-    }
-}
 
 /// A number of 32 bits, as texts write it; `None` stays `None`.
 pub fn wide(number: Option<u32>) -> Option<u64>

@@ -4,21 +4,11 @@ ghost use Rattle.a429_console.specs.Names.{name_at, naming_of};
 ghost use Rattle.a429_recordings.specs.Comparing.{expected_by, heard_by, sent_in, sent_in_group};
 ghost use Rattle.a429_recordings.specs.JudgedPlans.{label_of, sdi_of};
 
-use a429_equipment::{Equipment, OutputRow, SourceRow};
+use a429_equipment::{Equipment, OutputRow, SourceRow, receiver_name};
 use a429_survey::Expected;
 use a429_text::Gathered;
 use a429_word::{Label, Sdi};
 use std::alloc::{AllocError, Global};
-
-/// The name of a receiver. Empty if there is no receiver of this number.
-fn receiver_name(equipment: &Equipment, receiver: usize) -> &str
-    ensures { result.now ≡ name_at (naming_of equipment.now).receivers receiver }
-{
-    match equipment.receivers().get(receiver) {
-        Some(row) => row.name.as_str(),
-        None => "",
-    }
-}
 
 /// The name of a group. Empty if there is no group of this number.
 fn group_name(equipment: &Equipment, group: usize) -> &str
@@ -54,7 +44,7 @@ fn sdi_of(equipment: &Equipment, source: usize) -> Option<Sdi>
 fn heard_by<'a>(equipment: &'a Equipment, source: &SourceRow) -> Expected<'a>
     ensures { result ≡ heard_by equipment.now source.now }
 {
-    let line = receiver_name(equipment, source.receiver);
+    let line = receiver_name(equipment.receivers(), source.receiver);
     Expected::heard(line, source.label, source.sdi)
 }
 

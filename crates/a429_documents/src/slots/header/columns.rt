@@ -3,10 +3,9 @@ ghost use Rattle.std.specs.Prelude.{◌≡◌, ◌<◌, ◌++◌, codes};
 ghost use Rattle.a429_text.specs.Nibbles.{nibble, nibbles};
 ghost use Rattle.a429_documents.specs.SlotColumns.{array_start, check_end, check_start, column_array, column_arrays, column_kind, column_value, column_word, group_array, group_macro, sdi_value, size_test, type_start, value_line, value_lines};
 
-use crate::document::receiver_name;
 use crate::planned::{PlannedGroup, PlannedOutput};
 use crate::slots::header::names::{put_array_name, put_constant, put_macro_name};
-use a429_equipment::GroupRow;
+use a429_equipment::{GroupRow, receiver_name};
 use a429_text::Text;
 use a429_word::Sdi;
 

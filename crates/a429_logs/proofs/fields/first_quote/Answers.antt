@@ -1,5 +1,5 @@
 use Rattle.a429_logs.specs.LogFields.{is_quote}
-use Rattle.a429_logs.proofs.FirstMarks.{first_is}
+use Rattle.a429_logs.proofs.FirstSeparators.{first_is}
 use Rattle.a429_logs.proofs.fields.first_quote.Goals as goal
 
 pub returns : goal.returns

@@ -5,7 +5,7 @@ use Rattle.a429_logs.proofs.rows.field_at.Goals as goal
 
 pub loop-passed-preserved : goal.loop-passed-preserved
 loop-passed-preserved c =
-    let fields = fields_of c.args.mark c.args.line.now in
+    let fields = fields_of c.args.separator c.args.line.now in
     let passed : ℕ = c.loop-passed.passed in
     let field = c.in-Some._field.now in
     let rest = fields_left c.next.new.self in

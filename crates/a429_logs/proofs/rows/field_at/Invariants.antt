@@ -4,6 +4,6 @@ use Rattle.a429_logs.proofs.rows.field_at.Given as goal
 
 abbrev pub invariant-loop-passed : goal.invariant-loop-passed
 invariant-loop-passed l = record {
-  left : drop l.passed (fields_of l.fn.mark l.fn.line) ≡ fields_left l.fields;
-  within : l.passed ≤ length (fields_of l.fn.mark l.fn.line);
+  left : drop l.passed (fields_of l.fn.separator l.fn.line) ≡ fields_left l.fields;
+  within : l.passed ≤ length (fields_of l.fn.separator l.fn.line);
 }

@@ -6,7 +6,7 @@ use Rattle.a429_logs.proofs.rows.row_fields.Goals as goal
 
 pub loop-place-init : goal.loop-place-init
 loop-place-init c =
-    let fields = fields_of c.args.mark c.args.line.now in
+    let fields = fields_of c.args.separator c.args.line.now in
     record {
       left = sym c.of-fields.ensures;
       within = omega arith;
@@ -17,7 +17,7 @@ loop-place-init c =
 
 pub returns-in_err-field : goal.returns-in_err-field
 returns-in_err-field c =
-    let fields = fields_of c.args.mark c.args.line.now in
+    let fields = fields_of c.args.separator c.args.line.now in
     let places = c.args.places.now in
     let none : fields_left c.loop-place.fields ≡ [] = search rules in
     let below : c.loop-place.place < c.args.count = search rules in
@@ -26,7 +26,7 @@ returns-in_err-field c =
 
 pub loop-place-preserved : goal.loop-place-preserved
 loop-place-preserved c =
-    let fields = fields_of c.args.mark c.args.line.now in
+    let fields = fields_of c.args.separator c.args.line.now in
     let places = c.args.places.now in
     let place : ℕ = c.loop-place.place in
     let field = c.in_ok-field.field.now in
@@ -48,7 +48,7 @@ loop-place-preserved c =
 
 pub returns-in-None : goal.returns-in-None
 returns-in-None c =
-    let fields = fields_of c.args.mark c.args.line.now in
+    let fields = fields_of c.args.separator c.args.line.now in
     let places = c.args.places.now in
     let place : ℕ = c.loop-place.place in
     let last : place ≡ c.args.count = search rules in

@@ -6,9 +6,9 @@ use Rattle.a429_logs.proofs.rows.row_fields.Given as goal
 
 abbrev pub invariant-loop-place : goal.invariant-loop-place
 invariant-loop-place l = record {
-  left : drop l.place (fields_of l.fn.mark l.fn.line) ≡ fields_left l.fields;
-  within : l.place ≤ length (fields_of l.fn.mark l.fn.line);
-  time : l.time ≡ seen l.places.time l.place (fields_of l.fn.mark l.fn.line);
-  name : l.name ≡ seen l.places.name l.place (fields_of l.fn.mark l.fn.line);
-  word : l.word ≡ seen (word_place l.places.word) l.place (fields_of l.fn.mark l.fn.line);
+  left : drop l.place (fields_of l.fn.separator l.fn.line) ≡ fields_left l.fields;
+  within : l.place ≤ length (fields_of l.fn.separator l.fn.line);
+  time : l.time ≡ seen l.places.time l.place (fields_of l.fn.separator l.fn.line);
+  name : l.name ≡ seen l.places.name l.place (fields_of l.fn.separator l.fn.line);
+  word : l.word ≡ seen (word_place l.places.word) l.place (fields_of l.fn.separator l.fn.line);
 }

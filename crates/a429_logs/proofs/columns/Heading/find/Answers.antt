@@ -42,7 +42,7 @@ returns c =
     let place : ℕ = c.loop-place.place in
     let last : place ≡ length heading.line.now + 1 = search rules in
     let none : length (fields_left c.loop-place.fields) ≡ 0 =
-    omega (arith, last, c.loop-place.invariant.counted, fields_few heading.mark heading.line.now) in
+    omega (arith, last, c.loop-place.invariant.counted, fields_few heading.separator heading.line.now) in
     let texts = map (λ text. text.now) heading.renames.now in
     let named = names-none texts (fields_left c.loop-place.fields) none in
     found-end c.args.column c.loop-place.found place (names_of texts (fields_left c.loop-place.fields)) named ∙ c.loop-place.invariant.found

@@ -16,11 +16,11 @@ pub returns-clause-width : goal.returns-clause-width
 returns-clause-width c =
     let line = c.args.line.now in
     let last : c.loop-place.place ≡ length line + 1 = search rules in
-    let none : length (fields_left c.loop-place.fields) ≡ 0 = omega (arith, last, c.loop-place.invariant.counted, fields_few c.args.mark line) in
+    let none : length (fields_left c.loop-place.fields) ≡ 0 = omega (arith, last, c.loop-place.invariant.counted, fields_few c.args.separator line) in
     width-end c.loop-place.width (fields_left c.loop-place.fields) none ∙ c.loop-place.invariant.width
 
 pub returns-clause-all : goal.returns-clause-all
 returns-clause-all c =
     let line = c.args.line.now in
     let last : c.loop-place.place ≡ length line + 1 = search rules in
-    omega (arith, last, c.loop-place.invariant.all, c.loop-place.invariant.counted, fields_few c.args.mark line)
+    omega (arith, last, c.loop-place.invariant.all, c.loop-place.invariant.counted, fields_few c.args.separator line)

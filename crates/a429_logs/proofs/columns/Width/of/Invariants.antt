@@ -5,7 +5,7 @@ use Rattle.a429_logs.proofs.columns.Width.of.Given as goal
 
 abbrev pub invariant-loop-place : goal.invariant-loop-place
 invariant-loop-place l = record {
-  width : width_from l.width (fields_left l.fields) ≡ width_of (fields_of l.fn.mark l.fn.line);
+  width : width_from l.width (fields_left l.fields) ≡ width_of (fields_of l.fn.separator l.fn.line);
   all : l.width.all ≡ l.place;
-  counted : l.place + length (fields_left l.fields) ≡ length (fields_of l.fn.mark l.fn.line);
+  counted : l.place + length (fields_left l.fields) ≡ length (fields_of l.fn.separator l.fn.line);
 }

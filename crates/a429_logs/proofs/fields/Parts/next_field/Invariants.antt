@@ -5,8 +5,8 @@ use Rattle.a429_logs.proofs.fields.Parts.next_field.Given as goal
 
 abbrev pub invariant-loop-part : goal.invariant-loop-part
 invariant-loop-part l = record {
-  mark : l.self.mark ≡ l.initial.self.mark;
-  left : filter_map (field_in l.initial.self.mark) (parts_left l.self) ≡ filter_map (field_in l.initial.self.mark) (parts_left l.initial.self);
+  separator : l.self.separator ≡ l.initial.self.separator;
+  left : filter_map (field_in l.initial.self.separator) (parts_left l.self) ≡ filter_map (field_in l.initial.self.separator) (parts_left l.initial.self);
 }
 
 abbrev pub decreases-loop-part : goal.decreases-loop-part

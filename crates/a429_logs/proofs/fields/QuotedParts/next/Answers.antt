@@ -7,15 +7,15 @@ use Rattle.a429_logs.proofs.fields.QuotedParts.next.Goals as goal
 
 pub returns-in-Some-clause-taken : goal.returns-in-Some-clause-taken
 returns-in-Some-clause-taken c =
-    let mark = c.args.self.now.mark in
+    let separator = c.args.self.now.separator in
     let text = c.in_ok-text.text.now in
     let end : ℕ = c.in-Some.end in
-    let first : first_outside mark false text ≡ Some end = search rules in
-    search (rules, quoted_some mark text end first, take_all, length-drop)
+    let first : first_outside separator false text ≡ Some end = search rules in
+    search (rules, quoted_some separator text end first, take_all, length-drop)
 
 pub returns-in-None-clause-taken : goal.returns-in-None-clause-taken
 returns-in-None-clause-taken c =
-    let mark = c.args.self.now.mark in
+    let separator = c.args.self.now.separator in
     let text = c.in_ok-text.text.now in
-    let none : first_outside mark false text ≡ None = search rules in
-    search (rules, quoted_none mark text none)
+    let none : first_outside separator false text ≡ None = search rules in
+    search (rules, quoted_none separator text none)

@@ -5,8 +5,8 @@ use Rattle.a429_logs.proofs.fields.QuotedParts.next_field.Given as goal
 
 abbrev pub invariant-loop-part : goal.invariant-loop-part
 invariant-loop-part l = record {
-  mark : l.self.mark ≡ l.initial.self.mark;
-  left : filter_map (quoted_field_in l.initial.self.mark) (quoted_left l.self) ≡ filter_map (quoted_field_in l.initial.self.mark) (quoted_left l.initial.self);
+  separator : l.self.separator ≡ l.initial.self.separator;
+  left : filter_map (quoted_field_in l.initial.self.separator) (quoted_left l.self) ≡ filter_map (quoted_field_in l.initial.self.separator) (quoted_left l.initial.self);
 }
 
 abbrev pub decreases-loop-part : goal.decreases-loop-part

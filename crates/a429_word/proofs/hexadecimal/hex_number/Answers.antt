@@ -1,8 +1,8 @@
 use Rattle.std.proofs.Common.{ℕ, List, ◌-◌, length, ap, ◌∙◌}
 use Rattle.a429_word.specs.Hexadecimal.{raw_word}
-use Rattle.a429_cli.proofs.HexData.{hex_number_is, zeros}
+use Rattle.a429_word.proofs.HexNumbers.{hex_number_is, zeros}
 use borrow.Rule.Slice.PartMut.{put_mid}
-use Rattle.a429_cli.proofs.encode.hex_number.Goals as goal
+use Rattle.a429_word.proofs.hexadecimal.hex_number.Goals as goal
 
 pub returns : goal.returns
 returns c =

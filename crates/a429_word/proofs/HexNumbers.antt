@@ -1,8 +1,7 @@
 -- Data in hexadecimal.
 use Rattle.std.proofs.Common.{◌≡◌, ℕ, ◌-◌, ◌≤◌, false, List, [], ◌∷◌, length, refl, arith}
 use Rattle.std.specs.Prelude.{◌==◌}
-use Rattle.a429_word.specs.Hexadecimal.{raw_word}
-use Rattle.a429_cli.specs.Encoding.{hex_number}
+use Rattle.a429_word.specs.Hexadecimal.{hex_number, raw_word}
 use borrow.Rule.Slice.PartMut.{put_mid}
 
 abbrev pub zeros : List ℕ

@@ -1,7 +1,7 @@
 use Rattle.std.proofs.Common.{rules, ◌≡◌, ◌<◌, ◌∙◌, sym, ap, get_or, ℕ, true, false, Bool, length, drop, ◌+◌}
 use Rattle.a429_logs.specs.LogFields.{ends_part, first_outside, turned}
 use Rattle.a429_logs.proofs.QuotedText.{search-end, search-here, search-later, shifted, shifted-zero}
-use Rattle.a429_logs.proofs.fields.Mark.first_outside.Goals as goal
+use Rattle.a429_logs.proofs.fields.Separator.first_outside.Goals as goal
 
 pub loop-place-init : goal.loop-place-init
 loop-place-init c = shifted-zero (first_outside c.args.self false c.args.text.now)
