@@ -8,7 +8,7 @@ use Rattle.std.proofs.lemmas.Option.{slice_get_within}
 use Rattle.a429_slots.specs.Tables.{SlotTable, PlanTable, buses_of, cell_at, groups_of}
 use Rattle.a429_documents.specs.Drawing.{IsDrawn, IsMarkIn, MarksAreCells, bus_marks, cell_marks, first_drawn, group_marks, groups_drawn, marks_at, slots_of}
 use Rattle.a429_documents.specs.declared.drawing.DrawingForm.{DrawingForm}
-use Rattle.a429_documents.specs.declared.drawing.marks.Mark.{Mark}
+use Rattle.a429_documents.specs.declared.drawing.marks.CellMark.{CellMark}
 
 -- ---- an item of a list
 
@@ -66,23 +66,23 @@ module _ {X : Type 0} (v : X) where
 -- ---- the marks
 
 -- a mark of a table that may not be there
-from_table : (m : Mark) (f : SlotTable → List Mark) (o : Option SlotTable) → IsAmong (option_map_or f o []) m → (t : SlotTable) × (o ≡ Some t) × IsAmong (f t) m
+from_table : (m : CellMark) (f : SlotTable → List CellMark) (o : Option SlotTable) → IsAmong (option_map_or f o []) m → (t : SlotTable) × (o ≡ Some t) × IsAmong (f t) m
 from_table m f None h = absurd (nothing_there m h)
 from_table m f (Some t) h = (t, refl, h)
 
-module _ (m : Mark) (g bus slot : ℕ) where
-  abbrev mark : ℕ → Mark
+module _ (m : CellMark) (g bus slot : ℕ) where
+  abbrev mark : ℕ → CellMark
   mark o = record { group = g; bus = bus; slot = slot; output = o }
 
   -- the mark of a cell
   mark_is : (o : Option ℕ) → IsAmong (option_to_list (option_map mark o)) m → (m.group ≡ g) × (m.bus ≡ bus) × (m.slot ≡ slot) × (o ≡ Some m.output)
   mark_is None h = absurd (nothing_there m h)
   mark_is (Some o) h = elim (from_head m (mark o) [] h) [
-    | inl is ↦ (ap (λ (m : Mark). m.group) is, ap (λ (m : Mark). m.bus) is, ap (λ (m : Mark). m.slot) is, ap (λ (m : Mark). Some m.output) (sym is))
+    | inl is ↦ (ap (λ (m : CellMark). m.group) is, ap (λ (m : CellMark). m.bus) is, ap (λ (m : CellMark). m.slot) is, ap (λ (m : CellMark). Some m.output) (sym is))
     | inr none ↦ absurd (nothing_there m none)
   ]
 
-module _ (form : DrawingForm) (t : SlotTable) (m : Mark) where
+module _ (form : DrawingForm) (t : SlotTable) (m : CellMark) where
   -- the marks of a group
   is_cell : (g : ℕ) → IsAmong (group_marks g t (slots_of form t)) m → (m.group ≡ g) × IsMarkIn form t m
   is_cell g h =
@@ -111,8 +111,8 @@ drawn_place p (Some group) g drawn below = (0, omega arith, omega (arith, drawn)
 
 pub marks_are_cells : MarksAreCells
 marks_are_cells p form group m =
-    let marks : ℕ → List Mark = λ k. marks_at form p (first_drawn group + k) in
-    let group_of : SlotTable → List Mark = λ t. group_marks m.group t (slots_of form t) in (
+    let marks : ℕ → List CellMark = λ k. marks_at form p (first_drawn group + k) in
+    let group_of : SlotTable → List CellMark = λ t. group_marks m.group t (slots_of form t) in (
       λ h.
           let place = from_each m marks 0 (groups_drawn group p) h in
           let g = first_drawn group + place.0 in

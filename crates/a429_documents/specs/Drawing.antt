@@ -7,7 +7,7 @@ use Rattle.a429_slots.specs.Tables.{SlotTable, PlanTable, buses_of, cell_at, fra
 use Rattle.a429_documents.specs.declared.drawing.DrawingFault.{DrawingFault}
 use Rattle.a429_documents.specs.declared.drawing.DrawingFault.TheVariants.{NoMemory, TooHigh}
 use Rattle.a429_documents.specs.declared.drawing.DrawingForm.{DrawingForm}
-use Rattle.a429_documents.specs.declared.drawing.marks.Mark.{Mark}
+use Rattle.a429_documents.specs.declared.drawing.marks.CellMark.{CellMark}
 
 -- ---- what is drawn
 
@@ -32,23 +32,23 @@ groups_drawn (Some group) p = 1
 -- ---- the marks
 
 -- the mark of a cell, if it has an output: its group, its bus, its slot and that output
-abbrev pub cell_marks : ℕ → SlotTable → ℕ → ℕ → List Mark
+abbrev pub cell_marks : ℕ → SlotTable → ℕ → ℕ → List CellMark
 cell_marks g t bus slot = option_to_list (option_map (λ o. record { group = g; bus = bus; slot = slot; output = o }) (cell_at t bus slot))
 
 -- the marks of a bus in the first slots, up to a count; slots after the frame are those of the next frames
-abbrev pub bus_marks : ℕ → SlotTable → ℕ → ℕ → List Mark
+abbrev pub bus_marks : ℕ → SlotTable → ℕ → ℕ → List CellMark
 bus_marks g t slots bus = flat_map (cell_marks g t bus) (range_with_len 0 slots)
 
 -- the marks of a group, bus by bus
-abbrev pub group_marks : ℕ → SlotTable → ℕ → List Mark
+abbrev pub group_marks : ℕ → SlotTable → ℕ → List CellMark
 group_marks g t slots = flat_map (bus_marks g t slots) (range_with_len 0 (buses_of t))
 
 -- the marks of the group with this number, in the slots that the form asks for
-abbrev pub marks_at : DrawingForm → PlanTable → ℕ → List Mark
+abbrev pub marks_at : DrawingForm → PlanTable → ℕ → List CellMark
 marks_at form p g = option_map_or (λ t. group_marks g t (slots_of form t)) (slice_get (groups_of p) g) []
 
 -- the marks of a plan, of one group or of all in table order
-abbrev pub marks_of : PlanTable → DrawingForm → Option ℕ → List Mark
+abbrev pub marks_of : PlanTable → DrawingForm → Option ℕ → List CellMark
 marks_of p form group = flat_map (λ k. marks_at form p (first_drawn group + k)) (range_with_len 0 (groups_drawn group p))
 
 -- the group is drawn
@@ -57,13 +57,13 @@ IsDrawn None g = ⊤
 IsDrawn (Some group) g = g ≡ group
 
 -- The cell of a mark is in the slot table of this group, and is drawn.
-abbrev pub IsMarkIn : DrawingForm → SlotTable → Mark → Type 0
+abbrev pub IsMarkIn : DrawingForm → SlotTable → CellMark → Type 0
 IsMarkIn form t mark = (mark.slot < slots_of form t) × (mark.bus < buses_of t) × (cell_at t mark.bus mark.slot ≡ Some mark.output)
 
 -- A mark is drawn if and only if its group is drawn, its bus is one of the group, its slot is drawn, and its output is in that cell.
 abbrev pub MarksAreCells : Type 0
 MarksAreCells =
-    (p : PlanTable) (form : DrawingForm) (group : Option ℕ) (mark : Mark)
+    (p : PlanTable) (form : DrawingForm) (group : Option ℕ) (mark : CellMark)
     → IsAmong (marks_of p form group) mark ↔ ((t : SlotTable) × IsDrawn group mark.group × (slice_get (groups_of p) mark.group ≡ Some t) × IsMarkIn form t mark)
 
 -- ---- the height, in pixels

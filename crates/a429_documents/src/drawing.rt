@@ -13,7 +13,7 @@ mod shapes;
 mod times;
 
 use crate::drawing::groups::put_groups;
-pub use crate::drawing::marks::Mark;
+pub use crate::drawing::marks::CellMark;
 use crate::drawing::marks::marks_of;
 use crate::drawing::places::{height_of, width_of};
 use crate::kept::{KeptText, kept_texts};
@@ -50,7 +50,7 @@ pub struct Drawing<'a> {
     pub proposal: &'a Proposal<OUTPUTS>,
     pub group: Option<usize>,
     pub form: DrawingForm,
-    pub marks: Vec<Mark>,
+    pub marks: Vec<CellMark>,
     ghost known: { ForSome group (λ group. group < length (groups_of proposal.now.plan)) },
     ghost own: { marks.items ≡ marks_of proposal.now.plan form group },
     ghost height: { image_height proposal.now.plan form group ≤ 32767 },

@@ -36,7 +36,7 @@ mod stamps;
 
 pub use diff::diff_sheet;
 pub use document::SOURCE;
-pub use drawing::{Drawing, DrawingFault, DrawingForm, Mark, draw_text};
+pub use drawing::{CellMark, Drawing, DrawingFault, DrawingForm, draw_text};
 pub use kept::render_kept;
 pub use lint::{is_millis_group, lint_sheet};
 pub use load::is_any_above;

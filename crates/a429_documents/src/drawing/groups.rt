@@ -4,7 +4,7 @@ ghost use Rattle.a429_slots.specs.Tables.{groups_of};
 
 use crate::drawing::DrawingForm;
 use crate::drawing::legend::put_legend;
-use crate::drawing::marks::Mark;
+use crate::drawing::marks::CellMark;
 use crate::drawing::places::{height_of, slots_of};
 use crate::drawing::rows::{put_buses, put_numbers};
 use crate::drawing::shapes::put_shapes;
@@ -68,7 +68,7 @@ fn put_group(
     text: &mut Text,
     group: &DrawnGroup<'_>,
     texts: &[KeptText<'_>],
-    marks: &[Mark],
+    marks: &[CellMark],
     begin: usize,
 ) -> usize {
     put_title(text, group);
@@ -89,7 +89,7 @@ pub(crate) fn put_groups(
     form: DrawingForm,
     first: usize,
     count: usize,
-    marks: &[Mark],
+    marks: &[CellMark],
 )
     requires known { first + count ≤ length (groups_of proposal.now.plan) }
     requires few { first + count ≤ 8 }

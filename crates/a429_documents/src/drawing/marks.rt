@@ -12,7 +12,7 @@ use std::alloc::Global;
 
 /// A cell of a plan that has an output: its group, its bus and its slot, each by its number from 0, and the output.
 #[derive(Clone, Copy)]
-pub struct Mark {
+pub struct CellMark {
     pub group: usize,
     pub bus: u32,
     pub slot: u32,
@@ -21,7 +21,7 @@ pub struct Mark {
 
 /// Adds the mark of a cell, if it has an output.
 fn push_cell(
-    marks: &mut Gathered<Mark>,
+    marks: &mut Gathered<CellMark>,
     group: usize,
     table: &GroupPlan<OUTPUTS>,
     bus: u32,
@@ -30,7 +30,7 @@ fn push_cell(
     ensures { marks.new ≡ marks.old ++ cell_marks group table.now bus slot }
 {
     if let Some(output) = table.at(bus, u64::from(slot)) {
-        marks.push(Mark {
+        marks.push(CellMark {
             group,
             bus,
             slot,
@@ -42,7 +42,7 @@ fn push_cell(
 /// Adds the marks of a bus in the first `slots` slots.
 #[tactic(auto, using(crate::proofs::Ranges::flat_more))]
 fn push_bus(
-    marks: &mut Gathered<Mark>,
+    marks: &mut Gathered<CellMark>,
     group: usize,
     table: &GroupPlan<OUTPUTS>,
     slots: u32,
@@ -57,7 +57,7 @@ fn push_bus(
 
 /// Adds the marks of a group in the first `slots` slots, bus by bus.
 #[tactic(auto, using(crate::proofs::Ranges::flat_more))]
-fn push_group(marks: &mut Gathered<Mark>, group: usize, table: &GroupPlan<OUTPUTS>, slots: u32)
+fn push_group(marks: &mut Gathered<CellMark>, group: usize, table: &GroupPlan<OUTPUTS>, slots: u32)
     ensures { marks.new ≡ marks.old ++ group_marks group table.now slots }
 {
     for bus in 0..table.buses() {
@@ -72,7 +72,7 @@ pub(crate) fn marks_of(
     form: DrawingForm,
     first: usize,
     count: usize,
-) -> Gathered<Mark>
+) -> Gathered<CellMark>
     requires known { first + count ≤ length (groups_of plan.now) }
     requires few { first + count ≤ 8 }
     ensures { result ≡ flat_map (λ k. marks_at form plan.now (first + k)) (range_with_len 0 count) }

@@ -2,7 +2,7 @@
 ghost use Rattle.std.specs.Prelude.{◌≤◌, ◌^◌};
 
 use crate::drawing::groups::DrawnGroup;
-use crate::drawing::marks::Mark;
+use crate::drawing::marks::CellMark;
 use crate::drawing::places::{fold_at, fold_top, folds_of, row_top, slot_left, slots_in, slots_of};
 use crate::drawing::shapes::put_used;
 use crate::drawing::times::put_lasting;
@@ -72,7 +72,7 @@ fn put_row(text: &mut Text, group: &DrawnGroup<'_>, bus: u32, fold: u32) {
 }
 
 /// Writes a mark.
-fn put_mark(text: &mut Text, group: &DrawnGroup<'_>, mark: &Mark) {
+fn put_mark(text: &mut Text, group: &DrawnGroup<'_>, mark: &CellMark) {
     let left = slot_left(group.form, mark.slot);
     let top = row_top(group.table, fold_at(group.form, mark.slot), mark.bus);
     put_used(text, mark.group, mark.output, left, top);
@@ -83,7 +83,7 @@ fn put_marks(
     text: &mut Text,
     group: &DrawnGroup<'_>,
     bus: u32,
-    marks: &[Mark],
+    marks: &[CellMark],
     begin: usize,
 ) -> usize {
     for place in begin..marks.len() {
@@ -100,7 +100,7 @@ fn put_marks(
 pub(crate) fn put_buses(
     text: &mut Text,
     group: &DrawnGroup<'_>,
-    marks: &[Mark],
+    marks: &[CellMark],
     begin: usize,
 ) -> usize {
     let mut next = begin;
