@@ -4,13 +4,14 @@ use crate::hint::{HintText, LINES};
 use crate::keys::{form, is_faulty, kilobits};
 use crate::lists::{LISTED, say_more};
 use crate::nearest::Nearest;
-use crate::rows::{TableRow, rows_at, say_found, say_row, short_text, text_at};
+use crate::rows::{TableRow, say_found, say_row, short_text};
 use crate::twins::twin_of;
 use crate::words::say_meant_filter;
 use a429_equipment::{LONGEST_INTERVAL, TableVersion};
 use a429_filter::Filter;
 use a429_table::{
-    Column, FaultKind, RefusedTable, Shape, TablePlace, columns_of, places_of, version_of,
+    Column, FaultKind, RefusedTable, Shape, TablePlace, columns_of, places_of, rows_at, text_at,
+    version_of,
 };
 use toml::Value;
 

@@ -1,7 +1,7 @@
 //! Rows of a table and their values, as a person sees them.
 
 use crate::hint::HintText;
-use a429_table::TablePlace;
+use a429_table::{TablePlace, rows_at};
 use std::fmt::InlineText;
 use toml::Value;
 
@@ -64,20 +64,4 @@ pub fn say_found(words: &str, found: Option<&Value>, hint: &HintText) {
 /// The first 48 bytes of a text, or fewer if a character would be cut. A longer text ends in dots.
 pub fn short_text(text: &str) -> InlineText<48> {
     InlineText::of(text)
-}
-
-/// The elements of the array at a key; none if there is no array.
-pub fn rows_at<'a>(table: &'a Value, key: &str) -> &'a [Value] {
-    match table.get(key) {
-        Some(Value::Array(rows)) => rows.as_slice(),
-        _ => &[],
-    }
-}
-
-/// The text at a key; the empty text if there is none.
-pub fn text_at<'a>(table: &'a Value, key: &str) -> &'a str {
-    match table.get(key) {
-        Some(Value::String(text)) => text.as_str(),
-        _ => "",
-    }
 }

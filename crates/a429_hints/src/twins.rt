@@ -1,7 +1,7 @@
 //! Rows that clash with an earlier row of the same array.
 
-use crate::rows::{TableRow, rows_at, text_at};
-use a429_table::{FaultKind, TablePlace};
+use crate::rows::TableRow;
+use a429_table::{FaultKind, TablePlace, rows_at, text_at};
 use toml::Value;
 
 /// The first earlier row of the same array with which a row clashes, for a fault of this kind. `None` if there is none.
