@@ -8,7 +8,7 @@ use crate::columns::Base;
 use crate::hexadecimal::eight_digits;
 use crate::ticks::without_prefix;
 use crate::times::decimal_digits;
-use a429_word::{Label, Sdi, Ssm, Word, raw_word};
+use a429_word::{Label, Sdi, Ssm, Word, hex_number};
 
 /// The 32 bits of eight hexadecimal digits, in either case. They may come after `0x`. `None` for any other text.
 #[inline(always)]
