@@ -1,13 +1,13 @@
 -- The plain form of a request asks for it. What the rules of the command line have for the row of each command is computed.
 use denote.Enum.Declared.{tag_of}
 use mathlib.Core.Path.{fun_ext}
-use Rattle.std.proofs.Common.{Bool, List, [], ap, ap₂, arith, false, map, refl, subst, sym, true, ℕ, ◌++◌, ◌+◌, ◌∙◌, ◌∷◌, ◌≡◌}
+use Rattle.std.proofs.Common.{Bool, List, [], ap, ap₂, arith, false, map, refl, rules, subst, sym, true, ℕ, ◌++◌, ◌+◌, ◌∙◌, ◌∷◌, ◌≡◌}
 use Rattle.std.proofs.lemmas.List.Folds.{flat_map-map}
 use Rattle.std.proofs.lemmas.Option.{cond_some, same_Some}
 use Rattle.std.specs.Fmt.{decimal}
 use Rattle.std.specs.List.{AllByRecursion, flat_map, list_all}
 use Rattle.std.specs.Option.{option_map_or}
-use Rattle.std.specs.Prelude.{MatchOption, None, Option, Some, if◌then◌else◌, min, not, option_and_then, option_map, slice_get, unwrap_or, ℕ, ⊤, ◌&&◌, ◌||◌, ◌≤◌}
+use Rattle.std.specs.Prelude.{MatchOption, None, Option, Some, if◌then◌else◌, min, not, option_and_then, option_map, slice_get, unwrap_or, ℕ, ◌&&◌, ◌||◌, ◌≤◌}
 use Rattle.std.specs.Str.Parse.{digits_value, without_leading_plus}
 use Rattle.clap.proofs.OnLiterals.{clap_on_literals}
 use Rattle.clap.specs.Facts.{explicit_source}
@@ -16,10 +16,10 @@ use Rattle.clap.specs.Simple.{filled, with_index}
 use Rattle.clap.specs.Takes.{default_passes, is_given, is_valid, level_passes}
 use Rattle.clap.specs.ValueTests.{is_unsigned_in}
 use Rattle.clap.specs.Walk.{nothing_held, walk_from, walked}
-use Rattle.clap.specs.Words.{Row, Shape, Text}
+use Rattle.clap.specs.Words.{Row, Rule, Shape, Text, first_of}
 use Rattle.a429_arguments.specs.CommandLine.{CommandRow, command_line, id_of, is_flag, is_switch, kind_of, kind_rule, many_rule, most_frames, number_rule, number_up_to, option_rule, options_of, required_rule, row_app, row_of}
-use Rattle.a429_arguments.specs.Given.{Given, given_by, given_in, nothing}
-use Rattle.a429_arguments.specs.RequestRows.{AreGivenTexts, AsksFor, IsAskedBy, IsGivenNumber, IsGivenText}
+use Rattle.a429_arguments.specs.Given.{Given, given_by, given_in, nothing, values_of}
+use Rattle.a429_arguments.specs.RequestRows.{AsksFor, IsAskedBy}
 use Rattle.a429_arguments.specs.Requests.{AskedBytes, CanBeGiven, HasWords, IsName, has_option, words_if, words_of, words_with}
 use Rattle.a429_arguments.specs.Usage.{verb_named}
 use Rattle.a429_arguments.specs.contracts.options.OptionName.{the_type as option_type}
@@ -58,11 +58,8 @@ for_each f g same name =
 
 -- ---- the arguments of a command, with what is given of each
 
-abbrev pub name_use : ℕ → Text → Text → Use
-name_use i word id = record { way = once; rule = with_index i (filled (required_rule id)); values = word ∷ [] }
-
-abbrev pub number_use : ℕ → Text → Text → Use
-number_use i word id = record { way = once; rule = with_index i (filled (number_rule id)); values = word ∷ [] }
+abbrev pub once_use : (Text → Rule) → ℕ → Text → Text → Use
+once_use rule i word id = record { way = once; rule = with_index i (filled (rule id)); values = word ∷ [] }
 
 abbrev pub names_use : ℕ → List Text → Text → Use
 names_use i words id = record { way = often; rule = with_index i (filled (many_rule id)); values = words }
@@ -96,8 +93,8 @@ module _ (name other text : Text) (words : List Text) (given : Given) where
   uses v =
       let row = row_of v in
       let place = next_if 2 row.second in
-      name_use 1 name row.first
-      ∷ use_if (name_use 2 other) row.second (use_if (number_use place text) row.number (use_if (names_use (next_if place row.number) words) row.more (map (option_use given) (options_of v))))
+      once_use required_rule 1 name row.first
+      ∷ use_if (once_use required_rule 2 other) row.second (use_if (once_use number_rule place text) row.number (use_if (names_use (next_if place row.number) words) row.more (map (option_use given) (options_of v))))
 
   -- what is found at the end
   abbrev pub found : Verb → Text → Option Row
@@ -122,32 +119,8 @@ module _ (name other text : Text) (words : List Text) (given : Given) where
 
   pub facts : (v : Verb) → Facts v
   unfolding command_line clap_on_literals walked
-  facts verb.Word = record {
-    named = record { stops = refl; passes = refl; leads = refl; label = refl };
-    met = refl;
-    new = refl;
-    valid = λ rows. refl;
-    required = refl;
-    first = refl;
-    second = refl;
-    number = refl;
-    more = refl;
-    options = λ unset. refl;
-    none = refl;
-  }
-  facts v = record {
-    named = record { stops = refl; passes = refl; leads = refl; label = refl };
-    met = refl;
-    new = refl;
-    valid = λ rows. refl;
-    required = refl;
-    first = refl;
-    second = refl;
-    number = refl;
-    more = refl;
-    options = λ unset. refl;
-    none = refl;
-  }
+  facts verb.Word = search rules
+  facts _ = search rules
 
 -- ---- what can be given passes the rules
 
@@ -175,7 +148,7 @@ option_can id kind (text ∷ more ∷ texts) o can = absurd can
 
 -- the text of the number is one that is read as it
 abbrev NumberText : Option Text → Text → ℕ → Type 0
-NumberText given text n = MatchOption given ⊤ (λ _. IsName text × (number_up_to most_frames text ≡ Some n))
+NumberText given text n = MatchOption given (n ≡ 0) (λ _. IsName text × (number_up_to most_frames text ≡ Some n))
 
 number_passes : (text : Text) (n : ℕ) → number_up_to most_frames text ≡ Some n → is_unsigned_in 0 most_frames text ≡ true
 unfolding number_up_to
@@ -192,9 +165,7 @@ values_in found = unwrap_or (option_map (λ r. r.values) found) []
 option_given : (kind : OptionKind) (id : Text) (texts : List Text) (other : Option Row) → given_by kind (values_in other) ≡ [] → CanBeGiven kind texts → given_by kind (values_in (row_or id texts other)) ≡ texts
 option_given kind id [] other none can = none
 option_given given.Flag id (text ∷ []) other none can = rw can refl
-option_given (given.Text form) id (text ∷ []) other none can = refl
-option_given (given.Texts form) id (text ∷ []) other none can = refl
-option_given (given.Number least most) id (text ∷ []) other none can = refl
+option_given kind id (text ∷ []) other none can = refl
 option_given kind id (text ∷ more ∷ texts) other none can = absurd can
 
 values_given : (id : Text) (texts : List Text) → values_in (row_or id texts None) ≡ texts
@@ -223,9 +194,9 @@ module _ (r : AskedBytes) (text : Text) (has : HasWords r) (number_is : NumberTe
   can : AllByRecursion Can us
   can = (
     (record { range = refl; action = refl; reading = refl; trailing = refl; missing = refl }, (has.first, refl)),
-    can_if (r.second ≡ []) (IsName r.second) (name_use 2 r.second) row_here.second _ has.second
+    can_if (r.second ≡ []) (IsName r.second) (once_use required_rule 2 r.second) row_here.second _ has.second
         (λ id name. (record { range = refl; action = refl; reading = refl; trailing = refl; missing = refl }, (name, refl)))
-        (can_if ⊤ (IsName text × (number_up_to most_frames text ≡ Some r.number)) (number_use _ text) row_here.number _ number_is
+        (can_if (r.number ≡ 0) (IsName text × (number_up_to most_frames text ≡ Some r.number)) (once_use number_rule _ text) row_here.number _ number_is
         (λ id is. (record { range = refl; action = refl; reading = refl; trailing = refl; missing = refl }, (is.0, number_passes text r.number is.1)))
         (can_if (r.more ≡ []) (AllByRecursion IsName r.more) (names_use _ r.more) row_here.more _ has.more
         (λ id all. (record { range = refl; action = refl; reading = refl; trailing = refl; missing = refl }, (λ word. refl), all)) (options_can (options_of r.verb)))),
@@ -245,21 +216,11 @@ module _ (r : AskedBytes) (text : Text) (has : HasWords r) (number_is : NumberTe
   found_here : (id : Text) → row_at id end ≡ found_by_id id
   found_here id = end_found id us s.rules
 
-  text_field : (given : Option Text) (word : Text) → option_map found_by_id given ≡ option_map (λ id. Some (row_of_values id (word ∷ []))) given → MatchOption given (word ≡ []) (λ _. IsName word)
-      → IsGivenText end given word
-  text_field None word is name = name
-  text_field (Some id) word is name = ap first_in (found_here id ∙ same_Some (found_by_id id) (Some (row_of_values id (word ∷ []))) is)
-
-  number_field : (given : Option Text) → option_map found_by_id given ≡ option_map (λ id. Some (row_of_values id (text ∷ []))) given → MatchOption given (r.number ≡ 0) (λ _. r.number ≤ most_frames)
-      → NumberText given text r.number → IsGivenNumber end given r.number
-  number_field None is few read = few
-  number_field (Some id) is few (name, read) =
-      ap (λ row. option_and_then (number_up_to most_frames) (first_in row)) (found_here id ∙ same_Some (found_by_id id) (Some (row_of_values id (text ∷ []))) is) ∙ read
-
-  names_field : (given : Option Text) → option_map found_by_id given ≡ option_map (λ id. row_or id r.more None) given → MatchOption given (r.more ≡ []) (λ _. AllByRecursion IsName r.more)
-      → AreGivenTexts end given r.more
-  names_field None is names = names
-  names_field (Some id) is names = ap values_in (found_here id ∙ same_Some (found_by_id id) (row_or id r.more None) is) ∙ values_given id r.more
+  -- what is found of an argument that the command may have
+  field : (Absent Present : Type 0) (Is : Text → Type 0) (expected : Text → Option Row) (given : Option Text) → option_map found_by_id given ≡ option_map expected given
+      → MatchOption given Absent (λ _. Present) → ((id : Text) → row_at id end ≡ expected id → Present → Is id) → MatchOption given Absent Is
+  field Absent Present Is expected None are can is = can
+  field Absent Present Is expected (Some id) are can is = is id (found_here id ∙ same_Some (found_by_id id) (expected id) are) can
 
   -- what is found of an option that is not given, and of one that the command has or has not
   abbrev unset : OptionName → Option Row
@@ -282,10 +243,13 @@ module _ (r : AskedBytes) (text : Text) (has : HasWords r) (number_is : NumberTe
 
   asked : IsAskedBy end r
   asked = record {
-    first = text_field (Some row_here.first) r.first (ap Some f.first) has.first;
-    second = text_field row_here.second r.second f.second has.second;
-    number = number_field row_here.number f.number has.number number_is;
-    more = names_field row_here.more f.more has.more;
+    first = ap first_in (found_here row_here.first ∙ f.first);
+    second = field (r.second ≡ []) (IsName r.second) (λ id. first_of id end ≡ Some r.second) (λ id. Some (row_of_values id (r.second ∷ []))) row_here.second f.second has.second
+        (λ id at name. ap first_in at);
+    number = field (r.number ≡ 0) (IsName text × (number_up_to most_frames text ≡ Some r.number)) (λ id. option_and_then (number_up_to most_frames) (first_of id end) ≡ Some r.number)
+        (λ id. Some (row_of_values id (text ∷ []))) row_here.number f.number number_is (λ id at is. ap (λ row. option_and_then (number_up_to most_frames) (first_in row)) at ∙ is.1);
+    more = field (r.more ≡ []) (AllByRecursion IsName r.more) (λ id. values_of id end ≡ r.more) (λ id. row_or id r.more None) row_here.more f.more has.more
+        (λ id at names. ap values_in at ∙ values_given id r.more);
     options = option_field;
     taken = has.rules;
   }
@@ -308,8 +272,8 @@ module _ (r : AskedBytes) (text : Text) (has : HasWords r) (number_is : NumberTe
   words_are : row_here.name ∷ flat_map words_of_use us ≡ words_with text r
   words_are =
       ap (λ (ws : List Text). row_here.name ∷ r.first ∷ ws)
-      (if_words (name_use 2 r.second) row_here.second _ (r.second ∷ []) (λ id. refl) ∙ ap (λ (ws : List Text). words_if row_here.second (r.second ∷ []) ++ ws)
-      (if_words (number_use _ text) row_here.number _ (text ∷ []) (λ id. refl) ∙ ap (λ (ws : List Text). words_if row_here.number (text ∷ []) ++ ws)
+      (if_words (once_use required_rule 2 r.second) row_here.second _ (r.second ∷ []) (λ id. refl) ∙ ap (λ (ws : List Text). words_if row_here.second (r.second ∷ []) ++ ws)
+      (if_words (once_use number_rule _ text) row_here.number _ (text ∷ []) (λ id. refl) ∙ ap (λ (ws : List Text). words_if row_here.number (text ∷ []) ++ ws)
       (if_words (names_use _ r.more) row_here.more _ r.more (λ id. refl) ∙ ap (λ (ws : List Text). words_if row_here.more r.more ++ ws)
       (flat_map-map words_of_use (option_use r.given) (options_of r.verb)))))
 
@@ -321,7 +285,7 @@ module _ (r : AskedBytes) (text : Text) (has : HasWords r) (number_is : NumberTe
 -- ---- with its number in decimal digits
 
 decimal_text : (given : Option Text) (n : ℕ) → MatchOption given (n ≡ 0) (λ _. n ≤ most_frames) → NumberText given (decimal n) n
-decimal_text None n few = tt
+decimal_text None n none = none
 decimal_text (Some id) n few = (decimal_is_name n (omega (arith, few)), decimal_up_to most_frames n few (omega (arith, few)))
 
 pub words_ask : (r : AskedBytes) → HasWords r → AsksFor (words_of r) r

@@ -1,9 +1,10 @@
 -- A number in decimal digits, as an argument.
-use Rattle.std.proofs.Common.{◌≡◌, ◌∙◌, ◌≤◌, ◌<◌, ◌^◌, ℕ, List, [], ◌∷◌, Bool, true, false, ap, refl, sym, subst, arith}
-use Rattle.std.specs.Prelude.{Some, None, if◌then◌else◌}
+use Rattle.std.proofs.Common.{◌≡◌, ◌∙◌, ◌≤◌, ◌<◌, ◌^◌, ℕ, List, [], ◌∷◌, true, ap, inl, inr, refl, sym, subst, arith}
+use Rattle.std.specs.Prelude.{Some, None}
 use Rattle.std.specs.Char.{digit_value}
 use Rattle.std.specs.Fmt.{decimal}
 use Rattle.std.specs.Str.Parse.{AllDigits, IsNumeral, digits_value, without_leading_plus}
+use Rattle.std.proofs.lemmas.Bool.{cases_Bool}
 use Rattle.std.proofs.lemmas.Fmt.{decimal_is_IsNumeral}
 use Rattle.std.proofs.lemmas.Str.Parse.{without_leading_plus_none}
 use Rattle.clap.specs.ValueTests.{is_unsigned_in}
@@ -45,8 +46,7 @@ decimal_up_to most n few small =
 pub none_up_to : (most : ℕ) (t : Text) → (IsNumeral 10 (without_leading_plus t) → digits_value 10 (without_leading_plus t) < 2 ^ 64 → digits_value 10 (without_leading_plus t) ≤ most → ⊥)
     → number_up_to most t ≡ None
 unfolding number_up_to
-none_up_to most t none = go (is_unsigned_in 0 most t) refl
-  where
-    go : (b : Bool) → is_unsigned_in 0 most t ≡ b → (if b then Some (digits_value 10 (without_leading_plus t)) else None) ≡ None
-    go true is = let (numeral, small, above, few) = accepts-Accepts true (reads.Unsigned 0 most) t is in absurd (none numeral small few)
-    go false is = refl
+none_up_to most t none = elim (cases_Bool (is_unsigned_in 0 most t)) [
+  | inl is ↦ let (numeral, small, above, few) = accepts-Accepts true (reads.Unsigned 0 most) t is in absurd (none numeral small few)
+  | inr is ↦ rw is refl
+]

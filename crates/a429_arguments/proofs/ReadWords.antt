@@ -1,8 +1,8 @@
 -- How the words of one argument are read, and then those of several, and what is found of each at the end.
-use Rattle.std.proofs.Common.{Bool, List, [], ap, append-nil, append_assoc, ap₂, codes, drop, false, fold, map, refl, subst, sym, true, ℕ, ◌++◌, ◌+◌, ◌∙◌, ◌∷◌, ◌≡◌}
+use Rattle.std.proofs.Common.{Bool, List, [], ap, append-nil, append_assoc, ap₂, codes, drop, false, fold, inl, inr, map, refl, subst, sym, true, ℕ, ◌++◌, ◌+◌, ◌∙◌, ◌∷◌, ◌≡◌}
 use Rattle.std.proofs.Math.Bool.{and-false}
 use Rattle.clap.proofs.SimpleLemmas.{is_false}
-use Rattle.std.proofs.lemmas.Bool.{and_parts, ne_eqb, or_parts}
+use Rattle.std.proofs.lemmas.Bool.{and_parts, cases_Bool, ne_eqb, or_parts}
 use Rattle.std.proofs.lemmas.List.Folds.{find-append, list_any-append}
 use Rattle.std.proofs.lemmas.Option.{same_Some}
 use Rattle.std.proofs.lemmas.Slice.Eq.{bytes_eq-Decides}
@@ -174,26 +174,6 @@ module _ (s : Shape) (a : Rule) (by : arg_by_id s.rules a.id ≡ Some a) (rows :
       (often_read i (before ++ word ∷ []) more words (held_with now (Some (a.id, word ∷ []))) true end is at none passes all (next_settles before word is none (passes word))
       (λ g n settled. rest g n (subst (λ (values : List Text). Settles s g (rows ++ rows_of_values a.id values)) (append_assoc before (word ∷ []) more) settled)))
 
-  -- an option and its value
-  valued_read : (h : Held) (w : Waiting) (i : ℕ) (word : Text) (words : List Text) (end : List Row) → IsUsed a Set → IsOption a.id → arg_by_long s.rules a.id ≡ Some a → IsName word
-      → Settles s h rows → Reads s (at_word (held_with rows (Some (a.id, word ∷ []))) idle i) words end → Reads s (at_word h w i) ((codes "--" ++ a.id) ∷ word ∷ words) end
-  valued_read h w i word words end is o long name settles rest =
-      let held = held_with rows (Some (a.id, [])) in
-      let met = name_met s (option a.id) i word held name in
-      reads_on s h w i (codes "--" ++ a.id) (word ∷ words) end (held, next (option a.id)) _ (rw (no_command w (codes "--" ++ a.id), o.0, o.1, long, is.range) settles.passes)
-      (rw (no_command w (codes "--" ++ a.id), o.0, o.1, long, is.range, settles.comes, settles.skip) refl) refl refl
-      (reads_on s held (option a.id) i word words end (held_with rows (Some (a.id, word ∷ [])), next idle) _ met.0 (met.1 ∙ rw (by, is.range, same_text a.id) refl) refl refl rest)
-
-  -- an option without a value
-  flag_read : (h : Held) (w : Waiting) (i : ℕ) (words : List Text) (end : List Row) → IsUsed a SetTrue → IsOption a.id → arg_by_long s.rules a.id ≡ Some a → has_row a.id rows ≡ false
-      → value_passes a (codes "true") ≡ true → Settles s h rows → Reads s (at_word (held_with (rows ++ row_of_values a.id (codes "true" ∷ []) ∷ []) None) idle i) words end
-      → Reads s (at_word h w i) ((codes "--" ++ a.id) ∷ words) end
-  flag_read h w i words end is o long none passes settles rest =
-      reads_on s h w i (codes "--" ++ a.id) words end (held_with (rows ++ row_of_values a.id (codes "true" ∷ []) ∷ []) None, next idle) _
-      (rw (no_command w (codes "--" ++ a.id), o.0, o.1, long, is.range, settles.passes, settles.comes, is.action, is.missing, none, passes) refl)
-      (rw (no_command w (codes "--" ++ a.id), o.0, o.1, long, is.range, settles.comes, settles.skip, is.action, is.missing, is.reading)
-      (ap (λ (rs : List Row). (held_with rs None, next idle)) (first_use a.id rows (codes "true" ∷ []) none))) refl refl rest
-
 -- ---- several arguments
 
 -- how an argument is given: at its place, once or often, or by its name, which may be a flag
@@ -249,12 +229,25 @@ use_read s i once a (word ∷ []) at by (is, (name, passes)) h m rows end words 
 use_read s i often a values at by (is, passes, all) h m rows end words none settles rest =
     often_read s a by rows i [] values words h m end is at none passes all (subst (Settles s h) (sym (append-nil rows)) settles) rest
 use_read s i (by_name flag) a [] at by can h m rows end words none settles rest = rest h m (subst (Settles s h) (sym (append-nil rows)) settles)
+-- an option and its value
 use_read s i (by_name false) a (word ∷ []) at by (is, o, (name, passes)) h m rows end words none settles rest =
-    valued_read s a by rows h (waiting_if m) i word words end is o at name settles
-    (rest (held_with rows (Some (a.id, word ∷ []))) false (value_settles s a by rows word is none passes))
+    let held = held_with rows (Some (a.id, [])) in
+    let read = held_with rows (Some (a.id, word ∷ [])) in
+    let met = name_met s (option a.id) i word held name in
+    let none_here = no_command (waiting_if m) (codes "--" ++ a.id) in
+    reads_on s h (waiting_if m) i (codes "--" ++ a.id) (word ∷ words) end (held, next (option a.id)) _ (rw (none_here, o.0, o.1, at, is.range) settles.passes)
+    (rw (none_here, o.0, o.1, at, is.range, settles.comes, settles.skip) refl) refl refl
+    (reads_on s held (option a.id) i word words end (read, next idle) _ met.0 (met.1 ∙ rw (by, is.range, same_text a.id) refl) refl refl
+    (rest read false (value_settles s a by rows word is none passes)))
+-- an option without a value
 use_read s i (by_name true) a (word ∷ []) at by (is, o, passes, set) h m rows end words none settles rest =
-    flag_read s a by rows h (waiting_if m) i words end is o at none passes settles
-    (rest (held_with (rows ++ row_of_values a.id (codes "true" ∷ []) ∷ []) None) false (record { passes = refl; comes = rw set refl; skip = refl }))
+    let read = held_with (rows ++ row_of_values a.id (codes "true" ∷ []) ∷ []) None in
+    let none_here = no_command (waiting_if m) (codes "--" ++ a.id) in
+    reads_on s h (waiting_if m) i (codes "--" ++ a.id) words end (read, next idle) _
+    (rw (none_here, o.0, o.1, at, is.range, settles.passes, settles.comes, is.action, is.missing, none, passes) refl)
+    (rw (none_here, o.0, o.1, at, is.range, settles.comes, settles.skip, is.action, is.missing, is.reading)
+    (ap (λ (rs : List Row). (held_with rs None, next idle)) (first_use a.id rows (codes "true" ∷ []) none))) refl refl
+    (rest read false (record { passes = refl; comes = rw set refl; skip = refl }))
 use_read s i way a values at by can h m rows end words none settles rest = absurd can
 
 -- these ids have this one
@@ -317,11 +310,10 @@ or_assoc (Some r) b c = refl
 -- an id that is there is found there
 is_there : (id : Text) (rows : List Row) (other : Option Row) → has_row id rows ≡ true → row_at id rows ≡ option_or (row_at id rows) other
 is_there id [] other has = absurd (cc has)
-is_there id (r ∷ rows) other has = go (bytes_eq r.id id) refl (is_there id rows other)
-  where
-    go : (b : Bool) → bytes_eq r.id id ≡ b → (has_row id rows ≡ true → row_at id rows ≡ option_or (row_at id rows) other) → row_at id (r ∷ rows) ≡ option_or (row_at id (r ∷ rows)) other
-    go true same rest = rw same refl
-    go false same rest = rw same (rest (rw same at has))
+is_there id (r ∷ rows) other has = elim (cases_Bool (bytes_eq r.id id)) [
+  | inl same ↦ rw same refl
+  | inr differs ↦ rw differs (is_there id rows other (rw differs at has))
+]
 
 one_default : (id : Text) (rows : List Row) (a : Rule) → row_at id (with_default rows a) ≡ option_or (row_at id rows) (row_at id (with_default [] a))
 one_default id rows a = go (has_row a.id rows) refl a.defaults refl

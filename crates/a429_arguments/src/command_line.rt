@@ -154,6 +154,7 @@ fn with_commands<'a>(
 }
 
 /// The command line of the program. Error: an allocation failed.
+#[tactic(auto, unfolding(crate::specs::CommandLine::command_line))]
 pub fn build_command<'a>(alloc: Global) -> Result<Command<'a>, AllocError>
     ensures { IfOk result (λ c. app_of c ≡ command_line) }
 {

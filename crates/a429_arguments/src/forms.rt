@@ -57,14 +57,11 @@ const WHOLE: Answers = Answers {
     is_on_plan: false,
 };
 
+type Name = &'static str;
+
 /// What a command is given that is no option, by what help calls it: a name, perhaps a second one, perhaps a number of
 /// frames, and perhaps any number of further names.
-pub type Names = (
-    &'static str,
-    Option<&'static str>,
-    Option<&'static str>,
-    Option<&'static str>,
-);
+pub type Names = (Name, Option<Name>, Option<Name>, Option<Name>);
 
 const TABLE: Names = ("TABLE", None, None, None);
 

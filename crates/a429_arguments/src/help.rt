@@ -25,8 +25,7 @@ macro_rules! all_help {
     ($of_rows:ident $($given:tt)*) => {
         $of_rows! { $($given)*
         Import, "Print an equipment table, made from a spreadsheet's rows",
-            ["Comma-separated values, with a row for each output", "", "", ""],
-            "\
+            ["Comma-separated values, with a row for each output", "", "", ""], "\
 The heading names the columns, in any order and any case, with spaces or
 underlines. Commas, semicolons or tabs separate fields. Other columns are
 ignored, and so are up to ten lines above the heading.
@@ -46,9 +45,7 @@ A row without a group states its source and receiver alone.
 Examples:
   a429 import examples/displays/labels.csv > table.toml
   a429 import rows.csv --map \"Min (ms)=min_ms\" > table.toml";
-        Plan, "Plan a station on the fewest buses for its periods, with their bound",
-            [TABLE, "", "", ""],
-            "\
+        Plan, "Plan a station on the fewest buses for its periods, with their bound", [TABLE, "", "", ""], "\
 Each label recurs at the greatest power of two of slots in its interval. No
 schedule with these periods has fewer buses. Other periods can need fewer:
 `bound` of `a429 margin` is a lower bound for all of them.
@@ -56,13 +53,10 @@ schedule with these periods has fewer buses. Other periods can need fewer:
 Example:
   a429 plan examples/first/table.toml";
         Check, "Check whether a plan's text shows the fewest buses for a station",
-            [TABLE, "Plan text, from any program or person", "", ""],
-            "\
+            [TABLE, "Plan text, from any program or person", "", ""], "\
 Example:
   a429 check examples/displays/table.toml examples/displays/table.plan";
-        Icd, "Print the data of each output for an interface control document",
-            [TABLE, "", "", ""],
-            "\
+        Icd, "Print the data of each output for an interface control document", [TABLE, "", "", ""], "\
 There is a row for each output:
   group, rate              its group, and the bit rate in bit/s
   source, receiver         its source, and the receiver of that source
@@ -76,14 +70,10 @@ There is a row for each output:
 
 Example:
   a429 icd --csv examples/displays/table.toml";
-        Draw, "Draw the slot tables of a plan as an image (SVG)",
-            [TABLE, "", "", ""],
-            "\
+        Draw, "Draw the slot tables of a plan as an image (SVG)", [TABLE, "", "", ""], "\
 Example:
   a429 draw --group displays examples/displays/table.toml > displays.svg";
-        Slots, "Print the slot tables of a plan: each cell with its output",
-            [TABLE, "", "", ""],
-            "\
+        Slots, "Print the slot tables of a plan: each cell with its output", [TABLE, "", "", ""], "\
 The cells are in the order in which each group sends them in one frame.
   slot, time_us       the slot from 0, and when it begins in the frame
   bus                 the bus from 0
@@ -94,9 +84,7 @@ sdi, and the word as eight hexadecimal digits.
 
 Example:
   a429 slots --group displays examples/displays/table.toml";
-        Buses, "Print which words each input bus and each output bus carries",
-            [TABLE, "", "", ""],
-            "\
+        Buses, "Print which words each input bus and each output bus carries", [TABLE, "", "", ""], "\
 A row is a word on a bus.
   direction           in: the bus of a receiver; out: a bus of a group
   name, bus, rate     the receiver or the group, the bus from 0, its bit rate
@@ -105,9 +93,7 @@ A row is a word on a bus.
 
 Example:
   a429 buses examples/displays/table.toml";
-        Load, "Print the load of each bus, and how many more outputs it can take",
-            [TABLE, "", "", ""],
-            "\
+        Load, "Print the load of each bus, and how many more outputs it can take", [TABLE, "", "", ""], "\
 There is a row for each bus, and a row for each group with all its buses. The
 rows after it say how many further outputs of each period its free cells take
 (`room`). With --limit, `needed` in the row of a group above the limit is the
@@ -115,9 +101,7 @@ fewest buses that stay within the limit.
 
 Example:
   a429 load --limit 80 examples/displays/table.toml";
-        Margin, "Show what would save a bus in each group",
-            [TABLE, "", "", ""],
-            "\
+        Margin, "Show what would save a bus in each group", [TABLE, "", "", ""], "\
 There is a row for each group. If it has more than one bus, a row follows for
 each output that could have a longer period:
   frame_slots     the frame of the group in slots
@@ -134,9 +118,7 @@ each output that could have a longer period:
 
 Example:
   a429 margin examples/air_data_and_inertial/station.toml";
-        Lint, "Report likely mistakes in a table, such as sources that are not sent",
-            [TABLE, "", "", ""],
-            "\
+        Lint, "Report likely mistakes in a table, such as sources that are not sent", [TABLE, "", "", ""], "\
 There is a row for each finding, and the status is 1 if there is a finding:
   unfit           the interval of an output has no period
   too-many-buses  a group needs this number of buses, more than 16
@@ -154,8 +136,7 @@ There is a row for each finding, and the status is 1 if there is a finding:
 Example:
   a429 lint examples/air_data_and_inertial/station.toml";
         Diff, "Print what changes when one table replaces another",
-            [TABLE, "Equipment table that replaces TABLE (TOML)", "", ""],
-            "\
+            [TABLE, "Equipment table that replaces TABLE (TOML)", "", ""], "\
 There is a row for each thing that changes, with all that changes of it, and the
 status is 1 if there is one. A row `station` means that OTHER cannot be
 published while TABLE runs. A row `moved` has the number of outputs that only
@@ -166,8 +147,7 @@ the maximum.
 Example:
   a429 diff examples/displays/table.toml examples/displays/faster.toml";
         Replay, "Play the events of a script on a station, and print the answers",
-            [TABLE, "Script of events, one on each line", "", "Further tables that the script can publish, numbered from 1"],
-            "\
+            [TABLE, "Script of events, one on each line", "", "Further tables that the script can publish, numbered from 1"], "\
 A script has an event on each line:
   arrive RECEIVER HEX  a word comes in
   cell GROUP           a group sends its next cell
@@ -176,9 +156,7 @@ A script has an event on each line:
 
 Example:
   a429 replay examples/first/table.toml examples/first/script";
-        Simulate, "Simulate a station on a log of received words with times",
-            [TABLE, LOG, "", LOGS],
-            "\
+        Simulate, "Simulate a station on a log of received words with times", [TABLE, LOG, "", LOGS], "\
 A log has a word on each line. Blanks, commas or semicolons separate its fields,
 and a heading may name its columns. TIME must not decrease. Empty lines, and
 lines that begin with #, are ignored. US is in microseconds. Output lines:
@@ -192,14 +170,11 @@ With --summary there is a row for each output, with times in microseconds:
 Example:
   a429 simulate examples/displays/table.toml examples/displays/log";
         Live, "Run a station on threads, and print how many words and cells passed",
-            [TABLE, "Received words, `RECEIVER HEX` on each line", "How many frames each group sends, at most 1000000", "Further tables, published one by one while the station runs"],
-            "\
+            [TABLE, "Received words, `RECEIVER HEX` on each line", "How many frames each group sends, at most 1000000", "Further tables, published one by one while the station runs"], "\
 Example:
   a429 live examples/air_data_and_inertial/station.toml \\
       examples/air_data_and_inertial/words 100";
-        Survey, "Print which words are on recorded lines, and how often each comes",
-            [LOG, "", "", LOGS],
-            "\
+        Survey, "Print which words are on recorded lines, and how often each comes", [LOG, "", "", LOGS], "\
 A log has a word on each line. Blanks, commas or semicolons separate its fields,
 and a heading may name its columns. There is a row for each name, label and SDI,
 and a row for each name with all its words:
@@ -239,21 +214,17 @@ its foreign words. The status is 1 if something is found:
 Example:
   a429 judge examples/displays/table.toml examples/displays/log sent.log";
         Word, "Print the fields of a 32-bit word, and its data as BNR and as BCD",
-            ["The word, as eight hexadecimal digits", "", "", ""],
-            "\
+            ["The word, as eight hexadecimal digits", "", "", ""], "\
 Example:
   a429 word 600000c1";
-        Encode, "Print the 32-bit word that has these fields",
-            ["The label, as three octal digits", "", "", ""],
-            "\
+        Encode, "Print the 32-bit word that has these fields", ["The label, as three octal digits", "", "", ""], "\
 Give exactly one of --data, --bnr and --bcd. The word has odd parity. Print its
 fields with `a429 word`.
 
 Example:
   a429 encode 203 --bnr 5000";
         Lines, "Decode a recorded line: print its words, its faults, and the rest",
-            ["Line file, with one byte for each symbol", "", "", "Label filters, LLL/MMM in octal, at most 32"],
-            "\
+            ["Line file, with one byte for each symbol", "", "", "Label filters, LLL/MMM in octal, at most 32"], "\
 A line file has `1` for Hi, `0` for Lo and `.` for Null; spaces and line feeds
 are skipped. With filters, `lines` prints only the words that a filter passes.
 

@@ -1,6 +1,6 @@
 //! What the arguments ask for.
-ghost use Rattle.std.specs.Prelude.{Bool, IfOk, List, Option, Some, false, not, option_map, true, ◌≡◌};
-ghost use Rattle.clap.specs.Words.{HasKind, Text, found_of, rows_of, subcommand_rows_of};
+ghost use Rattle.std.specs.Prelude.{Bool, IfOk, List, Option, Some, false, not, option_map, true, unwrap_or, ◌≡◌};
+ghost use Rattle.clap.specs.Words.{HasKind, Text, all_of, found_of, rows_of, subcommand_rows_of};
 ghost use Rattle.a429_arguments.specs.CommandLine.{is_flag, name_id, row_of};
 ghost use Rattle.a429_arguments.specs.Texts.{texts_of};
 ghost use Rattle.a429_arguments.specs.Given.{form_of, has_given, is_unset, long_number_given, number_given, dates_of, drift_of, order_of, origin_of, shift_of, text_given, unit_of};
@@ -43,11 +43,11 @@ impl<'a> Asked<'a> {
         ensures { texts_of result.now ≡ (asked_of self.now).given option }
     {
         let none = &self.more[..0];
-        let texts = self.found.get_strs(option.id()).unwrap_or(none);
-        if is_unset(option.kind(), texts) {
+        let values = values_or(none, &self.found, option.id());
+        if is_unset(option.kind(), values) {
             none
         } else {
-            texts
+            values
         }
     }
 
@@ -153,14 +153,21 @@ impl<'a> Asked<'a> {
     }
 }
 
-/// Whether these texts are found of a flag that is not given.
-fn is_unset(kind: OptionKind, texts: &[&str]) -> bool
-    ensures { result ≡ is_unset kind (texts_of texts.now) }
+/// Whether these values are those of a flag that is not given.
+fn is_unset(kind: OptionKind, values: &[&str]) -> bool
+    ensures { result ≡ is_unset kind (texts_of values.now) }
 {
-    match (kind, texts.first()) {
-        (OptionKind::Flag, Some(text)) => *text != "true",
+    match (kind, values.first()) {
+        (OptionKind::Flag, Some(value)) => *value != "true",
         _ => false,
     }
+}
+
+/// The values of an argument, in their order. If it has no values, these.
+fn values_or<'t, 'a>(none: &'t [&'a str], found: &'t ArgMatches<'a>, id: &str) -> &'t [&'a str]
+    ensures { texts_of result.now ≡ unwrap_or (all_of id.now (rows_of (found_of found.now))) (texts_of none.now) }
+{
+    found.get_strs(id).unwrap_or(none)
 }
 
 /// Reads the arguments, without the program's name. Error: the arguments are no request, or an allocation failed (kind
@@ -250,7 +257,7 @@ fn names_in<'a>(
         → AreGivenTexts (rows_of (found_of found.now)) (name_id id.entry) texts → texts_of names.items ≡ texts) }
 {
     match id {
-        Some(id) => Vec::from_slice(alloc, found.get_strs(id).unwrap_or(&[])),
+        Some(id) => Vec::from_slice(alloc, values_or(&[], found, id)),
         None => Ok(Vec::new(alloc)),
     }
 }

@@ -8,7 +8,6 @@ ghost use Rattle.a429_arguments.specs.Tolerances.{FitTogether, HasToleranceForm,
 ghost use Rattle.a429_text.specs.Renames.{halves};
 
 use crate::values::short_number_up_to;
-use a429_text::renames;
 
 /// The greatest tolerance, in microseconds: that of the longest interval of an output (profile).
 const MOST_TOLERANCE: u32 = 30_000_000;
@@ -17,10 +16,7 @@ const MOST_TOLERANCE: u32 = 30_000_000;
 fn halves(text: &str) -> Option<(&str, &str)>
     ensures { option_map (λ p. (p.0.now, p.1.now)) result ≡ halves text.now }
 {
-    match renames::halves(text.as_bytes()) {
-        Some((group, _)) => Some((&text[..group.len()], &text[group.len() + 1..])),
-        None => None,
-    }
+    text.rsplit_once('=')
 }
 
 /// The number of US in microseconds. `None` if it is no whole number from 0 to 30000000.

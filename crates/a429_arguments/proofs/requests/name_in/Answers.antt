@@ -1,9 +1,15 @@
 use Rattle.std.proofs.Common.{◌≡◌, ◌∙◌, ap}
-use Rattle.std.specs.Prelude.{Some}
-use Rattle.clap.specs.Words.{first_of, found_of, rows_of}
+use Rattle.std.proofs.lemmas.Option.{same_Some}
+use Rattle.std.specs.Borrow.{Bor}
+use Rattle.std.specs.Prelude.{None, Option, Some, option_map, unwrap_or}
+use Rattle.clap.specs.Words.{Text, first_of, found_of, rows_of}
 use Rattle.clap.proofs.WalkLemmas.{first_value-rows}
-use Rattle.a429_arguments.proofs.Found.{name_is}
 use Rattle.a429_arguments.proofs.requests.name_in.Goals as goal
+
+-- a text that is there is read as it
+name_is : (found : Option (Bor Text)) (default : Bor Text) (text : Text) → option_map (λ t. t.now) found ≡ Some text → (unwrap_or found default).now ≡ text
+name_is None default text is = absurd (cc is)
+name_is (Some t) default text is = same_Some t.now text is
 
 pub returns-in-Some : goal.returns-in-Some
 returns-in-Some c = λ text is.

@@ -1,6 +1,7 @@
 use Rattle.std.proofs.Common.{◌≡◌, ◌∙◌, [], Bool, List, ap, sym, subst, true, map}
 use Rattle.std.specs.Prelude.{Option, not}
 use Rattle.std.proofs.lemmas.Result.{err_from_is_err_and}
+use Rattle.clap.proofs.FaultLemmas.{first_fails}
 use Rattle.clap.specs.Words.{App, HasKind, HasMatchesOf, Kinds, Row, Text, fault_of, is_simple_and_free, kind_of, subcommand_of, takes}
 use Rattle.clap.specs.Kinds.{or_else}
 use Rattle.clap.specs.declared.error.Error.{Error}
@@ -8,7 +9,6 @@ use Rattle.clap.specs.declared.error.kind.ErrorKind.TheVariants.{OutOfMemory}
 use Rattle.a429_arguments.specs.CommandLine.{command_line}
 use Rattle.a429_arguments.specs.RequestRows.{AsksFor, IsFound}
 use Rattle.a429_arguments.specs.Usage.{ComesTo, found_kinds, is_live, is_run}
-use Rattle.a429_arguments.proofs.Found.{kind_in_first}
 use Rattle.a429_arguments.proofs.CommandWords.{is_free_here, is_simple_here}
 use Rattle.a429_arguments.proofs.requests.parse.Goals as goal
 
@@ -21,7 +21,7 @@ returns-in_err-matches c =
     let passes = subst (λ (x : App). takes x words ≡ true → kind_of e ≡ OutOfMemory) made c.in_err-matches.ensures.passes in
     let fault = subst (λ (x : App). is_simple_and_free x ≡ true → HasKind (fault_of x words) e) made c.in_err-matches.ensures.kinds is_free_here in
     let p = err_from_is_err_and c.from_residual-in_err-matches.result c.from_residual-in_err-matches.ensures.1 in
-    let kinds = λ (others : Kinds). subst (λ (x : Error). HasKind (or_else (fault_of command_line words) others) x) (sym p.2) (kind_in_first (fault_of command_line words) others e fault) in
+    let kinds = λ (others : Kinds). subst (λ (x : Error). HasKind (or_else (fault_of command_line words) others) x) (sym p.2) (first_fails (fault_of command_line words) others (kind_of e) fault) in
     record {
       asked = λ r asks. rw p.1 (ap kind_of p.2 ∙ passes asks.0);
       kinds = rw p.1 (kinds (found_kinds (subcommand_of command_line words) (is_live (subcommand_of command_line words))));

@@ -1,12 +1,25 @@
 use mathlib.Core.Path.{fun_ext}
-use Rattle.std.proofs.Common.{◌≡◌, ◌∙◌, List, ap, subst, sym}
-use Rattle.std.specs.Prelude.{Option, Some, unwrap_or}
+use Rattle.std.proofs.Common.{◌≡◌, ◌∙◌, ℕ, List, [], ap, refl, subst, sym}
+use Rattle.std.proofs.lemmas.Option.{option_and_then_some, same_Some}
+use Rattle.std.specs.Prelude.{None, Option, Some, option_map, unwrap_or}
 use Rattle.clap.specs.Words.{Row, Text, first_of, found_of, rows_of}
-use Rattle.a429_arguments.specs.CommandLine.{CommandRow, form_row, name_id, row_of}
+use Rattle.a429_arguments.specs.CommandLine.{CommandRow, form_row, most_frames, name_id, number_up_to, row_of}
 use Rattle.a429_arguments.specs.RequestRows.{AreGivenTexts, IsFound, IsGivenNumber, IsGivenText}
 use Rattle.a429_arguments.proofs.AskedWords.{same_verb}
-use Rattle.a429_arguments.proofs.Found.{asked_is, met_parts, number_is}
 use Rattle.a429_arguments.proofs.requests.read_asked.Goals as goal
+
+-- the number of a text that is there
+number_is : (rows : List Row) (argument : Option Text) (text : Text) (n : ℕ) → ((t : Text) → IsGivenText rows argument t → text ≡ t) → IsGivenNumber rows argument n
+    → unwrap_or (number_up_to most_frames text) 0 ≡ n
+unfolding number_up_to
+number_is rows None text n named none = rw (named [] refl, none) refl
+number_is rows (Some id) text n named is = option_and_then_some (number_up_to most_frames) (first_of id rows) n is (λ t at read. rw (named t at, read) refl)
+
+-- what was met, by its two parts
+met_parts : {S : Type 0} (sub : Option S) (name_of : S → Text) (rows_of : S → List Row) (name : Text) (rows : List Row) → Some name ≡ option_map name_of sub
+    → Some rows ≡ option_map (λ (p : Text × List Row). p.1) (option_map {U = Text × List Row} (λ b. (name_of b, rows_of b)) sub) → option_map {U = Text × List Row} (λ b. (name_of b, rows_of b)) sub ≡ Some (name, rows)
+met_parts None name_of rows_of name rows named found = absurd (cc named)
+met_parts (Some b) name_of rows_of name rows named found = rw (same_Some name (name_of b) named, same_Some rows (rows_of b) found) refl
 
 pub returns-clause-asked : goal.returns-clause-asked
 returns-clause-asked c = λ r found.
@@ -23,4 +36,4 @@ returns-clause-asked c = λ r found.
     let number = c.unwrap_or.ensures ∙ ap (λ x. unwrap_or x 0) c.short_number_up_to.ensures
     ∙ number_is rows (name_id form.number) _ r.number c.name_in-3.ensures (subst (λ (x : CommandRow). IsGivenNumber rows x.number r.number) row is.number) in
     let more = c.in_ok-more.ensures r.more (subst (λ (x : CommandRow). AreGivenTexts rows x.more r.more) row is.more) in
-    asked_is r form.verb _ _ _ _ _ (sym same) first second number more (fun_ext is.options)
+    rw (sym same, first, second, number, more, fun_ext is.options) refl

@@ -1,11 +1,26 @@
-use Rattle.std.proofs.Common.{◌∙◌, List, ap, subst, sym, false, true}
-use Rattle.std.specs.Prelude.{Option, is_some}
+use Rattle.std.proofs.Common.{◌≡◌, ◌∙◌, ◌∷◌, [], Bool, List, ap, codes, refl, subst, sym, false, true}
+use Rattle.std.specs.Prelude.{Option, Some, if◌then◌else◌, is_some}
+use Rattle.std.specs.Str.{bytes_eq}
 use Rattle.clap.specs.Words.{HasKind, Kinds, Row, Text, found_of, rows_of, subcommand_rows_of}
+use Rattle.clap.specs.declared.error.kind.ErrorKind.TheVariants.{InvalidValue}
+use Rattle.a429_arguments.specs.CommandLine.{row_of}
 use Rattle.a429_arguments.specs.RequestRows.{IsFound}
 use Rattle.a429_arguments.specs.Requests.{AskedBytes}
-use Rattle.a429_arguments.specs.Given.{are_refused}
-use Rattle.a429_arguments.proofs.Found.{kinds_found}
+use Rattle.a429_arguments.specs.Given.{are_refused, given_in}
+use Rattle.a429_arguments.specs.Usage.{elsewhere, found_kinds, is_live, is_run}
+use Rattle.a429_arguments.specs.declared.forms.Verb.TheVariants as verb
+use Rattle.a429_arguments.specs.declared.forms.Verb.{Verb}
+use Rattle.a429_arguments.proofs.AskedWords.{verb_found}
 use Rattle.a429_arguments.proofs.requests.read_matches.Goals as goal
+
+live_is : (v : Verb) → bytes_eq (row_of v).name (codes "live") ≡ is_run v
+live_is verb.Word = refl
+live_is _ = refl
+
+-- the kinds of errors of a command that was found, by whether it breaks a rule
+kinds_found : (sub : Option (Text × List Row)) (v : Verb) (rows : List Row) (b : Bool) → sub ≡ Some ((row_of v).name, rows) → are_refused v (given_in rows) ≡ b → (is_other : Bool → Bool)
+    → found_kinds sub (is_other (is_live sub)) ≡ (if b then InvalidValue ∷ [] else elsewhere (is_other (is_run v)))
+kinds_found sub v rows b is refused is_other = rw (is, verb_found v, refused, live_is v) refl
 
 pub returns-in-None : goal.returns-in-None
 returns-in-None c =
