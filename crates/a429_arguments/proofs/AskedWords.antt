@@ -140,10 +140,8 @@ option_can : (id : Text) (kind : OptionKind) (texts : List Text) → IsOption id
 unfolding clap_on_literals
 option_can id given.Flag [] o can = tt
 option_can id kind [] o can = tt
-option_can id given.Flag (text ∷ []) o can = (record { range = refl; action = refl; reading = refl; trailing = refl; missing = refl }, o, refl, can)
-option_can id (given.Text form) (text ∷ []) o can = (record { range = refl; action = refl; reading = refl; trailing = refl; missing = refl }, o, (can, refl))
-option_can id (given.Number least most) (text ∷ []) o can = (record { range = refl; action = refl; reading = refl; trailing = refl; missing = refl }, o, can)
 option_can id (given.Texts form) (text ∷ []) o can = absurd can
+option_can id kind (text ∷ []) o can = search rules
 option_can id kind (text ∷ more ∷ texts) o can = absurd can
 
 -- the text of the number is one that is read as it
@@ -193,13 +191,10 @@ module _ (r : AskedBytes) (text : Text) (has : HasWords r) (number_is : NumberTe
 
   can : AllByRecursion Can us
   can = (
-    (record { range = refl; action = refl; reading = refl; trailing = refl; missing = refl }, (has.first, refl)),
-    can_if (r.second ≡ []) (IsName r.second) (once_use required_rule 2 r.second) row_here.second _ has.second
-        (λ id name. (record { range = refl; action = refl; reading = refl; trailing = refl; missing = refl }, (name, refl)))
-        (can_if (r.number ≡ 0) (IsName text × (number_up_to most_frames text ≡ Some r.number)) (once_use number_rule _ text) row_here.number _ number_is
-        (λ id is. (record { range = refl; action = refl; reading = refl; trailing = refl; missing = refl }, (is.0, number_passes text r.number is.1)))
-        (can_if (r.more ≡ []) (AllByRecursion IsName r.more) (names_use _ r.more) row_here.more _ has.more
-        (λ id all. (record { range = refl; action = refl; reading = refl; trailing = refl; missing = refl }, (λ word. refl), all)) (options_can (options_of r.verb)))),
+    search (rules, has.first),
+    can_if _ _ (once_use required_rule 2 r.second) row_here.second _ has.second (λ id name. search rules)
+        (can_if _ _ (once_use number_rule _ text) row_here.number _ number_is (λ id is. search (rules, number_passes text r.number is.1))
+        (can_if _ _ (names_use _ r.more) row_here.more _ has.more (λ id all. search rules) (options_can (options_of r.verb)))),
   )
 
   reads : Reads s (walk_from nothing_held) (flat_map words_of_use us) (flat_map rows_of_use us)
@@ -244,12 +239,10 @@ module _ (r : AskedBytes) (text : Text) (has : HasWords r) (number_is : NumberTe
   asked : IsAskedBy end r
   asked = record {
     first = ap first_in (found_here row_here.first ∙ f.first);
-    second = field (r.second ≡ []) (IsName r.second) (λ id. first_of id end ≡ Some r.second) (λ id. Some (row_of_values id (r.second ∷ []))) row_here.second f.second has.second
-        (λ id at name. ap first_in at);
-    number = field (r.number ≡ 0) (IsName text × (number_up_to most_frames text ≡ Some r.number)) (λ id. option_and_then (number_up_to most_frames) (first_of id end) ≡ Some r.number)
-        (λ id. Some (row_of_values id (text ∷ []))) row_here.number f.number number_is (λ id at is. ap (λ row. option_and_then (number_up_to most_frames) (first_in row)) at ∙ is.1);
-    more = field (r.more ≡ []) (AllByRecursion IsName r.more) (λ id. values_of id end ≡ r.more) (λ id. row_or id r.more None) row_here.more f.more has.more
-        (λ id at names. ap values_in at ∙ values_given id r.more);
+    second = field _ _ (λ id. first_of id end ≡ Some r.second) _ row_here.second f.second has.second (λ id at name. ap first_in at);
+    number = field _ _ (λ id. option_and_then (number_up_to most_frames) (first_of id end) ≡ Some r.number) _ row_here.number f.number number_is
+        (λ id at is. ap (λ row. option_and_then (number_up_to most_frames) (first_in row)) at ∙ is.1);
+    more = field _ _ (λ id. values_of id end ≡ r.more) _ row_here.more f.more has.more (λ id at names. ap values_in at ∙ values_given id r.more);
     options = option_field;
     taken = has.rules;
   }
