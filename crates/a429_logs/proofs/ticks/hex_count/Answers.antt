@@ -14,5 +14,5 @@ overflow_mul-count c = omega (arith, count_fits c.loop-digit.count 0 c.loop-digi
 
 pub overflow_add-count : goal.overflow_add-count
 overflow_add-count c =
-    let digit : c.in_ok-count.field-0 < 16 = search rules in
-    omega (arith, count_fits c.loop-digit.count c.in_ok-count.field-0 c.loop-digit.digit-index (omega arith) c.loop-digit.invariant.small digit)
+    let digit : c.in_ok-hex_digit.field-0 < 16 = search rules in
+    omega (arith, count_fits c.loop-digit.count c.in_ok-hex_digit.field-0 c.loop-digit.digit-index (omega arith) c.loop-digit.invariant.small digit, c.from.ensures)
