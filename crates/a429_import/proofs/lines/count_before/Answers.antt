@@ -10,9 +10,9 @@ returns c =
     let text : List ℕ = c.args.text.now in
     let end : List ℕ = c.args.end.now in
     record {
-      counted = c.pass_to.ensures.counted;
-      start = ap state_of c.pass_to.ensures.part ∙ c.new-count.ensures.start;
+      counted = c.before.ensures.counted;
+      start = c.before.ensures.start;
       rest =
-          ap (λ (n : ℕ). drop n text) c.pass_to.ensures.at ∙ ap (λ (xs : List ℕ). drop (length text - length xs) text) c.without_mark.ensures
+          ap (λ (n : ℕ). drop n text) c.before.ensures.at ∙ ap (λ (xs : List ℕ). drop (length text - length xs) text) c.without_mark.ensures
           ∙ end_place text (without_byte_order_mark end) (end_of text end (without_byte_order_mark end) c.requires (mark_end end)) ∙ sym (same_mark end);
     }
