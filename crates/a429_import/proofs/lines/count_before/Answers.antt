@@ -10,9 +10,9 @@ returns c =
     let text : List ℕ = c.args.text.now in
     let end : List ℕ = c.args.end.now in
     record {
-      counted = c.before.ensures.counted;
-      start = c.before.ensures.start;
+      counted = c.before-2.ensures.counted;
+      start = c.before-2.ensures.start;
       rest =
-          ap (λ (n : ℕ). drop n text) c.before.ensures.at ∙ ap (λ (xs : List ℕ). drop (length text - length xs) text) c.without_mark.ensures
+          ap (λ (n : ℕ). drop n text) c.before-2.ensures.at ∙ ap (λ (xs : List ℕ). drop (length text - length xs) text) c.without_mark.ensures
           ∙ end_place text (without_byte_order_mark end) (end_of text end (without_byte_order_mark end) c.requires (mark_end end)) ∙ sym (same_mark end);
     }
