@@ -162,10 +162,13 @@ pub end_at : (is_quote : Bool) (text : List ℕ) (place n : ℕ) → length text
 unfolding quotes_end
 end_at is_quote text place n past = ap (quotes_end is_quote n) (drop_all place text past)
 
+one_more : (n : ℕ) → suc n ≡ 1 + n
+one_more n = omega arith
+
 -- the bytes before a separator or a line end are those before its place
 len_place : (separator : ℕ) (text : List ℕ) → len_before separator text ≡ position_or_len (λ b. (b == separator) || ends_line b) text
 unfolding len_before
-len_place separator text = is_position_or_len (len_before separator) (λ b. (b == separator) || ends_line b) refl (λ x xs. refl) text
+len_place separator text = is_position_or_len (len_before separator) (λ b. (b == separator) || ends_line b) refl (λ x xs. ap (λ (n : ℕ). cond ((x == separator) || ends_line x) 0 n) (one_more (len_before separator xs))) text
 
 few : (b : Bool) (n m : ℕ) → n ≤ m → cond b 0 (suc n) ≤ suc m
 few true n m small = omega arith
@@ -177,8 +180,8 @@ len_few separator [] = omega arith
 len_few separator (b ∷ text) = few ((b == separator) || ends_line b) (len_before separator text) (length text) (len_few separator text)
 
 place_by : (n m : ℕ) → n ≤ m → (n < m) ⊎ (m ≤ n) → unwrap_or (cond (nat_lt n m) (Some n) None) m ≡ n
-place_by n m few (inl less) = rw (lt-ltb n m less) refl
-place_by n m few (inr past) = rw (le-ltb m n past) (omega (arith, few, past))
+place_by n m small (inl less) = rw (lt-ltb n m less) refl
+place_by n m small (inr past) = rw (le-ltb n m past) (omega (arith, small, past))
 
 pub len_is : (separator : ℕ) (text : List ℕ) → unwrap_or (position (λ b. (b == separator) || ends_line b) text) (length text) ≡ len_before separator text
 len_is separator text =
