@@ -5,7 +5,7 @@ use Rattle.std.proofs.lemmas.List.{drop_all, length-map}
 use Rattle.a429_word.proofs.Lists.{drop_at}
 use Rattle.a429_import.specs.declared.firsts.Part.{Part}
 use Rattle.a429_import.specs.declared.known.Known.{Known}
-use Rattle.a429_import.specs.declared.named_rows.NamedRows.{NamedRows}
+use Rattle.a429_import.specs.declared.known.NamedRows.{NamedRows}
 use Rattle.a429_import.specs.declared.rows.ImportRow.{ImportRow}
 use Rattle.a429_import.specs.declared.rows.RowTexts.{RowTexts}
 use Rattle.a429_import.specs.ImportTables.{firsts, name_in}

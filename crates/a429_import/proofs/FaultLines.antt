@@ -11,8 +11,7 @@ use Rattle.csv.specs.declared.parser.Config.{Config}
 use Rattle.csv.specs.declared.parser.State.{State}
 use Rattle.csv.specs.declared.parser.State.TheVariants as st
 use Rattle.a429_import.specs.declared.lines.CsvLine.{CsvLine}
-use Rattle.a429_import.specs.FaultLines.{data_line, data_line_above, fault_line, number_of, quotes_line, wrong_from, wrong_in, wrong_line}
-use Rattle.a429_import.specs.ImportAbove.{first_row, has_data, has_data_above, is_data}
+use Rattle.a429_import.specs.FaultLines.{data_line, data_line_above, fault_line, first_row, has_data, has_data_above, is_data, number_of, quotes_line, wrong_from, wrong_in, wrong_line}
 use Rattle.a429_import.specs.ImportMaps.{names_by}
 use Rattle.a429_import.specs.ImportQuotes.{breaks_quotes, has_wrong_quotes, is_inside_quotes, is_misquoted, is_misquoted_from, text_before}
 use Rattle.a429_import.specs.ImportSteps.{ended_by, ends_field}

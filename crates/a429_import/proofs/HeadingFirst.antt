@@ -4,7 +4,7 @@ use Rattle.std.specs.List.{list_any}
 use Rattle.csv.specs.Machine.{next_record}
 use Rattle.csv.specs.Reading.{records, records_from, strip_bom}
 use Rattle.csv.specs.declared.parser.Config.{Config}
-use Rattle.a429_import.specs.ImportAbove.{first_row, has_data, is_data}
+use Rattle.a429_import.specs.FaultLines.{first_row, has_data, is_data}
 use Rattle.a429_import.specs.ImportForms.{from_heading, separator_in}
 use Rattle.a429_import.specs.ImportMaps.{names_by}
 use Rattle.a429_import.specs.ImportQuotes.{text_before}

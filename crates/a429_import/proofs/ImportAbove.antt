@@ -15,8 +15,7 @@ use Rattle.csv.specs.declared.reader.Reader.{Reader}
 use Rattle.csv.proofs.ReadFacts.{rows-end}
 use Rattle.a429_import.specs.declared.lines.CsvLine.{CsvLine}
 use Rattle.a429_import.specs.declared.lines.LineCount.{LineCount}
-use Rattle.a429_import.specs.FaultLines.{data_line, number_of}
-use Rattle.a429_import.specs.ImportAbove.{first_row, is_data}
+use Rattle.a429_import.specs.FaultLines.{data_line, first_row, is_data, number_of}
 use Rattle.a429_import.specs.ImportReading.{HasRead}
 use Rattle.a429_import.specs.Imports.{separated}
 use Rattle.a429_import.specs.ImportWords.{trimmed}

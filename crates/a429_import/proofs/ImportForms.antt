@@ -1,9 +1,11 @@
 -- The lines of a text, from its heading on.
-use Rattle.std.proofs.Common.{Bor, ◌≡◌, ◌∙◌, ◌∷◌, ◌++◌, ◌+◌, ◌-◌, ◌<◌, ◌≤◌, [], ℕ, true, false, zero, suc, Bool, List, None, Option, Some, ap, ap₂, arith, cond, drop, filter, inl, length, length-append, map, not, refl, slice_index_or, subst, sym, take}
-use Rattle.std.specs.Prelude.{◌==◌, ◌&&◌, ◌||◌, option_map}
-use Rattle.std.specs.List.{AllByRecursion, find}
+use Rattle.std.proofs.Common.{Bor, ◌≡◌, ◌∙◌, ◌∷◌, ◌++◌, ◌+◌, ◌-◌, ◌<◌, ◌≤◌, ◌⊎◌, [], ℕ, true, false, zero, suc, Bool, List, None, Option, Some, ap, ap₂, arith, cond, drop, filter, inl, inr, length, length-append, map, not, refl, slice_index_or, subst, sym, take}
+use Rattle.std.specs.Prelude.{◌==◌, ◌&&◌, ◌||◌, nat_lt, option_map, position, unwrap_or}
+use Rattle.std.specs.List.{AllByRecursion, find, position_or_len}
 use Rattle.std.specs.Option.{option_map_or, option_or}
+use Rattle.std.proofs.lemmas.Bool.{cases_lt, le-ltb, lt-ltb}
 use Rattle.std.proofs.lemmas.List.{drop_all, length-map, map-append}
+use Rattle.std.proofs.lemmas.List.Recursion.{is_position_or_len}
 use Rattle.csv.specs.Reading.{AreRecords, ReadRecord, strip_bom}
 use Rattle.csv.specs.Records.{fields_of}
 use Rattle.csv.specs.declared.parser.Config.{Config}
@@ -160,17 +162,28 @@ pub end_at : (is_quote : Bool) (text : List ℕ) (place n : ℕ) → length text
 unfolding quotes_end
 end_at is_quote text place n past = ap (quotes_end is_quote n) (drop_all place text past)
 
--- the bytes before a separator, after one more byte
-pub len_passed : (separator : ℕ) (text : List ℕ) (place : ℕ) → place < length text
-    → len_before separator (drop place text) ≡ cond ((slice_index_or text place 0 == separator) || ends_line (slice_index_or text place 0)) 0 (suc (len_before separator (drop (place + 1) text)))
-unfolding len_before
-len_passed separator [] place below = absurd (omega (arith, below))
-len_passed separator (c ∷ text) zero below = refl
-len_passed separator (c ∷ text) (suc place) below =
-    let one : suc (place + 1) ≡ suc place + 1 = omega arith in
-    let b : ℕ = slice_index_or text place 0 in
-    len_passed separator text place (omega (arith, below)) ∙ ap (λ (i : ℕ). cond ((b == separator) || ends_line b) 0 (suc (len_before separator (drop i (c ∷ text))))) one
+one_more : (n : ℕ) → suc n ≡ 1 + n
+one_more n = omega arith
 
-pub len_at : (separator : ℕ) (text : List ℕ) (place : ℕ) → length text ≤ place → len_before separator (drop place text) ≡ 0
+-- the bytes before a separator or a line end are those before its place
+len_place : (separator : ℕ) (text : List ℕ) → len_before separator text ≡ position_or_len (λ b. (b == separator) || ends_line b) text
 unfolding len_before
-len_at separator text place past = ap (len_before separator) (drop_all place text past)
+len_place separator text = is_position_or_len (len_before separator) (λ b. (b == separator) || ends_line b) refl (λ x xs. ap (λ (n : ℕ). cond ((x == separator) || ends_line x) 0 n) (one_more (len_before separator xs))) text
+
+few : (b : Bool) (n m : ℕ) → n ≤ m → cond b 0 (suc n) ≤ suc m
+few true n m small = omega arith
+few false n m small = omega (arith, small)
+
+pub len_few : (separator : ℕ) (text : List ℕ) → len_before separator text ≤ length text
+unfolding len_before
+len_few separator [] = omega arith
+len_few separator (b ∷ text) = few ((b == separator) || ends_line b) (len_before separator text) (length text) (len_few separator text)
+
+place_by : (n m : ℕ) → n ≤ m → (n < m) ⊎ (m ≤ n) → unwrap_or (cond (nat_lt n m) (Some n) None) m ≡ n
+place_by n m small (inl less) = rw (lt-ltb n m less) refl
+place_by n m small (inr past) = rw (le-ltb n m past) (omega (arith, small, past))
+
+pub len_is : (separator : ℕ) (text : List ℕ) → unwrap_or (position (λ b. (b == separator) || ends_line b) text) (length text) ≡ len_before separator text
+len_is separator text =
+    let place = len_place separator text in
+    place_by _ (length text) (subst (λ (n : ℕ). n ≤ length text) place (len_few separator text)) (cases_lt _ (length text)) ∙ sym place

@@ -19,11 +19,10 @@ use Rattle.a429_word.proofs.Lists.{get_within}
 use Rattle.a429_import.specs.declared.firsts.Part.{Part}
 use Rattle.a429_import.specs.declared.firsts.Part.TheVariants.{Receivers, Sources, Groups}
 use Rattle.a429_import.specs.declared.known.Known.{Known}
-use Rattle.a429_import.specs.declared.named_rows.NamedRows.{NamedRows}
+use Rattle.a429_import.specs.declared.known.NamedRows.{NamedRows}
 use Rattle.a429_import.specs.declared.rows.ImportRow.{ImportRow}
-use Rattle.a429_import.specs.FirstRows.{first_from}
 use Rattle.a429_import.specs.ImportTables.{firsts, firsts_after, is_known, name_in, unless_known}
-use Rattle.a429_import.specs.Known.{Knows, KnowsFirsts, KnowsMore, named_of, names_of, numbers_of, place_of}
+use Rattle.a429_import.specs.Known.{Knows, KnowsFirsts, KnowsMore, first_from, named_of, names_of, numbers_of, place_of}
 use Rattle.a429_import.proofs.FirstRows.{bytes_eq-flip, position_from-push}
 
 -- ---- the first rows, with one more row

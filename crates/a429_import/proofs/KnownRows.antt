@@ -11,11 +11,10 @@ use Rattle.std.proofs.lemmas.Option.{none-some, same_Some, slice_get-map, slice_
 use Rattle.std.proofs.lemmas.Slice.Eq.{bytes_eq-Decides}
 use Rattle.a429_word.proofs.Lists.{false_unless, take_next}
 use Rattle.a429_import.specs.declared.firsts.Part.TheVariants.{Groups}
-use Rattle.a429_import.specs.declared.named_rows.NamedRows.{NamedRows}
+use Rattle.a429_import.specs.declared.known.NamedRows.{NamedRows}
 use Rattle.a429_import.specs.declared.rows.ImportRow.{ImportRow}
-use Rattle.a429_import.specs.FirstRows.{first_from}
 use Rattle.a429_import.specs.ImportTables.{firsts, name_in, same_name}
-use Rattle.a429_import.specs.Known.{KnowsFirsts, names_of, one_output, outputs_of, place_of, with_output}
+use Rattle.a429_import.specs.Known.{KnowsFirsts, first_from, names_of, one_output, outputs_of, place_of, with_output}
 use Rattle.a429_import.proofs.Knowing.{firsts_new, firsts_old, known_at, unknown}
 
 count_push : (p : ImportRow → Bool) (rows : List ImportRow) (row : ImportRow) → count_by p (rows ++ row ∷ []) ≡ count_by p rows + cond (p row) 1 0

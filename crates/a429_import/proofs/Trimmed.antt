@@ -1,8 +1,9 @@
 -- Texts without blanks round them.
-use Rattle.std.proofs.Common.{◌≡◌, ◌∙◌, ◌∷◌, ◌-◌, ◌<◌, [], ℕ, zero, suc, true, List, None, Option, Some, ap, ap₂, arith, length, map, refl}
+use Rattle.std.proofs.Common.{◌≡◌, ◌∙◌, ◌∷◌, ◌-◌, ◌<◌, [], ℕ, zero, suc, true, false, Bool, List, None, Option, Some, ap, ap₂, arith, cond, length, map, not, refl, sym}
 use Rattle.std.specs.Prelude.{◌==◌}
 use Rattle.std.specs.List.{list_all}
-use Rattle.std.specs.Option.{option_map_or}
+use Rattle.std.specs.Option.{is_some, option_map, option_map_or}
+use Rattle.std.proofs.lemmas.Option.{none-some}
 use Rattle.std.proofs.lemmas.Bool.{and_parts}
 use Rattle.a429_import.specs.ImportWords.{after_blank, back_blank, before_blank, front_blank, has_no_blank, stepped, trimmed}
 
@@ -25,6 +26,22 @@ unfolding stepped
 last_step step n text is = ap (λ (m : ℕ). stepped step m text) is
 
 -- ---- a field without blanks round it stays
+
+some_unless : {X Y : Type 0} (f : X → Y) (o : Option X) (b : Bool) (y : Y) → option_map f o ≡ cond b None (Some y) → is_some o ≡ not b
+some_unless f None true y e = refl
+some_unless f None false y e = absurd (none-some y e)
+some_unless f (Some x) true y e = absurd (none-some (f x) (sym e))
+some_unless f (Some x) false y e = refl
+
+not_same : (a b : Bool) → not a ≡ not b → a ≡ b
+not_same true true e = refl
+not_same true false e = sym e
+not_same false true e = sym e
+not_same false false e = refl
+
+-- whether there is no blank, as the call of `is_none` answers it
+pub none_if : {X Y : Type 0} (f : X → Y) (o : Option X) (b none : Bool) (y : Y) → option_map f o ≡ cond b None (Some y) → is_some o ≡ not none → none ≡ b
+none_if f o b none y e some = not_same none b (sym some ∙ some_unless f o b y e)
 
 no_front : (text : List ℕ) → (front_blank text == 0) ≡ true → after_blank text ≡ None
 no_front text h = rw h refl

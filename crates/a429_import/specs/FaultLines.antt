@@ -1,17 +1,36 @@
 -- On which line the fault is that comes before those of rows: a field with wrong quotes, or a row of data above the heading (profile: import).
-use Rattle.std.specs.Prelude.{ℕ, Bool, true, false, List, [], ◌∷◌, Option, None, Some, if◌then◌else◌, length, map}
-use Rattle.std.specs.Option.{option_map, option_or}
-use Rattle.csv.specs.Machine.{step}
+use Rattle.std.specs.Prelude.{ℕ, Bool, true, false, List, [], ◌∷◌, Option, None, Some, if◌then◌else◌, length, map, ◌==◌, ◌&&◌, is_some}
+use Rattle.std.specs.Option.{option_map, option_or, option_map_or}
+use Rattle.csv.specs.Machine.{step, next_record}
 use Rattle.csv.specs.Reading.{records, strip_bom}
 use Rattle.csv.specs.declared.parser.Config.{Config}
 use Rattle.csv.specs.declared.parser.State.{State}
 use Rattle.csv.specs.declared.parser.State.TheVariants as st
-use Rattle.a429_import.specs.ImportAbove.{first_row, is_data}
 use Rattle.a429_import.specs.ImportMaps.{names_by}
 use Rattle.a429_import.specs.ImportQuotes.{breaks_quotes, is_inside_quotes, text_before}
 use Rattle.a429_import.specs.ImportSteps.{ended_by, ends_field}
 use Rattle.a429_import.specs.ImportWords.{trimmed}
 use Rattle.a429_import.specs.RowLines.{from_row, line_of, row_lines}
+use Rattle.std.specs.List.{list_any}
+use Rattle.a429_import.specs.declared.fault.ImportColumn.TheVariants.{Label}
+use Rattle.a429_import.specs.ImportFields.{label_in}
+use Rattle.a429_import.specs.ImportRows.{column_field}
+
+-- the fields of the first row of a text, without blanks round them; none if it has no row
+abbrev pub first_row : Config → List ℕ → List (List ℕ)
+first_row cfg text = map trimmed (option_map_or (λ row. row.0) (next_record cfg st.StartRecord [] [] (strip_bom text)) [])
+
+-- fields are those of a row of data: the row has as many as the heading, and a label in the column `label`
+abbrev pub is_data : List (List ℕ) → List (List ℕ) → Bool
+is_data heading fields = (length fields == length heading) && is_some (label_in (column_field heading fields Label))
+
+-- a text has such a row
+abbrev pub has_data : Config → List (List ℕ) → List ℕ → Bool
+has_data cfg heading text = list_any (λ fields. is_data heading (map trimmed fields)) (records cfg (strip_bom text))
+
+-- such a row is above the heading: above the rest of a text, whose first row is the heading and has its names by texts HEADING=COLUMN
+abbrev pub has_data_above : Config → List (List ℕ) → List ℕ → List ℕ → Bool
+has_data_above cfg maps rest text = has_data cfg (names_by maps (first_row cfg rest)) (text_before rest text)
 
 -- a text from the beginning of its first field with wrong quotes on, if it has one. The bytes that follow a state are read; the text from the beginning of
 -- their field on is given

@@ -20,6 +20,9 @@ use Rattle.a429_import.specs.declared.firsts.Part.TheVariants.{Sources}
 use Rattle.a429_import.specs.ImportLimits.{too_many}
 use Rattle.a429_import.specs.ImportTables.{has_group, is_known}
 use Rattle.a429_import.specs.ImportWords.{same_heading}
+use Rattle.a429_import.specs.declared.rows.RowFields.{RowFields}
+use Rattle.a429_import.specs.declared.rows.TextFields.{TextFields}
+use Rattle.a429_import.specs.declared.columns.Places.{Places}
 
 -- ---- columns
 
@@ -65,6 +68,19 @@ is_wrong heading column = nat_lt 1 (times heading column) || (is_needed column &
 -- the first such column
 unfoldable pub wrong_column : List (List ℕ) → Option ImportColumn
 wrong_column heading = find (is_wrong heading) import_columns
+
+-- the place of a column, if the heading has it
+abbrev pub place_in : Places → ImportColumn → Option ℕ
+place_in p Group = p.group
+place_in p Rate = p.rate
+place_in p Source = p.source
+place_in p Receiver = p.receiver
+place_in p Label = p.label
+place_in p Sdi = p.sdi
+place_in p MinUs = p.min_us
+place_in p MaxUs = p.max_us
+place_in p Hold = p.hold
+place_in p Filters = p.filters
 
 -- the field of a row in a column; empty if the heading has no such column
 unfoldable pub column_field : List (List ℕ) → List (List ℕ) → ImportColumn → List ℕ
@@ -137,6 +153,17 @@ row_of heading line =
     if length (fields_of line.fields) == length heading
     then joined line.number (numbers_of line.separator heading (fields_of line.fields)) (texts_of heading (fields_of line.fields))
     else Err (line.number, Form, None)
+
+abbrev pub texts_view : TextFields → RowTexts
+texts_view fields = record {
+  group = fields.group.now;
+  source = fields.source.now;
+  receiver = fields.receiver.now;
+  filters = fields.filters.now;
+}
+
+abbrev pub row_view : RowFields → ImportRow
+row_view fields = record { texts = texts_view fields.texts; numbers = fields.numbers }
 
 -- ---- a row after others
 

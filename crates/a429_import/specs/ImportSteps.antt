@@ -4,10 +4,10 @@ use Rattle.csv.specs.declared.parser.Action.{Action}
 use Rattle.csv.specs.declared.parser.Action.TheVariants as act
 use Rattle.csv.specs.declared.parser.State.{State}
 use Rattle.csv.specs.declared.parser.State.TheVariants as st
-use Rattle.a429_import.specs.declared.steps.Ended.{Ended}
-use Rattle.a429_import.specs.declared.steps.Ended.TheVariants as ends
-use Rattle.a429_import.specs.declared.steps.Part.{Part}
-use Rattle.a429_import.specs.declared.steps.Part.TheVariants as part
+use Rattle.a429_import.specs.declared.lines.Ended.{Ended}
+use Rattle.a429_import.specs.declared.lines.Ended.TheVariants as ends
+use Rattle.a429_import.specs.declared.lines.Part.{Part}
+use Rattle.a429_import.specs.declared.lines.Part.TheVariants as part
 
 -- the state in which the library `csv` is then
 abbrev pub state_of : Part → State

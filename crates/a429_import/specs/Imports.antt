@@ -16,8 +16,7 @@ use Rattle.a429_import.specs.declared.fault.ImportFault.{ImportFault}
 use Rattle.a429_import.specs.declared.fault.ImportFault.TheVariants.{NoMemory, Csv, Table}
 use Rattle.a429_import.specs.declared.lines.CsvLine.{CsvLine}
 use Rattle.a429_import.specs.declared.rows.ImportRow.{ImportRow}
-use Rattle.a429_import.specs.FaultLines.{fault_line}
-use Rattle.a429_import.specs.ImportAbove.{has_data_above}
+use Rattle.a429_import.specs.FaultLines.{fault_line, has_data_above}
 use Rattle.a429_import.specs.ImportForms.{from_heading, separator_in}
 use Rattle.a429_import.specs.ImportMaps.{AreNamedBy}
 use Rattle.a429_import.specs.ImportQuotes.{has_wrong_quotes}

@@ -7,9 +7,8 @@ use Rattle.indexmap.specs.IndexMap.{keys, values}
 use Rattle.a429_import.specs.declared.firsts.Part.{Part}
 use Rattle.a429_import.specs.declared.firsts.Part.TheVariants.{Receivers, Sources, Groups}
 use Rattle.a429_import.specs.declared.known.Known.{Known}
-use Rattle.a429_import.specs.declared.named_rows.NamedRows.{NamedRows}
+use Rattle.a429_import.specs.declared.known.NamedRows.{NamedRows}
 use Rattle.a429_import.specs.declared.rows.ImportRow.{ImportRow}
-use Rattle.a429_import.specs.FirstRows.{first_from}
 use Rattle.a429_import.specs.ImportTables.{firsts, name_in, same_name}
 
 -- ---- names
@@ -23,6 +22,10 @@ numbers_of named = values named.firsts
 
 abbrev pub place_of : NamedRows → List ℕ → Option ℕ
 place_of named name = position_from (bytes_eq name) 0 (names_of named)
+
+-- the number of the first of these rows with the name; rows are counted from a given number
+abbrev pub first_from : Part → List ℕ → ℕ → List ImportRow → Option ℕ
+first_from part name number rows = position_from (λ row. bytes_eq name (name_in part row)) number rows
 
 -- the names are those of the first rows, each with the number of that row
 pub record KnowsFirsts (part : Part) (named : NamedRows) (rows : List ImportRow) : Type 0 where

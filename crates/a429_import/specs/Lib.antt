@@ -6,13 +6,10 @@ pub mod ImportRows
 pub mod ImportMaps
 pub mod ImportForms
 pub mod ImportQuotes
-pub mod ImportAbove
-pub mod ImportColumns
 pub mod ImportExamples
 pub mod ImportTables
 pub mod ImportBuilding
 pub mod ImportFaults
-pub mod ImportTexts
 pub mod MadeNames
 pub mod FilledLines
 pub mod KeyedLines
@@ -25,11 +22,9 @@ pub mod RowLines
 pub mod FaultLines
 pub mod LineCounts
 pub mod ImportedRows
-pub mod FirstRows
 pub mod ImportClashes
 pub mod ImportLimits
 pub mod ImportReading
-pub mod RenamedReading
 pub mod SheetReading
 pub mod Known
 pub mod KeptFields

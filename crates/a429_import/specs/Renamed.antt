@@ -10,6 +10,9 @@ use Rattle.a429_import.specs.ImportFields.{field_in, utf8_in}
 use Rattle.a429_import.specs.ImportTables.{firsts, is_word, name_in}
 use Rattle.a429_import.specs.KeyedLines.{key_end}
 use Rattle.a429_import.specs.MadeNames.{in_room_or, label_end, numbered_name, plain_name}
+use Rattle.std.specs.declared.alloc.Global.{Global}
+use Rattle.std.specs.declared.vec.Vec.{Vec}
+use Rattle.a429_import.specs.declared.renamed.AllNames.{AllNames}
 
 -- ---- what a name is made of
 
@@ -101,6 +104,16 @@ renamed rows row = record { texts = names_of_row rows row; numbers = row.numbers
 -- all rows with names
 abbrev pub all_renamed : List ImportRow → List ImportRow
 all_renamed rows = map (renamed rows) rows
+
+-- the bytes of names
+abbrev pub texts_of : List (Vec ℕ Global) → List (List ℕ)
+texts_of names = map (λ name. name.items) names
+
+-- the names are those of rows
+pub record AreNames (names : AllNames) (rows : List ImportRow) : Type 0 where
+  pub receivers : texts_of names.receivers.items ≡ names_in Receivers rows
+  pub sources : texts_of names.sources.items ≡ names_in Sources rows
+  pub groups : texts_of names.groups.items ≡ names_in Groups rows
 
 -- ---- the law
 

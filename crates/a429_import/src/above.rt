@@ -3,8 +3,7 @@ ghost use Rattle.std.specs.Prelude.{◌≡◌, ◌<◌, if◌then◌else◌, IfO
 ghost use Rattle.std.specs.Option.{option_or};
 ghost use Rattle.csv.specs.Reading.{owned_rows_left, owned_rows_reader};
 ghost use Rattle.csv.specs.Records.{fields_of};
-ghost use Rattle.a429_import.specs.FaultLines.{data_line, data_line_above};
-ghost use Rattle.a429_import.specs.ImportAbove.{first_row, is_data};
+ghost use Rattle.a429_import.specs.FaultLines.{data_line, data_line_above, first_row, is_data};
 ghost use Rattle.a429_import.specs.ImportMaps.{given_texts, names_by};
 ghost use Rattle.a429_import.specs.ImportReading.{IsUnread};
 ghost use Rattle.a429_import.specs.Imports.{separated};
@@ -20,7 +19,7 @@ use crate::refused::{RefusedRows, titled_rows};
 use csv::{ByteRecord, ByteRecordsIntoIter};
 use std::alloc::{AllocError, Global};
 
-/// The first row of a text of this form; a row without fields if the text has none. Error: an allocation failed.
+/// The first row of a text of this form; a row without fields if the text has none.
 fn first_line(
     alloc: Global,
     text: &[u8],
@@ -46,7 +45,7 @@ fn first_line(
     }
 }
 
-/// The heading of a text, as it is written. The form is that of the text. Error: an allocation failed.
+/// The heading of a text, as it is written. The form is that of the text.
 fn titles_of(alloc: Global, text: &[u8], form: Form<'_>) -> Result<CsvLine, AllocError>
     requires { IsEnd text.now form.text.now }
     ensures { IfOk result (λ line. fields_of line.fields ≡ first_row (separated form.entry.separator) form.entry.text.now) }
@@ -78,44 +77,18 @@ fn found_at(found: Option<u64>, heading: &Heading, row: &CsvLine) -> Option<u64>
     }
 }
 
-/// The line on which the first row of data of a text begins. Error: an allocation failed.
-fn data_line(
-    alloc: Global,
-    heading: &Heading,
-    form: Form<'_>,
-    rows: &mut ByteRecordsIntoIter<&[u8]>,
-) -> Result<Option<u64>, AllocError>
-    requires before { IsUnread form.separator form.text.now (owned_rows_reader rows.old) }
-    requires left { 0 < owned_rows_left rows.old }
+/// The line on which the first row of data of a text begins.
+fn data_line(alloc: Global, heading: &Heading, form: Form<'_>) -> Result<Option<u64>, AllocError>
     ensures { IfOk result (λ line. line
         ≡ data_line (separated form.entry.separator) (fields_of heading.now.line.fields) form.entry.text.now) }
 {
     let mut count = count_before(form.text, form.text);
     let mut found = None;
-    for row in rows {
+    for row in rows_of(alloc, form) {
         let line = line_of(alloc, form.text, form, &mut count, row)?;
         found = found_at(found, heading, &line);
     }
     Ok(found)
-}
-
-/// The line on which the first row of data of a text above the heading begins. Error: an allocation failed.
-fn line_in(
-    alloc: Global,
-    maps: &[&str],
-    above: Form<'_>,
-    titles: CsvLine,
-) -> Result<Option<u64>, AllocError>
-    ensures { IfOk result (λ line. line ≡ data_line (separated above.entry.separator)
-        (names_by (given_texts maps.now) (fields_of titles.fields)) above.entry.text.now) }
-{
-    let heading = Heading::of(named_by(alloc, maps, titles)?);
-    let mut rows = rows_of(alloc, above);
-    let line = data_line(alloc, &heading, above, &mut rows);
-    // One call each, instead of a drop of each of its parts.
-    std::mem::drop(rows);
-    std::mem::drop(heading);
-    line
 }
 
 /// The line on which the first row of data above the heading begins, counted from 1. `None` if no row of data is above
@@ -141,7 +114,8 @@ pub fn line_above(
         separator: form.separator,
         text: above,
     };
-    let line = line_in(alloc, maps, lines, titles)?;
+    let heading = Heading::of(named_by(alloc, maps, titles)?);
+    let line = data_line(alloc, &heading, lines)?;
     if line.is_some() {
         *refused = Some(rows);
     }

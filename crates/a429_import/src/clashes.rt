@@ -2,9 +2,8 @@
 //! the first of its source, of its receiver and of its group.
 ghost use Rattle.std.specs.Prelude.{◌≡◌};
 ghost use Rattle.a429_import.specs.ImportClashes.{Agree, earlier_clash, first_part_clash, numbered, part_clash};
-ghost use Rattle.a429_import.specs.ImportRows.{first_clash, source_clash};
+ghost use Rattle.a429_import.specs.ImportRows.{first_clash, row_view, source_clash};
 ghost use Rattle.a429_import.specs.ImportTables.{name_in};
-ghost use Rattle.a429_import.specs.ImportTexts.{row_view};
 ghost use Rattle.a429_import.specs.Known.{Knows};
 
 use crate::fault::ImportColumn;

@@ -4,8 +4,7 @@ ghost use Rattle.std.specs.List.{find, list_any};
 ghost use Rattle.csv.specs.Records.{fields_of};
 ghost use Rattle.a429_import.specs.declared.fault.ImportColumn.{ImportColumn};
 ghost use Rattle.a429_import.specs.declared.fault.ImportColumn.TheVariants.{MaxUs, MinUs};
-ghost use Rattle.a429_import.specs.ImportColumns.{place_in};
-ghost use Rattle.a429_import.specs.ImportRows.{column_field, column_form, is_column, is_named, is_wrong, times, wrong_column};
+ghost use Rattle.a429_import.specs.ImportRows.{column_field, column_form, is_column, is_named, is_wrong, place_in, times, wrong_column};
 
 use crate::fault::ImportColumn;
 use crate::intervals::{IntervalForm, IntervalUnit, form_named, states_interval};
@@ -35,7 +34,6 @@ pub fn is_named(column: ImportColumn, name: &[u8]) -> bool
     same_heading(column.name().as_bytes(), name) || states_interval(column, name)
 }
 
-/// Whether one of these columns has a name.
 fn is_among(columns: &[ImportColumn], name: &[u8]) -> bool
     ensures { result ≡ list_any (λ column. is_named column name.now) columns.now }
 {
@@ -74,7 +72,6 @@ fn is_wrong(heading: &CsvLine, column: ImportColumn) -> bool
     1 < count || column.is_needed() && count == 0
 }
 
-/// The first of these columns that is wrong in the heading.
 fn first_wrong(heading: &CsvLine, columns: &[ImportColumn]) -> Option<ImportColumn>
     ensures { result ≡ find (is_wrong (fields_of heading.now.fields)) columns.now }
 {
@@ -137,7 +134,6 @@ pub struct Places {
 }
 
 impl Places {
-    /// The place of a column.
     fn of(&self, column: ImportColumn) -> Option<usize>
         ensures { result ≡ place_in self.now column }
     {
@@ -156,7 +152,6 @@ impl Places {
     }
 }
 
-/// The places of all columns of a heading.
 fn places_of(heading: &CsvLine) -> Places
     ensures { (column : ImportColumn) → place_in result column ≡ position (is_named column) (fields_of heading.now.fields) }
 {

@@ -39,21 +39,15 @@ pub fn row_before<'a>(made_of: Option<&'a Known>, part: Part, place: usize) -> O
     }
 }
 
-/// Whether a byte can be in a comment.
-fn fits_comment(byte: u8) -> bool
-    ensures { result ≡ is_non_eol byte }
-{
-    byte == b'\t' || 32 <= byte && byte != 127
-}
-
-/// Whether all bytes can be in a comment.
 fn is_comment(bytes: &[u8]) -> bool
     ensures { result ≡ list_all is_non_eol bytes.now }
 {
-    bytes.iter().all(|byte| fits_comment(*byte))
+    bytes
+        .iter()
+        .all(|byte| *byte == b'\t' || 32 <= *byte && *byte != 127)
 }
 
-/// Writes a comment, unless the line is no text or a byte cannot be in a comment. Error: an allocation failed.
+/// Writes a comment, unless the line is no text or a byte cannot be in a comment.
 #[tactic(auto, unfolding(crate::specs::KeptFields::comment_line))]
 fn put_comment(shown: &mut String, line: &[u8]) -> Result<(), AllocError>
     ensures { OnOk result (string_bytes shown.new ≡ string_bytes shown.old ++ comment_line line.now) }
@@ -68,7 +62,7 @@ fn put_comment(shown: &mut String, line: &[u8]) -> Result<(), AllocError>
     }
 }
 
-/// Writes a comment with the text of a name, if it differs from the name. Error: an allocation failed.
+/// Writes a comment with the text of a name, if it differs from the name.
 fn put_text(alloc: Global, shown: &mut String, text: &[u8], name: &[u8]) -> Result<(), AllocError>
     ensures { OnOk result (string_bytes shown.new ≡ string_bytes shown.old ++ name_comment text.now name.now) }
 {
@@ -82,7 +76,7 @@ fn put_text(alloc: Global, shown: &mut String, text: &[u8], name: &[u8]) -> Resu
     put_comment(shown, &bytes)
 }
 
-/// Writes a comment with the text that the name of a row is made of, if they differ. Error: an allocation failed.
+/// Writes a comment with the text that the name of a row is made of, if they differ.
 fn put_made_of(
     alloc: Global,
     shown: &mut String,
@@ -95,14 +89,14 @@ fn put_made_of(
 {
     match before {
         Some(before) => {
-            let text = text_of(alloc, part, before)?;
+            let text = text_of(part, before);
             put_text(alloc, shown, text, name_in(part, row).as_bytes())
         }
         None => Ok(()),
     }
 }
 
-/// Writes a comment `#: NAME | LINE`, if it can be one. Error: an allocation failed.
+/// Writes a comment `#: NAME | LINE`, if it can be one.
 fn put_line(alloc: Global, shown: &mut String, name: &str, line: &[u8]) -> Result<(), AllocError>
     ensures { OnOk result (string_bytes shown.new ≡ string_bytes shown.old
         ++ comment_line (codes ": " ++ (name.now ++ (codes " | " ++ line.now)))) }
@@ -116,7 +110,7 @@ fn put_line(alloc: Global, shown: &mut String, name: &str, line: &[u8]) -> Resul
     put_comment(shown, &bytes)
 }
 
-/// Writes a comment `#: NAME | LINE` for each of these lines. Error: an allocation failed.
+/// Writes a comment `#: NAME | LINE` for each of these lines.
 fn put_lines(alloc: Global, shown: &mut String, name: &str, lines: &[u8]) -> Result<(), AllocError>
     ensures { OnOk result (string_bytes shown.new ≡ string_bytes shown.old ++ kept_comments name.now lines.now) }
 {

@@ -5,7 +5,7 @@ ghost use Rattle.a429_import.specs.ImportFaults.{kind_text, of_table};
 ghost use Rattle.a429_import.specs.declared.fault.ImportFault.TheVariants.{NoMemory};
 
 use a429_table::TableFault;
-use std::alloc::{AllocError, AllocFailed};
+use std::alloc::AllocError;
 use std::fmt;
 use thiserror::Error;
 
@@ -59,11 +59,7 @@ impl ImportColumn {
     pub fn is_needed(self) -> bool
         ensures { result ≡ is_needed self }
     {
-        match self {
-            ImportColumn::Hold => false,
-            ImportColumn::Filters => false,
-            _ => true,
-        }
+        !matches!(self, ImportColumn::Hold | ImportColumn::Filters)
     }
 }
 
@@ -82,7 +78,6 @@ pub enum CsvFaultKind {
 }
 
 impl CsvFaultKind {
-    /// Its name in refusals.
     fn text(self) -> &'static str
         ensures { result.now ≡ kind_text self }
     {
@@ -98,7 +93,6 @@ impl CsvFaultKind {
 impl fmt::Display for CsvFaultKind {
     ghost output = { λ kind. Some (kind_text kind) };
 
-    /// Its name in refusals.
     fn fmt<W: fmt::Write>(&self, f: &mut fmt::Formatter<W>) -> fmt::Result {
         f.write_str(self.text())
     }
@@ -111,8 +105,9 @@ pub enum ImportFault {
     #[error("out of memory")]
     NoMemory,
     /// The rows have a fault of this kind, and no earlier row has a fault. Fields in quotes are looked at before any other
-    /// fault, and then rows of data above the heading. Lines are counted from 1. `column` is `None` if the row has more or fewer fields than the heading. It is also `None` if the quotes of a field that begins
-    /// on the line are wrong, or if the row is above the heading.
+    /// fault, and then rows of data above the heading. Lines are counted from 1. `column` is `None` if the row has more or
+    /// fewer fields than the heading. It is also `None` if the quotes of a field that begins on the line are wrong, or if the
+    /// row is above the heading.
     #[error("csv line {line} {kind}")]
     Csv {
         line: u64,
@@ -135,14 +130,6 @@ impl From<AllocError> for ImportFault {
     ghost from_gives = { λ _ e. e ≡ NoMemory };
 
     fn from(_e: AllocError) -> ImportFault {
-        ImportFault::NoMemory
-    }
-}
-
-impl<T: Drop> From<AllocFailed<T>> for ImportFault {
-    ghost from_gives = { λ _ e. e ≡ NoMemory };
-
-    fn from(_e: AllocFailed<T>) -> ImportFault {
         ImportFault::NoMemory
     }
 }

@@ -1,38 +1,29 @@
 //! The values of fields.
-ghost use Rattle.std.specs.Prelude.{◌≡◌, ◌∷◌, [], ◌<◌, ◌==◌, None, is_some, option_map, position, slice_get};
+ghost use Rattle.std.specs.Prelude.{◌≡◌, ◌<◌, ◌==◌, is_some, option_map, position, slice_get};
+ghost use Rattle.std.specs.Char.{is_ascii_digit};
 ghost use Rattle.std.specs.List.{list_all};
 ghost use Rattle.a429_filter.specs.FilterTexts.{filter_read};
-ghost use Rattle.a429_import.specs.ImportFields.{are_filters, are_micros, digit_of, filters_in, has_thousands, hold_in, if_group, is_any, is_bit, is_mark, label_in, may_be_thousands, micros_in, millis_in, number_in, sdi_digits, sdi_in, text_in, together, utf8_in};
+ghost use Rattle.a429_import.specs.ImportFields.{are_filters, are_micros, digit_of, filters_in, has_thousands, hold_in, if_group, is_any, is_mark, label_in, may_be_thousands, micros_in, millis_in, number_in, sdi_digits, sdi_in, text_in, together, utf8_in};
 
 use crate::plain::{is_text, unwrapped};
 use a429_filter::Filter;
-use a429_word::{Label, Sdi, are_digits, decimal_number};
+use a429_word::{Label, Sdi, decimal_number};
 
 /// The number in a field: one to ten decimal digits without leading zeros, below 2^32. `None` for any other field.
 #[tactic(auto, unfolding(crate::specs::ImportFields::number_in))]
 pub fn number_in(field: &[u8]) -> Option<u32>
     ensures { result ≡ number_in field.now }
 {
-    let number = decimal_number(field)?;
-    if number < 4294967296 {
-        Some(number as u32)
-    } else {
-        None
-    }
+    u32::try_from(decimal_number(field)?).ok()
 }
 
-/// Whether a byte separates milliseconds from the digits below them.
-fn is_mark(separator: u8, byte: u8) -> bool
-    ensures { result ≡ is_mark separator byte }
-{
-    byte == b'.' || byte == b',' && separator != b','
-}
-
-/// The place of the first such byte.
+/// The place of the first byte that separates milliseconds from the digits below them.
 fn first_mark(separator: u8, field: &[u8]) -> Option<usize>
     ensures { result ≡ position (is_mark separator) field.now }
 {
-    field.iter().position(|byte| is_mark(separator, *byte))
+    field
+        .iter()
+        .position(|byte| *byte == b'.' || *byte == b',' && separator != b',')
 }
 
 /// A digit after the mark; 0 if there is none.
@@ -44,6 +35,12 @@ fn digit_at(digits: &[u8], place: usize) -> u32
         Some(digit) if digit.is_ascii_digit() => u32::from(*digit - b'0'),
         _ => 0,
     }
+}
+
+fn are_digits(digits: &[u8]) -> bool
+    ensures { result ≡ list_all is_ascii_digit digits.now }
+{
+    digits.iter().all(|digit| digit.is_ascii_digit())
 }
 
 fn are_zeros(digits: &[u8]) -> bool
@@ -82,7 +79,6 @@ fn together(millis: Option<u64>, micros: Option<u32>) -> Option<u32>
     }
 }
 
-/// The place of the first point.
 fn first_point(field: &[u8]) -> Option<usize>
     ensures { result ≡ position (λ b. b == 46) field.now }
 {
@@ -140,41 +136,15 @@ pub fn label_in(field: &[u8]) -> Option<Label>
     }
 }
 
-/// The SDI in a digit.
-fn sdi_digit(digit: u8) -> Option<Option<Sdi>>
-    ensures { result ≡ sdi_digits (digit ∷ []) }
-{
-    if b'0' <= digit && digit <= b'3' {
-        Some(Some(Sdi::new(digit - b'0')))
-    } else {
-        None
-    }
-}
-
-fn is_bit(digit: u8) -> bool
-    ensures { result ≡ is_bit digit }
-{
-    digit == b'0' || digit == b'1'
-}
-
-/// The SDI in two binary digits.
-fn sdi_bits(high: u8, low: u8) -> Option<Option<Sdi>>
-    ensures { result ≡ sdi_digits (high ∷ low ∷ []) }
-{
-    if is_bit(high) && is_bit(low) {
-        Some(Some(Sdi::new(2 * (high - b'0') + (low - b'0'))))
-    } else {
-        None
-    }
-}
-
 /// The SDI in a digit, or in two binary digits.
 fn sdi_digits(field: &[u8]) -> Option<Option<Sdi>>
     ensures { result ≡ sdi_digits field.now }
 {
     match field {
-        [digit] => sdi_digit(*digit),
-        [high, low] => sdi_bits(*high, *low),
+        [digit @ b'0'..=b'3'] => Some(Some(Sdi::new(*digit - b'0'))),
+        [high @ (b'0' | b'1'), low @ (b'0' | b'1')] => {
+            Some(Some(Sdi::new(2 * (*high - b'0') + (*low - b'0'))))
+        }
         _ => None,
     }
 }
@@ -238,7 +208,6 @@ pub fn text_in(field: &[u8]) -> Option<&str>
     }
 }
 
-/// Whether a text is a filter.
 fn is_filter(text: &str) -> bool
     ensures { result ≡ is_some (filter_read text.now) }
 {

@@ -1,7 +1,11 @@
 //! The heading of a text: its line, and what separates its fields.
-ghost use Rattle.std.specs.Prelude.{◌≡◌, ◌≤◌, ◌+◌, ◌==◌, ◌&&◌, ◌||◌, IfSome, false, if◌then◌else◌, drop, length, not, option_map, position};
+ghost use Rattle.std.specs.Prelude.{◌≡◌, ◌≤◌, ◌+◌, ◌==◌, ◌&&◌, ◌||◌, IfSome, false, drop, length, not, option_map, position};
 ghost use Rattle.std.specs.List.{find};
+<<<<<<< HEAD
 ghost use Rattle.a429_import.specs.ImportForms.{after_separator, closed_len, count_before, ends_field, ends_line, field_len, from_heading, from_line, heading_among, is_heading, later_lines, len_before, names_column, quoted_len, quotes_end, separator_in, separators};
+=======
+ghost use Rattle.a429_import.specs.ImportForms.{after_separator, count_before, ends_field, ends_line, field_len, from_heading, from_line, heading_among, is_heading, later_lines, len_before, names_column, quoted_len, quotes_end, separator_in, separators, without_byte_order_mark};
+>>>>>>> 798af65d3693ef0c495d96a5654588a42b6c60cb
 ghost use Rattle.a429_import.specs.ImportMaps.{given_texts};
 ghost use Rattle.a429_import.specs.ImportQuotes.{text_before};
 
@@ -38,20 +42,6 @@ fn first_byte(text: &[u8]) -> Option<usize>
     text.iter().position(|byte| !ends_line(*byte))
 }
 
-/// The number of bytes before the first line end.
-fn line_len(text: &[u8]) -> usize
-    ensures { result ≡ count_before ends_line text.now }
-{
-    first_end(text).unwrap_or(text.len())
-}
-
-/// The number of line ends at the beginning.
-fn ends_len(text: &[u8]) -> usize
-    ensures { result ≡ count_before (λ b. not (ends_line b)) text.now }
-{
-    first_byte(text).unwrap_or(text.len())
-}
-
 /// The bytes from a place on; none if there are fewer.
 pub fn from_place(text: &[u8], place: usize) -> &[u8]
     ensures { result.now ≡ drop place text.now }
@@ -67,7 +57,7 @@ pub fn from_place(text: &[u8], place: usize) -> &[u8]
 fn from_line(text: &[u8]) -> &[u8]
     ensures { result.now ≡ from_line text.now }
 {
-    from_place(text, ends_len(text))
+    from_place(text, first_byte(text).unwrap_or(text.len()))
 }
 
 /// Whether a text in quotes ended before a byte: a quote came just before, and this is none.
@@ -104,19 +94,8 @@ fn ends_field(text: &[u8]) -> bool
     ensures { result ≡ ends_field text.now }
 {
     match text {
-        [byte, ..] => ends_line(*byte) || *byte == b',' || *byte == b';' || *byte == b'\t',
+        [byte, ..] => matches!(*byte, b'\n' | b'\r' | b',' | b';' | b'\t'),
         [] => true,
-    }
-}
-
-/// The bytes after a quote up to the end of the field, if it ends there; 0 otherwise.
-fn closed_len(text: &[u8]) -> usize
-    ensures len { result ≡ closed_len text.now (quotes_end false 0 text.now) }
-    ensures few { result ≤ length text.now + 1 }
-{
-    match quotes_end(text) {
-        Some(end) if ends_field(from_place(text, end)) => end + 1,
-        _ => 0,
     }
 }
 
@@ -126,7 +105,10 @@ fn quoted_len(text: &[u8]) -> usize
     ensures few { result ≤ length text.now }
 {
     match text {
-        [b'"', rest @ ..] => closed_len(rest),
+        [b'"', rest @ ..] => match quotes_end(rest) {
+            Some(end) if ends_field(from_place(rest, end)) => end + 1,
+            _ => 0,
+        },
         _ => 0,
     }
 }
@@ -136,7 +118,8 @@ fn later_lines(text: &[u8]) -> &[u8]
     ensures { result.now ≡ later_lines text.now }
 {
     let rest = from_place(text, quoted_len(text));
-    from_line(from_place(rest, line_len(rest)))
+    let end = first_end(rest).unwrap_or(rest.len());
+    from_line(from_place(rest, end))
 }
 
 /// Whether a field of a line names a column, by itself or by a text HEADING=COLUMN.
@@ -146,11 +129,12 @@ fn names_column(maps: &[&str], field: &[u8]) -> bool
     names_column_by(maps, trimmed(unquoted(field)))
 }
 
-/// Whether a byte ends a field.
-fn ends_at(separator: u8, byte: u8) -> bool
-    ensures { result ≡ (byte == separator || ends_line byte) }
+/// The place of the first separator or line end.
+fn field_end(separator: u8, text: &[u8]) -> Option<usize>
+    ensures { result ≡ position (λ b. (b == separator) || ends_line b) text.now }
 {
-    byte == separator || ends_line(byte)
+    text.iter()
+        .position(|byte| *byte == separator || ends_line(*byte))
 }
 
 /// The number of bytes before a separator or a line end.
@@ -158,12 +142,7 @@ fn len_before(separator: u8, text: &[u8]) -> usize
     ensures len { result ≡ len_before separator text.now }
     ensures few { result ≤ length text.now }
 {
-    for place in 0..text.len() {
-        if ends_at(separator, text[place]) {
-            return place;
-        }
-    }
-    text.len()
+    field_end(separator, text).unwrap_or(text.len())
 }
 
 /// The number of bytes of the first field, as it is written.
@@ -185,12 +164,6 @@ fn after_separator(separator: u8, text: &[u8]) -> Option<&[u8]>
     }
 }
 
-fn one_if(counts: bool) -> usize
-    ensures { result ≡ (if counts then 1 else 0) }
-{
-    if counts { 1 } else { 0 }
-}
-
 /// Whether two fields or more of the first row name columns, if this separates its fields.
 fn is_heading(maps: &[&str], text: &[u8], separator: u8) -> bool
     ensures { result ≡ is_heading (given_texts maps.now) text.now separator }
@@ -200,7 +173,7 @@ fn is_heading(maps: &[&str], text: &[u8], separator: u8) -> bool
     let mut left = text.len();
     while 0 < left {
         let len = field_len(separator, rest);
-        count += one_if(names_column(maps, &rest[..len]));
+        count += usize::from(names_column(maps, &rest[..len]));
         match after_separator(separator, from_place(rest, len)) {
             Some(after) => rest = after,
             None => return 1 < count,
@@ -263,6 +236,7 @@ pub fn form_of<'a>(maps: &[&str], text: &'a [u8]) -> Form<'a>
     ensures separator { result.separator ≡ separator_in (given_texts maps.now) text.now }
     ensures text { result.text.now ≡ from_heading (given_texts maps.now) text.now }
 {
+<<<<<<< HEAD
     match heading_among(maps, 11, from_line(without_byte_order_mark(text))) {
         Some(form) => form,
         None => Form {
@@ -270,4 +244,10 @@ pub fn form_of<'a>(maps: &[&str], text: &'a [u8]) -> Form<'a>
             text,
         },
     }
+=======
+    heading_among(maps, 11, from_line(without_mark(text))).unwrap_or(Form {
+        separator: b',',
+        text,
+    })
+>>>>>>> 798af65d3693ef0c495d96a5654588a42b6c60cb
 }

@@ -25,9 +25,8 @@ use crate::quotes::misquoted_line_of;
 use crate::reading::LinesRead;
 use crate::refused::{RefusedRows, misquoted_rows};
 use crate::renamed::{all_names, all_renamed};
-use crate::sheet_reading::{BelowRead, SheetRead, read_lines};
+use crate::sheet_reading::{BelowRead, SheetRead, Watch, read_lines};
 use crate::tables::table_text;
-use crate::watch::Watch;
 use a429_equipment::Equipment;
 use a429_table::read_equipment;
 use std::alloc::{AllocError, Global};
@@ -112,7 +111,7 @@ fn table_below(
         Some(fault) => return Err(fault),
         None => {}
     }
-    let notes = read.notes.len();
+    let notes = read.notes.rows.len();
     if makes_names {
         return table_with_names(alloc, &read.known, &read.kept, notes);
     }
@@ -140,7 +139,7 @@ fn table_of_sheet(
     }
 }
 
-/// The table that a text of this form describes, by what is known before its first line. Error: an allocation failed.
+/// The table that a text of this form describes, by what is known before its first line.
 fn read_table<W: Watch>(
     alloc: Global,
     maps: &[&str],
@@ -184,7 +183,7 @@ fn table_of_text<W: Watch>(
 }
 
 /// The line on which the first field begins whose quotes are wrong. If there is none, that of the first row of data above the
-/// heading. Error: an allocation failed.
+/// heading.
 fn unfit_line(
     alloc: Global,
     maps: &[&str],

@@ -1,9 +1,9 @@
 //! Intervals in fields: microseconds, milliseconds or rates, and one limit or both in a field.
-ghost use Rattle.std.specs.Prelude.{◌≡◌, ◌<◌, length, position};
+ghost use Rattle.std.specs.Prelude.{◌≡◌, position};
 ghost use Rattle.std.specs.Option.{option_and_then};
-ghost use Rattle.a429_import.specs.ImportIntervals.{both_in, both_unit, divider_len, form_named, interval_in, is_divider, limit_in, limit_of_both, limit_unit, ordered, parted, period_down, period_up, states_interval, takes_second, unit_among, value_in};
+ghost use Rattle.a429_import.specs.ImportIntervals.{both_in, both_unit, divider_len, form_named, interval_in, is_divider, limit_in, limit_of_both, limit_unit, states_interval, unit_among, value_in};
 
-use crate::blanks::{byte_at, trimmed};
+use crate::blanks::trimmed;
 use crate::fault::ImportColumn;
 use crate::fields::{millis_in, number_in};
 use crate::forms::from_place;
@@ -96,101 +96,51 @@ fn value_in(unit: IntervalUnit, separator: u8, field: &[u8]) -> Option<u32>
     }
 }
 
-/// The microseconds of a period at a rate in thousandths of a hertz, rounded up. `None` at 0 Hz.
-fn period_up(rate: u32) -> Option<u32>
-    ensures { result ≡ period_up rate }
-{
-    if rate == 0 {
-        None
-    } else {
-        Some(1_000_000_000u32.div_ceil(rate))
-    }
-}
-
-/// The microseconds of a period at a rate in thousandths of a hertz, rounded down. `None` at 0 Hz.
-fn period_down(rate: u32) -> Option<u32>
-    ensures { result ≡ period_down rate }
-{
-    if rate == 0 {
-        None
-    } else {
-        Some(1_000_000_000 / rate)
-    }
-}
-
-/// A limit in microseconds: a minimum is rounded up, and a maximum down, so that the interval is not left. `None` at 0 Hz.
+/// A limit in microseconds. A rate is in thousandths of a hertz: a minimum is rounded up, and a maximum down, so that the
+/// interval is not left. `None` at 0 Hz.
 fn limit_in(is_least: bool, unit: IntervalUnit, value: u32) -> Option<u32>
     ensures { result ≡ limit_in is_least unit value }
 {
     match unit {
-        IntervalUnit::Hertz if is_least => period_up(value),
-        IntervalUnit::Hertz => period_down(value),
+        IntervalUnit::Hertz if value == 0 => None,
+        IntervalUnit::Hertz if is_least => Some(1_000_000_000u32.div_ceil(value)),
+        IntervalUnit::Hertz => Some(1_000_000_000 / value),
         _ => Some(value),
     }
 }
 
-/// Whether a byte is `/` or `-`, or the first of an en dash (U+2013).
-fn is_divider(byte: u8) -> bool
-    ensures { result ≡ is_divider byte }
-{
-    byte == b'/' || byte == b'-' || byte == 0xE2
-}
-
-/// The place of the first such byte.
+/// The place of the first byte that is `/` or `-`, or the first of an en dash (U+2013).
 fn first_divider(field: &[u8]) -> Option<usize>
     ensures { result ≡ position is_divider field.now }
 {
-    field.iter().position(|byte| is_divider(*byte))
+    field
+        .iter()
+        .position(|byte| matches!(*byte, b'/' | b'-' | 0xE2))
 }
 
 /// The number of bytes of what divides two limits: 3 for an en dash, otherwise 1.
 fn divider_len(rest: &[u8]) -> usize
     ensures { result ≡ divider_len rest.now }
 {
-    if byte_at(rest, 0) == 0xE2 && byte_at(rest, 1) == 0x80 && byte_at(rest, 2) == 0x93 {
-        3
-    } else {
-        1
+    match rest {
+        [0xE2, 0x80, 0x93, ..] => 3,
+        _ => 1,
     }
 }
 
-/// Two numbers, the smaller first. `None` if one is missing, or the greater is first.
-fn ordered(first: Option<u32>, second: Option<u32>) -> Option<(u32, u32)>
-    ensures { result ≡ ordered first second }
-{
-    match (first, second) {
-        (Some(first), Some(second)) if first <= second => Some((first, second)),
-        _ => None,
-    }
-}
-
-/// The numbers before and after what divides a field at a place.
-fn parted(unit: IntervalUnit, separator: u8, field: &[u8], place: usize) -> Option<(u32, u32)>
-    requires { place < length field.now }
-    ensures { result ≡ parted unit separator field.now place }
-{
-    let rest = from_place(field, place);
-    let second = from_place(rest, divider_len(rest));
-    ordered(
-        value_in(unit, separator, trimmed(&field[..place])),
-        value_in(unit, separator, trimmed(second)),
-    )
-}
-
-/// The two numbers of a field, the smaller first.
+/// The two numbers of a field, the smaller first. `None` if one is missing, or the greater is first.
 fn both_in(unit: IntervalUnit, separator: u8, field: &[u8]) -> Option<(u32, u32)>
     ensures { result ≡ both_in unit separator field.now }
 {
-    parted(unit, separator, field, first_divider(field)?)
-}
-
-/// Whether a limit is the second number of a field with both: the minimum is the smaller interval, or the greater rate.
-fn takes_second(is_least: bool, unit: IntervalUnit) -> bool
-    ensures { result ≡ takes_second is_least unit }
-{
-    match unit {
-        IntervalUnit::Hertz => is_least,
-        _ => !is_least,
+    let place = first_divider(field)?;
+    let rest = &field[place..];
+    let second = from_place(rest, divider_len(rest));
+    let first = value_in(unit, separator, trimmed(&field[..place]))?;
+    let second = value_in(unit, separator, trimmed(second))?;
+    if first <= second {
+        Some((first, second))
+    } else {
+        None
     }
 }
 
@@ -199,7 +149,8 @@ fn limit_of_both(is_least: bool, unit: IntervalUnit, separator: u8, field: &[u8]
     ensures { result ≡ option_and_then (limit_of_both is_least unit) (both_in unit separator field.now) }
 {
     let (first, second) = both_in(unit, separator, field)?;
-    let value = if takes_second(is_least, unit) {
+    // the minimum is the smaller interval, or the greater rate
+    let value = if is_least == (unit == IntervalUnit::Hertz) {
         second
     } else {
         first

@@ -1,9 +1,7 @@
 //! Columns of a sheet that go along as comments of the table.
-ghost use Rattle.std.specs.Prelude.{◌≡◌, ◌&&◌, ◌++◌, ◌∷◌, [], ℕ, IfOk, List, OnOk, option_map};
+ghost use Rattle.std.specs.Prelude.{◌≡◌, ◌++◌, ◌∷◌, [], ℕ, IfOk, List, OnOk, option_map};
 ghost use Rattle.csv.specs.Records.{fields_of};
 ghost use Rattle.a429_import.specs.declared.lines.CsvLine.{CsvLine};
-ghost use Rattle.a429_import.specs.ImportRows.{has_label};
-ghost use Rattle.a429_import.specs.ImportTables.{is_word};
 ghost use Rattle.a429_import.specs.KeptFields.{KeepsTexts, TakesText, kept_at, kept_heading, kept_in, kept_line, lines_kept, shown, shown_byte};
 
 use crate::columns::Heading;
@@ -66,8 +64,7 @@ fn put_line(text: &mut Text, name: &[u8], field: &[u8])
     }
 }
 
-/// What a row says in the columns that go along: a line `HEADING | FIELD` for each field that is not empty. Error: an
-/// allocation failed.
+/// What a row says in the columns that go along: a line `HEADING | FIELD` for each field that is not empty.
 fn kept_in(alloc: Global, heading: &CsvLine, line: &CsvLine) -> Result<Vec<u8>, AllocError>
     ensures { IfOk result (λ text. text.items ≡ kept_in (fields_of heading.now.fields) (fields_of line.now.fields)) }
 {
@@ -76,13 +73,6 @@ fn kept_in(alloc: Global, heading: &CsvLine, line: &CsvLine) -> Result<Vec<u8>, 
         put_line(&mut text, heading.field(place), line.field(place));
     }
     text.into_bytes()
-}
-
-/// Whether the lines of a row count: the row has a label, so it is no note, and there are lines.
-fn counts(heading: &Heading, line: &CsvLine, text: &[u8]) -> bool
-    ensures { result ≡ (has_label (fields_of heading.now.line.fields) line.now && is_word text.now) }
-{
-    has_label(heading, line) && !text.is_empty()
 }
 
 /// What the first row of a source says in the columns that go along, of those rows that say something there.
@@ -127,7 +117,7 @@ impl KeptTexts {
         self.find(source).unwrap_or(&[])
     }
 
-    /// Takes the lines of a source, unless it has some. Error: an allocation failed.
+    /// Takes the lines of a source, unless it has some.
     fn take(&mut self, alloc: Global, source: &[u8], lines: Vec<u8>) -> Result<(), AllocError>
         ensures { OnOk result (TakesText self.old self.new source.now lines.items) }
     {
@@ -150,11 +140,13 @@ impl KeptTexts {
         ensures { OnOk result ((below : List CsvLine) → KeepsTexts self.old (fields_of heading.now.line.fields) below
             → KeepsTexts self.new (fields_of heading.now.line.fields) (below ++ line.now ∷ [])) }
     {
-        let text = kept_in(alloc, &heading.line, line)?;
-        if counts(heading, line, &text) {
-            self.take(alloc, heading.field_of(line, ImportColumn::Source), text)
-        } else {
-            Ok(())
+        if !has_label(heading, line) {
+            return Ok(());
         }
+        let text = kept_in(alloc, &heading.line, line)?;
+        if text.is_empty() {
+            return Ok(());
+        }
+        self.take(alloc, heading.field_of(line, ImportColumn::Source), text)
     }
 }

@@ -1,49 +1,21 @@
 //! Lines with keys of sources. The key of a source is its text, and after it its receiver, its label and its SDI.
-ghost use Rattle.std.specs.Prelude.{◌≡◌, ◌++◌, [], if◌then◌else◌, IfOk, OnOk};
+ghost use Rattle.std.specs.Prelude.{◌≡◌, ◌++◌, [], if◌then◌else◌, OnOk};
 ghost use Rattle.csv.specs.Records.{fields_of, partial_of};
 ghost use Rattle.a429_import.specs.declared.fault.ImportColumn.TheVariants.{Source};
 ghost use Rattle.a429_import.specs.ImportFields.{field_in};
 ghost use Rattle.a429_import.specs.ImportRows.{column_field};
-ghost use Rattle.a429_import.specs.KeyedLines.{IsKeyedLine, end_in, is_place, key_end, keyed_text, with_text};
+ghost use Rattle.a429_import.specs.KeyedLines.{IsKeyedLine, end_in, is_place, keyed_text, with_text};
 
 use crate::columns::Heading;
 use crate::fault::ImportColumn;
 use crate::fields::{label_in, sdi_in, text_in};
 use crate::lines::CsvLine;
 use crate::made_names::put_label_end;
-use a429_word::{Label, Sdi};
 use csv::ByteRecord;
 use std::alloc::{AllocError, Global};
 
-/// Writes what comes after the text of a source in its key: its receiver, its label and its SDI. Error: an allocation failed.
-fn put_key_end(
-    key: &mut Vec<u8>,
-    receiver: &str,
-    label: Label,
-    sdi: Option<Sdi>,
-) -> Result<(), AllocError>
-    ensures { OnOk result (key.new.items ≡ key.old.items ++ key_end receiver.now label sdi) }
-{
-    key.extend_from_slice(&[0])?;
-    key.extend_from_slice(receiver.as_bytes())?;
-    put_label_end(key, label, sdi)
-}
-
-/// The same as bytes. Error: an allocation failed.
-pub fn key_end(
-    alloc: Global,
-    receiver: &str,
-    label: Label,
-    sdi: Option<Sdi>,
-) -> Result<Vec<u8>, AllocError>
-    ensures { IfOk result (λ end. end.items ≡ key_end receiver.now label sdi) }
-{
-    let mut end = Vec::new(alloc);
-    put_key_end(&mut end, receiver, label, sdi)?;
-    Ok(end)
-}
-
-/// Writes the same of a line; nothing if the line does not state it. Error: an allocation failed.
+/// Writes what comes after the text of a source in its key: its receiver, its label and its SDI. Nothing if the line does not
+/// state them.
 #[tactic(auto, unfolding(crate::specs::KeyedLines::end_in))]
 fn put_end(key: &mut Vec<u8>, heading: &Heading, line: &CsvLine) -> Result<(), AllocError>
     ensures { OnOk result (key.new.items ≡ key.old.items ++ end_in (fields_of heading.now.line.fields) (fields_of line.now.fields)) }
@@ -52,12 +24,16 @@ fn put_end(key: &mut Vec<u8>, heading: &Heading, line: &CsvLine) -> Result<(), A
     let label = label_in(heading.field_of(line, ImportColumn::Label));
     let sdi = sdi_in(heading.field_of(line, ImportColumn::Sdi));
     match (receiver, label, sdi) {
-        (Some(receiver), Some(label), Some(sdi)) => put_key_end(key, receiver, label, sdi),
+        (Some(receiver), Some(label), Some(sdi)) => {
+            key.extend_from_slice(&[0])?;
+            key.extend_from_slice(receiver.as_bytes())?;
+            put_label_end(key, label, sdi)
+        }
         _ => Ok(()),
     }
 }
 
-/// Writes the key of the source of a line; nothing if the line has no source. Error: an allocation failed.
+/// Writes the key of the source of a line; nothing if the line has no source.
 fn put_key(key: &mut Vec<u8>, heading: &Heading, line: &CsvLine) -> Result<(), AllocError>
     requires { key.old.items ≡ [] }
     ensures { OnOk result (key.new.items ≡ keyed_text (end_in (fields_of heading.now.line.fields) (fields_of line.now.fields))
@@ -120,23 +96,14 @@ impl KeyedRoom {
 }
 
 /// Writes a line below a heading, with the key of its source, in the place of another. Error: an allocation failed.
-pub fn write_keyed(
-    key: &mut Vec<u8>,
-    keyed: &mut CsvLine,
-    heading: &Heading,
-    line: &CsvLine,
-) -> Result<(), AllocError>
-    ensures { OnOk result (IsKeyedLine heading.now.line line.now keyed.new) }
+pub fn put_keyed(room: &mut KeyedRoom, heading: &Heading, line: &CsvLine) -> Result<(), AllocError>
+    ensures { OnOk result (IsKeyedLine heading.now.line line.now room.new.line) }
 {
-    key.clear();
-    put_key(key, heading, line)?;
-    keyed.number = line.number;
-    keyed.separator = line.separator;
-    keyed.fields.clear();
-    push_keyed(
-        &mut keyed.fields,
-        line,
-        heading.place(ImportColumn::Source),
-        key,
-    )
+    room.key.clear();
+    put_key(&mut room.key, heading, line)?;
+    room.line.number = line.number;
+    room.line.separator = line.separator;
+    room.line.fields.clear();
+    let source = heading.place(ImportColumn::Source);
+    push_keyed(&mut room.line.fields, line, source, &room.key)
 }

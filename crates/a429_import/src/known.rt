@@ -1,19 +1,78 @@
 //! What is known of rows: the rows, and the names of their receivers, sources and groups.
-ghost use Rattle.std.specs.Prelude.{◌≡◌, ◌++◌, ◌∷◌, ◌<◌, [], ◌&&◌, if◌then◌else◌, OnOk, None, Some, length, nat_lt, slice_get};
+ghost use Rattle.std.specs.Prelude.{◌≡◌, ◌++◌, ◌∷◌, ◌<◌, [], ◌&&◌, if◌then◌else◌, IfOk, OnOk, None, Some, length, nat_lt, slice_get, slice_index_or};
+ghost use Rattle.a429_import.specs.declared.firsts.Part.{Part};
 ghost use Rattle.a429_import.specs.declared.firsts.Part.TheVariants as part;
 ghost use Rattle.a429_import.specs.ImportLimits.{has_too_many_outputs, too_many};
-ghost use Rattle.a429_import.specs.ImportRows.{says_nothing};
+ghost use Rattle.a429_import.specs.ImportRows.{row_view, says_nothing};
 ghost use Rattle.a429_import.specs.ImportTables.{firsts, groups_of, words};
-ghost use Rattle.a429_import.specs.ImportTexts.{row_view};
-ghost use Rattle.a429_import.specs.Known.{Knows, named_of, names_of, one_output, with_output};
+ghost use Rattle.a429_import.specs.Known.{Knows, KnowsFirsts, KnowsMore, named_of, names_of, numbers_of, one_output, place_of, with_output};
 
 use crate::fault::ImportColumn;
 use crate::firsts::Part;
-use crate::named_rows::NamedRows;
 use crate::rows::{ImportRow, RowFields, copy_of};
 use a429_equipment::{GROUPS, OUTPUTS, RECEIVERS, SOURCES};
 use a429_filter::FILTERS;
+use indexmap::IndexMap;
 use std::alloc::{AllocError, Global};
+
+/// Names in the order of their first rows, and the numbers of these rows, counted from 0.
+#[derive(Drop)]
+pub struct NamedRows {
+    firsts: IndexMap<String, usize>,
+}
+
+impl NamedRows {
+    /// No names.
+    pub fn new(alloc: Global) -> NamedRows
+        ensures { (part : Part) → KnowsFirsts part result [] }
+    {
+        NamedRows {
+            firsts: IndexMap::new(alloc),
+        }
+    }
+
+    /// The number of names.
+    pub fn len(&self) -> usize
+        ensures { result ≡ length (names_of self.now) }
+    {
+        self.firsts.len()
+    }
+
+    /// The number of the first row of the name at a place; 0 if there is none.
+    pub fn first_at(&self, place: usize) -> usize
+        ensures { result ≡ slice_index_or (numbers_of self.now) place 0 }
+    {
+        match self.firsts.get_index(place) {
+            Some((_, number)) => *number,
+            None => 0,
+        }
+    }
+
+    /// The place of a name, counted from 0. `None` if it is not known.
+    pub fn find(&self, name: &str) -> Option<usize>
+        ensures { result ≡ place_of self.now name.now }
+    {
+        self.firsts.get_index_of(name)
+    }
+
+    /// Takes a name of the next row, with the number of that row. The answer is the place of the name, if it was known.
+    /// Error: an allocation failed.
+    pub fn note(
+        &mut self,
+        alloc: Global,
+        name: &str,
+        number: usize,
+    ) -> Result<Option<usize>, AllocError>
+        ensures place { IfOk result (λ place. place ≡ place_of self.old name.now) }
+        ensures known { OnOk result (KnowsMore self.old self.new name.now number) }
+    {
+        let place = self.firsts.get_index_of(name);
+        if place.is_none() {
+            self.firsts.insert(String::from_str(alloc, name)?, number)?;
+        }
+        Ok(place)
+    }
+}
 
 /// What is known of rows.
 #[derive(Drop)]
@@ -37,7 +96,7 @@ fn one_output(count: u8) -> u8
     }
 }
 
-/// Counts one more output: of the group at a place, or of a new group. Error: an allocation failed.
+/// Counts one more output: of the group at a place, or of a new group.
 fn count_output(outputs: &mut Vec<u8>, group: Option<usize>) -> Result<(), AllocError>
     ensures { OnOk result (outputs.new.items ≡ with_output outputs.old.items group) }
 {

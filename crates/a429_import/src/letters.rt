@@ -21,31 +21,22 @@ fn pair_code(lead: u8, tail: u8) -> u32
     u32::from(lead - 192) * 64 + u32::from(tail - 128)
 }
 
-/// A character in lower case, if that is one character that takes two bytes.
+/// The code of a character in lower case, if that is one character that takes two bytes.
 #[tactic(auto, unfolding(crate::specs::Letters::lower_code))]
-fn lower_of(c: char) -> u32
-    requires { c < 2048 }
-    ensures code { result ≡ lower_code c }
-    ensures small { result < 2048 }
-{
-    let mut lower = c.to_lowercase();
-    let first = lower.next();
-    let second = lower.next();
-    match (first, second) {
-        (Some(lower), None) if 128 <= lower as u32 && lower as u32 <= 2047 => lower as u32,
-        _ => c as u32,
-    }
-}
-
-/// The same by the code of the character.
 fn lower_code(code: u32) -> u32
     requires { code < 2048 }
     ensures code { result ≡ lower_code code }
     ensures small { result < 2048 }
 {
-    match char::from_u32(code) {
-        Some(c) => lower_of(c),
-        None => code,
+    let Some(c) = char::from_u32(code) else {
+        return code;
+    };
+    let mut lower = c.to_lowercase();
+    let first = lower.next();
+    let second = lower.next();
+    match (first, second) {
+        (Some(lower), None) if 128 <= lower as u32 && lower as u32 <= 2047 => lower as u32,
+        _ => code,
     }
 }
 
@@ -66,10 +57,7 @@ fn lower_byte(before: u8, byte: u8, after: u8) -> u8
 fn first_byte(text: &[u8]) -> u8
     ensures { result ≡ first_byte text.now }
 {
-    match text {
-        [byte, ..] => *byte,
-        [] => 0,
-    }
+    text.first().copied().unwrap_or(0)
 }
 
 /// Whether two headings, each after a byte, begin with the same byte in lower case.

@@ -1,20 +1,25 @@
 //! The rows of a text of comma-separated values.
 ghost use Rattle.std.specs.Prelude.{◌≡◌, ◌<◌, ◌≤◌, ◌+◌, [], IfOk, List, OnOk, drop, length, map, true, ℕ};
+ghost use Rattle.csv.specs.Machine.{in_field, start_field, step};
 ghost use Rattle.csv.specs.Reading.{owned_rows_left, owned_rows_reader};
 ghost use Rattle.csv.specs.Records.{fields_of};
 ghost use Rattle.csv.specs.declared.parser.State.TheVariants as st;
 ghost use Rattle.a429_import.specs.ImportFields.{field_in};
 ghost use Rattle.a429_import.specs.ImportReading.{IsReadRow, IsUnread};
 ghost use Rattle.a429_import.specs.Imports.{has_text, separated};
-ghost use Rattle.a429_import.specs.ImportSteps.{state_of};
+ghost use Rattle.a429_import.specs.ImportSteps.{ended_by, ends_row, state_of};
 ghost use Rattle.a429_import.specs.ImportWords.{trimmed};
 ghost use Rattle.a429_import.specs.LineCounts.{HasCounted, IsBefore, IsEnd, begins_with_end, is_between, row_end};
 ghost use Rattle.a429_import.specs.RowLines.{ends_here, from_row, line_of};
 
 use crate::blanks::trimmed_row;
+<<<<<<< HEAD
 use crate::forms::{Form, ends_line};
 use crate::steps::{Part, ends_row, pass};
 use a429_text::cut::without_byte_order_mark;
+=======
+use crate::forms::{Form, ends_line, without_mark};
+>>>>>>> 798af65d3693ef0c495d96a5654588a42b6c60cb
 use csv::{ByteRecord, ByteRecordsIntoIter, Error, ReaderBuilder};
 use std::alloc::{AllocError, Global};
 
@@ -65,6 +70,94 @@ impl CsvLine {
     }
 }
 
+/// Where in a row a byte is.
+#[derive(Clone, Copy)]
+pub enum Part {
+    /// Before its first field.
+    Row,
+    /// Before its first field, after a carriage return.
+    Return,
+    /// At the beginning of a field after the first.
+    Field,
+    /// In a field, outside quotes.
+    Text,
+    /// Inside quotes.
+    Quoted,
+    /// After a quote inside quotes: it closes them, or it is the first of two.
+    Quote,
+}
+
+/// What a byte ends.
+#[derive(Clone, Copy)]
+pub enum Ended {
+    Nothing,
+    /// A field that is not the last of its row.
+    Field,
+    /// A row.
+    Row,
+}
+
+/// Whether a row ended.
+fn ends_row(ended: Ended) -> bool
+    ensures { result ≡ ends_row ended }
+{
+    match ended {
+        Ended::Row => true,
+        _ => false,
+    }
+}
+
+/// Passes a byte of a field outside quotes.
+#[inline(always)]
+fn pass_text(separator: u8, byte: u8) -> (Part, Ended)
+    ensures part { state_of result.0 ≡ (in_field (separated separator) byte).0 }
+    ensures ended { result.1 ≡ ended_by (in_field (separated separator) byte).1 }
+    ensures between { ends_row result.1 ≡ true → is_between (state_of result.0) ≡ true }
+{
+    if byte == separator {
+        (Part::Field, Ended::Field)
+    } else if byte == b'\r' {
+        (Part::Return, Ended::Row)
+    } else if byte == b'\n' {
+        (Part::Row, Ended::Row)
+    } else {
+        (Part::Text, Ended::Nothing)
+    }
+}
+
+/// Passes the first byte of a field.
+#[inline(always)]
+fn pass_first(separator: u8, byte: u8) -> (Part, Ended)
+    ensures part { state_of result.0 ≡ (start_field (separated separator) byte).0 }
+    ensures ended { result.1 ≡ ended_by (start_field (separated separator) byte).1 }
+    ensures between { ends_row result.1 ≡ true → is_between (state_of result.0) ≡ true }
+{
+    if byte == b'"' {
+        (Part::Quoted, Ended::Nothing)
+    } else {
+        pass_text(separator, byte)
+    }
+}
+
+/// Passes a byte as the library `csv` does.
+#[inline(always)]
+pub fn pass(separator: u8, part: Part, byte: u8) -> (Part, Ended)
+    ensures part { state_of result.0 ≡ (step (separated separator) (state_of part) byte).0 }
+    ensures ended { result.1 ≡ ended_by (step (separated separator) (state_of part) byte).1 }
+    ensures between { ends_row result.1 ≡ true → is_between (state_of result.0) ≡ true }
+{
+    match part {
+        Part::Text => pass_text(separator, byte),
+        Part::Quoted if byte == b'"' => (Part::Quote, Ended::Nothing),
+        Part::Quoted => (Part::Quoted, Ended::Nothing),
+        Part::Quote if byte == b'"' => (Part::Quoted, Ended::Nothing),
+        Part::Quote => pass_text(separator, byte),
+        Part::Field => pass_first(separator, byte),
+        _ if ends_line(byte) => (Part::Row, Ended::Nothing),
+        _ => pass_first(separator, byte),
+    }
+}
+
 /// Whether a byte ends a line, which ends with a line feed, with a carriage return, or with both in this order.
 fn ends_here(is_after_return: bool, byte: u8) -> bool
     ensures { result ≡ ends_here is_after_return byte }
@@ -85,21 +178,25 @@ pub struct LineCount {
 }
 
 impl LineCount {
-    /// The count before the first byte of a text.
-    fn new() -> LineCount
-        ensures counted { (text : List ℕ) → HasCounted text result }
-        ensures at { result.at ≡ 0 }
+    /// The count before the byte at a place of a text.
+    fn before(text: &[u8], place: usize) -> LineCount
+        requires { place ≤ length text.now }
+        ensures counted { HasCounted text.now result }
+        ensures at { result.at ≡ place }
         ensures start { state_of result.part ≡ st.StartRecord }
     {
-        LineCount {
+        let mut count = LineCount {
             at: 0,
             ended: 0,
             is_after_return: false,
             part: Part::Row,
+        };
+        while count.at < place {
+            count.pass_byte(text);
         }
+        count
     }
 
-    /// Counts the next byte.
     fn pass_byte(&mut self, text: &[u8])
         requires counted { HasCounted text.now self.old }
         requires below { self.old.at < length text.now }
@@ -113,7 +210,6 @@ impl LineCount {
         self.at += 1;
     }
 
-    /// Whether the next byte is a line end.
     fn is_at_end(&self, text: &[u8]) -> bool
         ensures { result ≡ begins_with_end (drop self.now.at text.now) }
     {
@@ -185,20 +281,6 @@ impl LineCount {
     pub fn bytes(&self) -> usize {
         self.at
     }
-
-    /// Counts bytes up to a place.
-    fn pass_to(&mut self, text: &[u8], place: usize)
-        requires counted { HasCounted text.now self.old }
-        requires before { self.old.at ≤ place }
-        requires within { place ≤ length text.now }
-        ensures counted { HasCounted text.now self.new }
-        ensures at { self.new.at ≡ place }
-        ensures part { self.new.part ≡ self.old.part }
-    {
-        while self.at < place {
-            self.pass_byte(text);
-        }
-    }
 }
 
 /// The count before the rows of an end of a text.
@@ -206,9 +288,13 @@ pub fn count_before(text: &[u8], end: &[u8]) -> LineCount
     requires { IsEnd text.now end.now }
     ensures { IsBefore text.now end.now result }
 {
+<<<<<<< HEAD
     let mut count = LineCount::new();
     count.pass_to(text, text.len() - without_byte_order_mark(end).len());
     count
+=======
+    LineCount::before(text, text.len() - without_mark(end).len())
+>>>>>>> 798af65d3693ef0c495d96a5654588a42b6c60cb
 }
 
 /// The line on which the first row of an end of a text begins, counted from 1.
@@ -216,8 +302,7 @@ pub fn line_at(text: &[u8], end: &[u8]) -> u64
     requires { IsEnd text.now end.now }
     ensures { result ≡ line_of text.now (from_row end.now) }
 {
-    let mut count = LineCount::new();
-    count.pass_to(text, text.len() - end.len());
+    let mut count = LineCount::before(text, text.len() - end.len());
     count.pass_ends(text);
     count.line(text)
 }

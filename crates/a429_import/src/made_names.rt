@@ -1,33 +1,23 @@
 //! The names that are made of texts.
-ghost use Rattle.std.specs.Prelude.{◌≡◌, ℕ, ◌++◌, ◌-◌, ◌∷◌, ◌≤◌, [], drop, false, IfOk, List, OnOk, length, position, take};
-ghost use Rattle.std.specs.Char.{to_ascii_lowercase};
+ghost use Rattle.std.specs.Prelude.{◌≡◌, ℕ, ◌++◌, ◌∷◌, ◌≤◌, [], false, IfOk, List, OnOk, length, position, take};
 ghost use Rattle.a429_equipment.specs.NameForm.{is_name, is_name_byte};
-ghost use Rattle.a429_import.specs.MadeNames.{dash_if, dashed, from_kept, in_room, in_room_or, is_from, is_kept, joined_ends, label_end, made_name, number_end, numbered_name, plain_name, shortened, without_last_dash};
+ghost use Rattle.a429_import.specs.MadeNames.{dashed, from_kept, in_room, in_room_or, is_kept, joined_ends, label_end, made_name, number_end, numbered_name, plain_name, shortened, without_last_dash};
 
 use a429_text::Text;
 use a429_word::{Label, Sdi};
 use std::alloc::{AllocError, Global};
 
-fn is_from(low: u8, high: u8, byte: u8) -> bool
-    ensures { result ≡ is_from low high byte }
-{
-    low <= byte && byte <= high
-}
-
 /// Whether a byte is a letter, a digit or an underline.
 fn is_kept(byte: u8) -> bool
     ensures { result ≡ is_kept byte }
 {
-    is_from(b'a', b'z', byte)
-        || is_from(b'A', b'Z', byte)
-        || is_from(b'0', b'9', byte)
-        || byte == b'_'
+    matches!(byte, b'a'..=b'z' | b'A'..=b'Z' | b'0'..=b'9' | b'_')
 }
 
 fn is_name_byte(byte: u8) -> bool
     ensures { result ≡ is_name_byte byte }
 {
-    is_from(b'a', b'z', byte) || is_from(b'0', b'9', byte) || byte == b'-' || byte == b'_'
+    matches!(byte, b'a'..=b'z' | b'0'..=b'9' | b'-' | b'_')
 }
 
 /// Whether a text is a name: 1 to 16 bytes of `a` to `z`, `0` to `9`, `-` and `_`.
@@ -45,7 +35,6 @@ fn first_kept(text: &[u8]) -> Option<usize>
     text.iter().position(|byte| is_kept(*byte))
 }
 
-/// A text from the first byte that a name keeps.
 fn from_kept(text: &[u8]) -> &[u8]
     ensures { result.now ≡ from_kept text.now }
 {
@@ -55,60 +44,26 @@ fn from_kept(text: &[u8]) -> &[u8]
     }
 }
 
-/// Adds a byte to a name, unless it has 16.
-fn push_short(name: &mut Vec<u8>, byte: u8) -> Result<(), AllocError>
-    requires { length name.old.items ≤ 16 }
-    ensures short { OnOk result (length name.new.items ≤ 16) }
-    ensures same { OnOk result ((rest : List ℕ) → take 16 (name.new.items ++ rest) ≡ take 16 (name.old.items ++ byte ∷ rest)) }
-{
-    if name.len() < 16 {
-        name.push(byte)?;
-    }
-    Ok(())
-}
-
-/// Adds a `-` to a name, if others came before.
-fn push_dash(name: &mut Vec<u8>, is_apart: bool) -> Result<(), AllocError>
-    requires { length name.old.items ≤ 16 }
-    ensures short { OnOk result (length name.new.items ≤ 16) }
-    ensures same { OnOk result ((r : List ℕ) → take 16 (name.new.items ++ r) ≡ take 16 (name.old.items ++ (dash_if is_apart ++ r))) }
-{
-    if is_apart {
-        return push_short(name, b'-');
-    }
-    Ok(())
-}
-
-/// Adds a byte that a name keeps.
-fn push_kept(name: &mut Vec<u8>, is_apart: bool, byte: u8) -> Result<(), AllocError>
-    requires { length name.old.items ≤ 16 }
-    ensures short { OnOk result (length name.new.items ≤ 16) }
-    ensures same { OnOk result ((rest : List ℕ) → take 16 (name.new.items ++ rest)
-        ≡ take 16 (name.old.items ++ (dash_if is_apart ++ to_ascii_lowercase byte ∷ rest))) }
-{
-    push_dash(name, is_apart)?;
-    push_short(name, byte.to_ascii_lowercase())
-}
-
-/// Adds the next byte of a text, if a name keeps it. The answer is whether others came before the byte after it.
+/// Adds the next byte of a text, if a name keeps it, after one `-` if others came before. The answer is whether others came
+/// before the byte after it.
 fn push_next(name: &mut Vec<u8>, is_apart: bool, byte: u8) -> Result<bool, AllocError>
-    requires { length name.old.items ≤ 16 }
-    ensures short { OnOk result (length name.new.items ≤ 16) }
-    ensures same { IfOk result (λ apart. (text : List ℕ) → take 16 (name.new.items ++ dashed apart text)
-        ≡ take 16 (name.old.items ++ dashed is_apart (byte ∷ text))) }
+    ensures { IfOk result (λ apart. (text : List ℕ) → name.new.items ++ dashed apart text
+        ≡ name.old.items ++ dashed is_apart (byte ∷ text)) }
 {
-    if is_kept(byte) {
-        push_kept(name, is_apart, byte)?;
-        Ok(false)
-    } else {
-        Ok(true)
+    if !is_kept(byte) {
+        return Ok(true);
     }
+    if is_apart {
+        name.push(b'-')?;
+    }
+    name.push(byte.to_ascii_lowercase())?;
+    Ok(false)
 }
 
-/// Adds 16 bytes at most: what a name keeps of a text, with one `-` for all others between two kept bytes.
+/// Adds what a name keeps of a text, with one `-` for all others between two kept bytes.
 fn push_dashed(name: &mut Vec<u8>, text: &[u8]) -> Result<(), AllocError>
     requires { name.old.items ≡ [] }
-    ensures { OnOk result (name.new.items ≡ take 16 (dashed false text.now)) }
+    ensures { OnOk result (name.new.items ≡ dashed false text.now) }
 {
     let mut is_apart = false;
     for byte in text {
@@ -126,13 +81,21 @@ fn cut_dash(name: &mut Vec<u8>)
     }
 }
 
-/// What is left of a text. Error: an allocation failed.
+/// Keeps some bytes of a name, without a `-` at their end.
+fn cut(name: &mut Vec<u8>, bytes: usize)
+    ensures { name.new.items ≡ without_last_dash (take bytes name.old.items) }
+{
+    name.truncate(bytes);
+    cut_dash(name);
+}
+
+/// What is left of a text, in 16 bytes.
 fn shortened(alloc: Global, text: &[u8]) -> Result<Vec<u8>, AllocError>
     ensures { IfOk result (λ name. name.items ≡ shortened text.now) }
 {
     let mut name = Vec::new(alloc);
     push_dashed(&mut name, from_kept(text))?;
-    cut_dash(&mut name);
+    cut(&mut name, 16);
     Ok(name)
 }
 
@@ -160,15 +123,7 @@ pub fn made_name(alloc: Global, text: &str) -> Result<Vec<u8>, AllocError>
     Ok(name)
 }
 
-/// Keeps some bytes of a name, without a `-` at their end.
-fn cut(name: &mut Vec<u8>, bytes: usize)
-    ensures { name.new.items ≡ without_last_dash (take bytes name.old.items) }
-{
-    name.truncate(bytes);
-    cut_dash(name);
-}
-
-/// Adds an end to the beginning of a text, with a `-` between them. Error: an allocation failed.
+/// Adds an end to the beginning of a text, with a `-` between them.
 fn join_end(start: &mut Vec<u8>, end: &[u8]) -> Result<(), AllocError>
     ensures { OnOk result (start.new.items ≡ joined_ends start.old.items end.now) }
 {
@@ -180,33 +135,22 @@ fn join_end(start: &mut Vec<u8>, end: &[u8]) -> Result<(), AllocError>
     start.extend_from_slice(end)
 }
 
-/// What is left of the beginning of a text and of its last five bytes. Error: an allocation failed.
-fn both_ends(alloc: Global, room: usize, text: &[u8]) -> Result<Vec<u8>, AllocError>
-    requires room { 6 ≤ room }
-    requires text { 5 ≤ length text.now }
-    ensures { IfOk result (λ name. name.items
-        ≡ joined_ends (take (room - 6) (shortened text.now)) (shortened (drop (length text.now - 5) text.now))) }
-{
-    let end = shortened(alloc, &text[text.len() - 5..])?;
-    let mut name = shortened(alloc, text)?;
-    name.truncate(room - 6);
-    join_end(&mut name, &end)?;
-    Ok(name)
-}
-
-/// A text in a number of bytes. It is empty if nothing is left. Error: an allocation failed.
+/// A text in a number of bytes: if it has more, what is left of its beginning and of its last five bytes. It is empty if
+/// nothing is left.
 fn in_room(alloc: Global, room: usize, text: &[u8]) -> Result<Vec<u8>, AllocError>
     requires { 6 ≤ room }
     ensures { IfOk result (λ name. name.items ≡ in_room room text.now) }
 {
-    if text.len() <= room {
-        return shortened(alloc, text);
+    let mut name = shortened(alloc, text)?;
+    if room < text.len() {
+        let end = shortened(alloc, &text[text.len() - 5..])?;
+        name.truncate(room - 6);
+        join_end(&mut name, &end)?;
     }
-    both_ends(alloc, room, text)
+    Ok(name)
 }
 
-/// A text in a number of bytes: if it has more, what is left of its beginning and of its last five bytes. If nothing is left, it
-/// is a word. Error: an allocation failed.
+/// The same; a word if nothing is left. Error: an allocation failed.
 #[tactic(auto, unfolding(crate::specs::MadeNames::in_room_or))]
 pub fn in_room_or(
     alloc: Global,
@@ -241,17 +185,25 @@ pub fn put_label_end(end: &mut Vec<u8>, label: Label, sdi: Option<Sdi>) -> Resul
     }
 }
 
-/// An end with a number after it; 0 is not written. Error: an allocation failed.
-fn numbered_end(alloc: Global, end: &[u8], number: u64) -> Result<Vec<u8>, AllocError>
-    ensures { IfOk result (λ text. text.items ≡ end.now ++ number_end number) }
+/// The number of bytes of that end.
+pub fn label_end_len(sdi: Option<Sdi>) -> usize
+    ensures len { (label : ℕ) → length (label_end label sdi) ≡ result }
+    ensures few { result ≤ 6 }
 {
-    let mut text = Text::new(alloc);
-    text.put_bytes(end);
+    match sdi {
+        Some(_) => 6,
+        None => 4,
+    }
+}
+
+/// Writes a number after `_`; nothing for 0.
+fn put_number_end(text: &mut Text, number: u64)
+    ensures { text.new ≡ text.old ++ number_end number }
+{
     if number != 0 {
         text.put("_");
         text.put_number(number);
     }
-    text.into_bytes()
 }
 
 /// The name of a number: a base, an end, and the number. The base is cut, so that the name has at most 16 bytes.
@@ -265,7 +217,10 @@ pub fn numbered_name(
 ) -> Result<Vec<u8>, AllocError>
     ensures { IfOk result (λ name. name.items ≡ numbered_name base.now end.now number) }
 {
-    let end = numbered_end(alloc, end, number)?;
+    let mut text = Text::new(alloc);
+    text.put_bytes(end);
+    put_number_end(&mut text, number);
+    let end = text.into_bytes()?;
     let mut name = Vec::from_slice(alloc, base)?;
     cut(&mut name, 16usize.saturating_sub(end.len()));
     name.extend_from_slice(&end)?;

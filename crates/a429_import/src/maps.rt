@@ -1,10 +1,10 @@
 //! The heading of rows, by texts HEADING=COLUMN: such a text says that a heading is the name of a column.
-ghost use Rattle.std.specs.Prelude.{◌≡◌, ◌++◌, ◌∷◌, [], IfOk, List, OnOk, codes, map, option_map, true};
+ghost use Rattle.std.specs.Prelude.{◌≡◌, ◌++◌, ◌∷◌, [], IfOk, List, OnOk, codes, map, option_map, string_bytes, true};
 ghost use Rattle.std.specs.List.{find, list_all, list_any};
 ghost use Rattle.csv.specs.Records.{fields_of, partial_of};
 ghost use Rattle.a429_import.specs.declared.lines.CsvLine.{CsvLine};
 ghost use Rattle.a429_import.specs.ImportRows.{is_column};
-ghost use Rattle.a429_import.specs.ImportMaps.{AreNamedBy, IsNamedBy, can_keep, column_in, counts, is_about, is_keep, is_met, is_once, keeps, mapped, names_by, given_texts, titled};
+ghost use Rattle.a429_import.specs.ImportMaps.{AreNamedBy, IsNamedBy, can_keep, column_in, counts, is_about, is_keep, is_met, is_once, keep_text, mapped, names_by, given_texts, titled};
 
 use crate::columns::is_column;
 use crate::letters::same_letters;
@@ -63,31 +63,8 @@ fn is_keep(text: &str) -> bool
     column_in(text) == "#:".as_bytes()
 }
 
-/// Whether the first text that is about a field says that its column goes along.
-fn keeps(maps: &[&str], field: &[u8]) -> bool
-    ensures { result ≡ keeps (given_texts maps.now) field.now }
-{
-    match text_about(maps, field) {
-        Some(text) => is_keep(text),
-        None => false,
-    }
-}
-
-/// Adds a name of a column that goes along: `#:` and its heading. Error: an allocation failed.
-fn push_kept(alloc: Global, names: &mut ByteRecord, field: &[u8]) -> Result<(), AllocError>
-    requires { partial_of names.old ≡ [] }
-    ensures fields { OnOk result (fields_of names.new ≡ fields_of names.old ++ (codes "#:" ++ field.now) ∷ []) }
-    ensures partial { OnOk result (partial_of names.new ≡ []) }
-{
-    let mut name = Text::new(alloc);
-    name.put("#:");
-    name.put_bytes(field);
-    let name = name.into_bytes()?;
-    names.push_field(&name)
-}
-
 /// Adds the name of a field in a heading, after `#:` if its column goes along. Otherwise it is COLUMN of the first text that
-/// is about the field, or its own. Error: an allocation failed.
+/// is about the field, or its own.
 fn push_titled(
     alloc: Global,
     names: &mut ByteRecord,
@@ -99,7 +76,12 @@ fn push_titled(
     ensures partial { OnOk result (partial_of names.new ≡ []) }
 {
     match text_about(maps, field) {
-        Some(text) if is_keep(text) => push_kept(alloc, names, field),
+        Some(text) if is_keep(text) => {
+            let mut name = Text::new(alloc);
+            name.put("#:");
+            name.put_bytes(field);
+            names.push_field(&name.into_bytes()?)
+        }
         Some(text) => names.push_field(column_in(text)),
         None => names.push_field(field),
     }
@@ -121,7 +103,10 @@ pub fn has_heading(heading: &CsvLine, text: &str) -> bool
 fn can_keep(maps: &[&str], field: &[u8]) -> bool
     ensures { result ≡ can_keep (given_texts maps.now) field.now }
 {
-    keeps(maps, field) && !(field.is_empty() || is_column(field))
+    match text_about(maps, field) {
+        Some(text) => is_keep(text) && !(field.is_empty() || is_column(field)),
+        None => false,
+    }
 }
 
 /// Whether a text is about a field; if the flag is set, whether also its column can go along.
@@ -154,7 +139,6 @@ pub fn is_met(maps: &[&str], heading: &CsvLine, text: &str) -> bool
     }
 }
 
-/// Whether all texts are met.
 fn are_met(heading: &CsvLine, maps: &[&str]) -> bool
     ensures { result ≡ list_all (is_met (given_texts maps.now) (fields_of heading.now.fields)) (given_texts maps.now) }
 {
@@ -166,7 +150,7 @@ fn are_met(heading: &CsvLine, maps: &[&str]) -> bool
     true
 }
 
-/// The names of the fields of a heading; none if one of the texts is not met. Error: an allocation failed.
+/// The names of the fields of a heading; none if one of the texts is not met.
 fn names_of(alloc: Global, maps: &[&str], heading: &CsvLine) -> Result<ByteRecord, AllocError>
     ensures { IfOk result (λ names. fields_of names ≡ names_by (given_texts maps.now) (fields_of heading.now.fields)) }
 {
@@ -194,4 +178,39 @@ pub fn named_by(alloc: Global, maps: &[&str], heading: CsvLine) -> Result<CsvLin
         separator: heading.separator,
         fields: names_of(alloc, maps, &heading)?,
     })
+}
+
+/// The text `HEADING=#:`, by which the column of a heading goes along as comments.
+fn keep_text(alloc: Global, heading: &str) -> Result<String, AllocError>
+    ensures { IfOk result (λ text. string_bytes text ≡ keep_text heading.now) }
+{
+    let mut text = String::from_str(alloc, heading)?;
+    text.push_str("=#:")?;
+    Ok(text)
+}
+
+/// The same for several headings. Error: an allocation failed.
+pub fn keep_texts(alloc: Global, headings: &[&str]) -> Result<Vec<String>, AllocError>
+    ensures { IfOk result (λ texts. map string_bytes texts.items ≡ map keep_text (given_texts headings.now)) }
+{
+    let mut texts = Vec::new(alloc);
+    for heading in headings {
+        texts.push(keep_text(alloc, *heading)?)?;
+    }
+    Ok(texts)
+}
+
+/// All texts HEADING=COLUMN: those of columns that are read, and those of headings that go along. Error: an allocation failed.
+pub fn heading_texts<'a>(
+    alloc: Global,
+    texts: &[&'a str],
+    further: &'a [String],
+) -> Result<Vec<&'a str>, AllocError>
+    ensures { IfOk result (λ all. given_texts all.items ≡ given_texts texts.now ++ map string_bytes further.now) }
+{
+    let mut all = texts.to_vec(alloc)?;
+    for text in further {
+        all.push(text.as_str())?;
+    }
+    Ok(all)
 }

@@ -51,13 +51,6 @@ impl Notes {
         }
     }
 
-    /// The number of rows that may be notes.
-    pub fn len(&self) -> usize
-        ensures { result ≡ vec_len self.now.rows }
-    {
-        self.rows.len()
-    }
-
     /// Whether a row may be a note: it has no label, and a row above it has one.
     pub fn may_take(&self, is_labelled: bool) -> bool
         ensures { result ≡ (self.now.is_labelled && not is_labelled) }

@@ -1,6 +1,6 @@
 //! Words of headings and fields as spreadsheets write them.
 ghost use Rattle.std.specs.Prelude.{◌≡◌, ◌≤◌, false, length, ℕ};
-ghost use Rattle.a429_import.specs.ImportWords.{begin_alike, is_blank, is_extra, is_quoted, is_text, plain, same_heading, unquoted, unwrapped, words_of};
+ghost use Rattle.a429_import.specs.ImportWords.{begin_alike, is_blank, is_extra, is_text, plain, same_heading, unquoted, unwrapped, words_of};
 ghost use Rattle.a429_import.specs.Letters.{letters_of};
 
 use crate::forms::from_place;
@@ -91,21 +91,13 @@ pub fn is_text(text: &str, field: &[u8]) -> bool
     text.as_bytes().eq_ignore_ascii_case(field)
 }
 
-/// Whether a field begins and ends with a quote.
-fn is_quoted(field: &[u8]) -> bool
-    ensures { result ≡ is_quoted field.now }
-{
-    1 < field.len() && field[0] == b'"' && field[field.len() - 1] == b'"'
-}
-
 /// A field without the quotes around it.
 pub fn unquoted(field: &[u8]) -> &[u8]
     ensures { result.now ≡ unquoted field.now }
 {
-    if is_quoted(field) {
-        &field[1..field.len() - 1]
-    } else {
-        field
+    match field {
+        [b'"', text @ .., b'"'] => text,
+        _ => field,
     }
 }
 
@@ -115,7 +107,7 @@ pub fn unwrapped(field: &[u8]) -> &[u8]
     ensures { result.now ≡ unwrapped field.now }
 {
     match field {
-        [b'=', rest @ ..] if is_quoted(rest) => unquoted(rest),
+        [b'=', b'"', text @ .., b'"'] => text,
         _ => field,
     }
 }

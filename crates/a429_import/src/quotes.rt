@@ -1,36 +1,26 @@
 //! Fields in quotes that do not end with a quote and a separator or a line end (RFC 4180). The library `csv` reads on, so
 //! rows below such a field would become a part of it.
 ghost use Rattle.std.specs.Prelude.{◌≡◌, if◌then◌else◌, drop, false, option_map, true};
-ghost use Rattle.a429_import.specs.ImportQuotes.{breaks_quotes, is_after_quote, is_in_text, is_inside_quotes};
+ghost use Rattle.a429_import.specs.ImportQuotes.{breaks_quotes, is_inside_quotes};
 ghost use Rattle.a429_import.specs.FaultLines.{quotes_line, wrong_in, wrong_line};
 ghost use Rattle.a429_import.specs.ImportSteps.{ends_field, state_of};
 ghost use Rattle.a429_import.specs.Imports.{separated};
 ghost use Rattle.a429_import.specs.LineCounts.{IsEnd};
 
+<<<<<<< HEAD
 use crate::forms::{Form, from_place, text_before};
 use crate::lines::line_at;
 use crate::steps::{Ended, Part, pass};
 use a429_text::cut::without_byte_order_mark;
+=======
+use crate::forms::{Form, from_place, text_before, without_mark};
+use crate::lines::{Ended, Part, line_at, pass};
+>>>>>>> 798af65d3693ef0c495d96a5654588a42b6c60cb
 
-/// Whether a byte is inside quotes.
 fn is_inside_quotes(part: Part) -> bool
     ensures { result ≡ is_inside_quotes (state_of part) }
 {
     matches!(part, Part::Quoted)
-}
-
-/// Whether a byte comes after a quote inside quotes.
-fn is_after_quote(part: Part) -> bool
-    ensures { result ≡ is_after_quote (state_of part) }
-{
-    matches!(part, Part::Quote)
-}
-
-/// Whether a byte comes after one of a field outside quotes.
-fn is_in_text(part: Part) -> bool
-    ensures { result ≡ is_in_text (state_of part) }
-{
-    matches!(part, Part::Text)
 }
 
 /// Whether a byte is text after the quote that closes a field, by the part of the row before it and the part after it. The
@@ -39,7 +29,7 @@ fn is_in_text(part: Part) -> bool
 fn breaks_quotes(of_rows: bool, before: Part, after: Part) -> bool
     ensures { result ≡ breaks_quotes of_rows (state_of before) (state_of after) }
 {
-    of_rows && is_after_quote(before) && is_in_text(after)
+    of_rows && matches!(before, Part::Quote) && matches!(after, Part::Text)
 }
 
 /// The place at which a field begins: another place, if a field ended before it.

@@ -5,8 +5,7 @@ ghost use Rattle.csv.specs.Records.{fields_of};
 ghost use Rattle.a429_import.specs.declared.lines.CsvLine.{CsvLine};
 ghost use Rattle.a429_import.specs.ImportClashes.{Agree};
 ghost use Rattle.a429_import.specs.ImportReading.{AreBelow, AreTaken, IsAdded, IsTaken, KnowsNothing, StandsFor, heading_fault};
-ghost use Rattle.a429_import.specs.ImportRows.{next_row, with_line, with_row};
-ghost use Rattle.a429_import.specs.ImportTexts.{row_view};
+ghost use Rattle.a429_import.specs.ImportRows.{next_row, row_view, with_line, with_row};
 ghost use Rattle.a429_import.specs.KeptFields.{KeepsTexts};
 ghost use Rattle.a429_import.specs.Known.{Knows};
 
@@ -66,8 +65,7 @@ fn next_row<'a>(
     }
 }
 
-/// Takes a row, unless it says nothing new. The answer is the column of which there is then one too many. Error: an allocation
-/// failed.
+/// Takes a row, unless it says nothing new. The answer is the column of which there is then one too many.
 fn take_row(
     alloc: Global,
     known: &mut Known,
@@ -103,57 +101,38 @@ fn take_below(
     }
 }
 
-/// Takes a line below the heading, which may be a note. If it is none since it has a label, the rows above it are none either:
-/// the fault of the first of them is the answer.
+/// Takes a line below the heading, which may be a note, and what it says in the columns that go along. If it is none since it
+/// has a label, the rows above it are none either: the fault of the first of them is the answer.
 fn take_row_or_note(
     alloc: Global,
-    known: &mut Known,
-    notes: &mut Notes,
+    read: &mut LinesRead,
     heading: &Heading,
     line: &CsvLine,
 ) -> Result<(), ImportFault>
-    requires { (below : List CsvLine) × AreBelow (fields_of heading.now.line.fields) below known.old notes.old }
-    ensures { (below : List CsvLine) → AreBelow (fields_of heading.now.line.fields) below known.old notes.old
-        → AreTaken result (fields_of heading.now.line.fields) (below ++ line.now ∷ []) known.new notes.new }
+    requires { (below : List CsvLine) × AreBelow (fields_of heading.now.line.fields) below read.old.known read.old.notes }
+    ensures taken { (below : List CsvLine) → AreBelow (fields_of heading.now.line.fields) below read.old.known read.old.notes
+        → AreTaken result (fields_of heading.now.line.fields) (below ++ line.now ∷ []) read.new.known read.new.notes }
+    ensures kept { OnOk result ((below : List CsvLine) → KeepsTexts read.old.kept (fields_of heading.now.line.fields) below
+        → KeepsTexts read.new.kept (fields_of heading.now.line.fields) (below ++ line.now ∷ [])) }
 {
+    read.kept.note(alloc, heading, line)?;
     let is_labelled = has_label(heading, line);
-    if notes.may_take(is_labelled) {
-        notes.hold(heading, line)?;
+    if read.notes.may_take(is_labelled) {
+        read.notes.hold(heading, line)?;
         return Ok(());
     }
-    match notes.end(is_labelled) {
+    match read.notes.end(is_labelled) {
         Some(fault) => Err(fault),
-        None => take_below(alloc, known, heading, line),
+        None => take_below(alloc, &mut read.known, heading, line),
     }
-}
-
-/// Takes a line below the heading, and what it says in the columns that go along.
-fn take_kept(
-    alloc: Global,
-    known: &mut Known,
-    notes: &mut Notes,
-    kept: &mut KeptTexts,
-    heading: &Heading,
-    line: &CsvLine,
-) -> Result<(), ImportFault>
-    requires { (below : List CsvLine) × AreBelow (fields_of heading.now.line.fields) below known.old notes.old }
-    ensures taken { (below : List CsvLine) → AreBelow (fields_of heading.now.line.fields) below known.old notes.old
-        → AreTaken result (fields_of heading.now.line.fields) (below ++ line.now ∷ []) known.new notes.new }
-    ensures kept { OnOk result ((below : List CsvLine) → KeepsTexts kept.old (fields_of heading.now.line.fields) below
-        → KeepsTexts kept.new (fields_of heading.now.line.fields) (below ++ line.now ∷ [])) }
-{
-    kept.note(alloc, heading, line)?;
-    take_row_or_note(alloc, known, notes, heading, line)
 }
 
 /// The fault of a heading, if it lacks a column or has it twice.
 pub fn heading_fault(line: &CsvLine) -> Option<ImportFault>
     ensures { result ≡ heading_fault line.now }
 {
-    match wrong_column(line) {
-        Some(column) => Some(csv_fault(line.number, CsvFaultKind::Column, Some(column))),
-        None => None,
-    }
+    let column = wrong_column(line)?;
+    Some(csv_fault(line.number, CsvFaultKind::Column, Some(column)))
 }
 
 /// Takes one more line below a heading, unless one before it has a fault.
@@ -163,14 +142,7 @@ pub fn take_line(alloc: Global, heading: &Heading, read: &mut LinesRead, line: &
         → StandsFor heading.now.line read.new (below ++ line.now ∷ []) }
 {
     if read.fault.is_none() {
-        let taken = take_kept(
-            alloc,
-            &mut read.known,
-            &mut read.notes,
-            &mut read.kept,
-            heading,
-            line,
-        );
+        let taken = take_row_or_note(alloc, read, heading, line);
         read.fault = taken.err();
     }
 }

@@ -32,8 +32,6 @@ pub struct RefusedRows {
     pub is_heading_wrong: bool,
     /// Whether a row has a label.
     is_labelled: bool,
-    /// How many of `faulty` are no notes, whatever follows.
-    settled: usize,
     /// How many of `count` are no notes, whatever follows.
     settled_count: usize,
 }
@@ -49,7 +47,7 @@ pub fn copy_of_line(line: &CsvLine) -> Result<CsvLine, AllocError>
     })
 }
 
-/// Adds a row, unless there are as many as are kept. Error: an allocation failed.
+/// Adds a row, unless there are as many as are kept.
 fn push_up_to(rows: &mut Vec<CsvLine>, most: usize, line: CsvLine) -> Result<(), AllocError> {
     if rows.len() < most {
         rows.push(line)?;
@@ -69,7 +67,6 @@ impl RefusedRows {
             is_misquoted: false,
             is_heading_wrong: false,
             is_labelled: false,
-            settled: 0,
             settled_count: 0,
         }
     }
@@ -85,8 +82,7 @@ impl RefusedRows {
     /// Notes a heading as it is written, unless it is known. Error: an allocation failed.
     pub fn note_titles(&mut self, is_known: bool, line: &CsvLine) -> Result<(), AllocError> {
         if !is_known {
-            let titles = copy_of_line(line)?;
-            self.titles = Some(titles);
+            self.titles = Some(copy_of_line(line)?);
         }
         Ok(())
     }
@@ -115,7 +111,6 @@ impl RefusedRows {
             self.rows.push(line)?;
         }
         if !may_be_note {
-            self.settled = self.faulty.len();
             self.settled_count = self.count;
         }
         Ok(())
@@ -124,8 +119,8 @@ impl RefusedRows {
     /// The same with the heading by the names of its columns, and without notes.
     pub fn ended(self, heading: Option<Heading>) -> RefusedRows {
         let mut rows = self;
-        rows.faulty.truncate(rows.settled);
         rows.count = rows.settled_count;
+        rows.faulty.truncate(rows.count);
         rows.heading = match heading {
             Some(Heading { line, .. }) => Some(line),
             None => None,

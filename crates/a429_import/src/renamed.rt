@@ -4,16 +4,14 @@ ghost use Rattle.std.specs.List.{count_by};
 ghost use Rattle.std.specs.Str.{bytes_eq};
 ghost use Rattle.a429_import.specs.ImportFields.{field_in, utf8_in};
 ghost use Rattle.a429_import.specs.ImportTables.{name_in};
-ghost use Rattle.a429_import.specs.ImportTexts.{texts_view};
+ghost use Rattle.a429_import.specs.ImportRows.{texts_view};
 ghost use Rattle.a429_import.specs.Known.{Knows};
-ghost use Rattle.a429_import.specs.RenamedReading.{AreNames, texts_of};
-ghost use Rattle.a429_import.specs.Renamed.{all_renamed, base_of, chosen, end_of, is_alone, is_taken, long_name, name_for, names_in, names_of_row, plain_of, plains_of, source_text, text_of};
+ghost use Rattle.a429_import.specs.Renamed.{AreNames, all_renamed, base_of, chosen, end_of, is_alone, is_taken, long_name, name_for, names_in, names_of_row, plain_of, plains_of, source_text, text_of, texts_of};
 
 use crate::fields::utf8_in;
 use crate::firsts::Part;
-use crate::keyed_lines::key_end;
 use crate::known::Known;
-use crate::made_names::{in_room_or, numbered_name, plain_name, put_label_end};
+use crate::made_names::{in_room_or, label_end_len, numbered_name, plain_name, put_label_end};
 use crate::rows::{ImportRow, RowFields, TextFields};
 use std::alloc::{AllocError, Global};
 
@@ -34,40 +32,34 @@ pub fn name_in(part: Part, row: &ImportRow) -> &str
     }
 }
 
-/// The text of a row's source, without the rest of its key. Error: an allocation failed.
-fn source_text(alloc: Global, row: &ImportRow) -> Result<&[u8], AllocError>
-    ensures { IfOk result (λ text. text.now ≡ source_text row.now) }
+/// The text of a row's source, without the rest of its key.
+fn source_text(row: &ImportRow) -> &[u8]
+    ensures { result.now ≡ source_text row.now }
 {
-    let end = key_end(
-        alloc,
-        row.texts.receiver.as_str(),
-        row.numbers.label,
-        row.numbers.sdi,
-    )?;
+    let end = 1 + row.texts.receiver.as_str().len() + label_end_len(row.numbers.sdi);
     let source = row.texts.source.as_str().as_bytes();
-    Ok(&source[..source.len().saturating_sub(end.len())])
+    &source[..source.len().saturating_sub(end)]
 }
 
-/// The text of a row's receiver, source or group. Error: an allocation failed.
-pub fn text_of(alloc: Global, part: Part, row: &ImportRow) -> Result<&[u8], AllocError>
-    ensures { IfOk result (λ text. text.now ≡ text_of part row.now) }
+/// The text of a row's receiver, source or group.
+pub fn text_of(part: Part, row: &ImportRow) -> &[u8]
+    ensures { result.now ≡ text_of part row.now }
 {
     match part {
-        Part::Sources => source_text(alloc, row),
-        Part::Receivers | Part::Groups => Ok(name_in(part, row).as_bytes()),
+        Part::Sources => source_text(row),
+        Part::Receivers | Part::Groups => name_in(part, row).as_bytes(),
     }
 }
 
-/// The name that the text would have alone. Error: an allocation failed.
+/// The name that the text would have alone.
 #[tactic(auto, unfolding(crate::specs::Renamed::plain_of))]
 fn plain_of(alloc: Global, part: Part, row: &ImportRow) -> Result<Vec<u8>, AllocError>
     ensures { IfOk result (λ name. name.items ≡ plain_of part row.now) }
 {
-    let text = text_of(alloc, part, row)?;
-    plain_name(alloc, text)
+    plain_name(alloc, text_of(part, row))
 }
 
-/// The beginning of the long name: for a source its receiver. Error: an allocation failed.
+/// The beginning of the long name: for a source its receiver.
 #[tactic(auto, unfolding(crate::specs::Renamed::base_of))]
 fn base_of(alloc: Global, part: Part, row: &ImportRow) -> Result<Vec<u8>, AllocError>
     ensures { IfOk result (λ base. base.items ≡ base_of part row.now) }
@@ -80,7 +72,7 @@ fn base_of(alloc: Global, part: Part, row: &ImportRow) -> Result<Vec<u8>, AllocE
     }
 }
 
-/// The end of the long name: for a source its label and its SDI. Error: an allocation failed.
+/// The end of the long name: for a source its label and its SDI.
 #[tactic(auto, unfolding(crate::specs::Renamed::end_of))]
 fn end_of(alloc: Global, part: Part, row: &ImportRow) -> Result<Vec<u8>, AllocError>
     ensures { IfOk result (λ end. end.items ≡ end_of part row.now) }
@@ -118,7 +110,7 @@ fn is_alone(plains: &[Vec<u8>], plain: &[u8]) -> bool
     !plain.is_empty() && !(1 < times(plains, plain))
 }
 
-/// The first long name that is none of these, and none of others. Error: an allocation failed.
+/// The first long name that is none of these, and none of others.
 #[tactic(auto, unfolding(crate::specs::Renamed::long_name))]
 fn long_name(
     alloc: Global,
@@ -138,23 +130,7 @@ fn long_name(
     Ok(Vec::new(alloc))
 }
 
-/// The long name of a row's receiver, source or group that is none of these, and none of others. Error: an allocation failed.
-fn long_of(
-    alloc: Global,
-    names: &[Vec<u8>],
-    others: &[Vec<u8>],
-    part: Part,
-    row: &ImportRow,
-) -> Result<Vec<u8>, AllocError>
-    ensures { IfOk result (λ name. name.items
-        ≡ long_name (texts_of names.now ++ texts_of others.now) (base_of part row.now) (end_of part row.now)) }
-{
-    let base = base_of(alloc, part, row)?;
-    let end = end_of(alloc, part, row)?;
-    long_name(alloc, names, others, &base, &end)
-}
-
-/// The name of a row's receiver, source or group, after names that earlier ones have. Error: an allocation failed.
+/// The name of a row's receiver, source or group, after names that earlier ones have.
 #[tactic(auto, unfolding(crate::specs::Renamed::chosen))]
 fn chosen(
     alloc: Global,
@@ -168,17 +144,19 @@ fn chosen(
     if plains.len() > MOST_TEXTS {
         return Vec::from_slice(alloc, name_in(part, row).as_bytes());
     }
-    if text_of(alloc, part, row)?.is_empty() {
+    if text_of(part, row).is_empty() {
         return Ok(Vec::new(alloc));
     }
     let plain = plain_of(alloc, part, row)?;
     if is_alone(plains, &plain) {
         return Ok(plain);
     }
-    long_of(alloc, plains, earlier, part, row)
+    let base = base_of(alloc, part, row)?;
+    let end = end_of(alloc, part, row)?;
+    long_name(alloc, plains, earlier, &base, &end)
 }
 
-/// The plain names of the receivers, the sources or the groups. Error: an allocation failed.
+/// The plain names of the receivers, the sources or the groups.
 fn plains_of(alloc: Global, part: Part, known: &Known) -> Result<Vec<Vec<u8>>, AllocError>
     requires { Knows known.now }
     ensures { IfOk result (λ plains. texts_of plains.items ≡ plains_of part known.now.rows.items) }
@@ -190,7 +168,7 @@ fn plains_of(alloc: Global, part: Part, known: &Known) -> Result<Vec<Vec<u8>>, A
     Ok(plains)
 }
 
-/// The names of the receivers, the sources or the groups, in the order of their first rows. Error: an allocation failed.
+/// The names of the receivers, the sources or the groups, in the order of their first rows.
 #[tactic(auto, unfolding(crate::specs::Renamed::names_in))]
 fn names_in(alloc: Global, part: Part, known: &Known) -> Result<Vec<Vec<u8>>, AllocError>
     requires { Knows known.now }
@@ -227,7 +205,6 @@ pub fn all_names(alloc: Global, known: &Known) -> Result<AllNames, AllocError>
     })
 }
 
-/// The name at a place, as a text.
 fn name_at(names: &[Vec<u8>], place: usize) -> &str
     ensures { result.now ≡ unwrap_or (utf8_in (field_in place (texts_of names.now))) [] }
 {

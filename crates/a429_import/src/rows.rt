@@ -3,13 +3,12 @@ ghost use Rattle.std.specs.Prelude.{◌≡◌, IfOk, None, option_map};
 ghost use Rattle.std.specs.Result.{result_err, result_map_both};
 ghost use Rattle.csv.specs.Records.{fields_of};
 ghost use Rattle.a429_import.specs.ImportFields.{filters_in, hold_in, label_in, rate_in, sdi_in, text_in};
-ghost use Rattle.a429_import.specs.ImportRows.{column_form, interval_at, is_least, names_group, numbers_of, output_at, row_of, stated_at, texts_of};
-ghost use Rattle.a429_import.specs.ImportTexts.{row_view, text_view, texts_view};
+ghost use Rattle.a429_import.specs.ImportRows.{column_form, interval_at, is_least, names_group, numbers_of, output_at, row_of, row_view, stated_at, texts_of, texts_view};
 
 use crate::columns::Heading;
 use crate::fault::{CsvFaultKind, ImportColumn};
 use crate::fields::{filters_in, hold_in, if_group, label_in, sdi_in, text_in};
-use crate::intervals::{IntervalForm, interval_in};
+use crate::intervals::interval_in;
 use crate::lines::CsvLine;
 use crate::rates::rate_in;
 use a429_word::{Label, Sdi};
@@ -33,7 +32,6 @@ impl Model for RowText {
 impl RowText {
     ghost use Rattle.std.specs.Prelude.{◌≡◌, IfOk};
 
-    /// A copy of a text. Error: an allocation failed.
     fn copy_of(alloc: Global, text: &str) -> Result<RowText, AllocError>
         ensures { IfOk result (λ t. t ≡ text.now) }
     {
@@ -99,42 +97,22 @@ pub struct RowFields<'a> {
     pub numbers: RowNumbers,
 }
 
-/// Whether a row names a group.
-fn names_group(heading: &Heading, line: &CsvLine) -> bool
-    ensures { result ≡ names_group (fields_of heading.now.line.fields) (fields_of line.now.fields) }
-{
-    !heading.field_of(line, ImportColumn::Group).is_empty()
-}
-
-/// A limit of an interval, in the form of its column.
-fn limit_at(
-    heading: &Heading,
-    line: &CsvLine,
-    column: ImportColumn,
-    is_minimum: bool,
-    form: IntervalForm,
-) -> Result<u32, ImportColumn>
-    requires minimum { is_minimum ≡ is_least column }
-    requires form { form ≡ column_form (fields_of heading.now.line.fields) column }
-    ensures { result ≡ interval_at line.now.separator (fields_of heading.now.line.fields) (fields_of line.now.fields) column }
-{
-    let field = heading.field_of(line, column);
-    let limit = interval_in(is_minimum, form, line.separator, field);
-    if_group(names_group(heading, line), field, limit, 0).ok_or(column)
-}
-
 /// The numbers of a row. Error: the first column with a wrong form.
 #[tactic(auto, unfolding(crate::specs::ImportRows::numbers_of))]
 pub fn row_numbers(heading: &Heading, line: &CsvLine) -> Result<RowNumbers, ImportColumn>
     ensures { result ≡ numbers_of line.now.separator (fields_of heading.now.line.fields) (fields_of line.now.fields) }
 {
-    let has_group = names_group(heading, line);
+    let has_group = !heading.field_of(line, ImportColumn::Group).is_empty();
     let rate = heading.field_of(line, ImportColumn::Rate);
     let rate = if_group(has_group, rate, rate_in(rate), 0).ok_or(ImportColumn::Rate)?;
     let label = label_in(heading.field_of(line, ImportColumn::Label)).ok_or(ImportColumn::Label)?;
     let sdi = sdi_in(heading.field_of(line, ImportColumn::Sdi)).ok_or(ImportColumn::Sdi)?;
-    let min_us = limit_at(heading, line, ImportColumn::MinUs, true, heading.min_form)?;
-    let max_us = limit_at(heading, line, ImportColumn::MaxUs, false, heading.max_form)?;
+    let min_us = heading.field_of(line, ImportColumn::MinUs);
+    let least = interval_in(true, heading.min_form, line.separator, min_us);
+    let min_us = if_group(has_group, min_us, least, 0).ok_or(ImportColumn::MinUs)?;
+    let max_us = heading.field_of(line, ImportColumn::MaxUs);
+    let most = interval_in(false, heading.max_form, line.separator, max_us);
+    let max_us = if_group(has_group, max_us, most, 0).ok_or(ImportColumn::MaxUs)?;
     let hold = heading.field_of(line, ImportColumn::Hold);
     let hold = if_group(has_group, hold, hold_in(hold), None).ok_or(ImportColumn::Hold)?;
     Ok(RowNumbers {
@@ -179,14 +157,9 @@ pub fn row_of<'a>(
     if line.len() != heading.line.len() {
         return Err(None);
     }
-    let numbers = match row_numbers(heading, line) {
-        Ok(numbers) => numbers,
-        Err(column) => return Err(Some(column)),
-    };
-    match text_fields(heading, line) {
-        Ok(texts) => Ok(RowFields { texts, numbers }),
-        Err(column) => Err(Some(column)),
-    }
+    let numbers = row_numbers(heading, line).map_err(Some)?;
+    let texts = text_fields(heading, line).map_err(Some)?;
+    Ok(RowFields { texts, numbers })
 }
 
 /// What is wrong with a row by itself: the column with a wrong form; `Some(None)` if the row has more or fewer fields than
@@ -201,28 +174,22 @@ pub fn form_fault(heading: &Heading, line: &CsvLine) -> Option<Option<ImportColu
     }
 }
 
-/// A copy of texts. Error: an allocation failed.
-fn row_texts(alloc: Global, fields: TextFields<'_>) -> Result<RowTexts, AllocError>
-    ensures { IfOk result (λ texts. texts ≡ texts_view fields.entry) }
-{
-    let group = RowText::copy_of(alloc, fields.group)?;
-    let source = RowText::copy_of(alloc, fields.source)?;
-    let receiver = RowText::copy_of(alloc, fields.receiver)?;
-    let filters = RowText::copy_of(alloc, fields.filters)?;
-    Ok(RowTexts {
-        group,
-        source,
-        receiver,
-        filters,
-    })
-}
-
 /// A copy of what a row says. Error: an allocation failed.
 pub fn copy_of(alloc: Global, row: &RowFields<'_>) -> Result<ImportRow, AllocError>
     ensures { IfOk result (λ copy. copy ≡ row_view row.now) }
 {
+    let group = RowText::copy_of(alloc, row.texts.group)?;
+    let source = RowText::copy_of(alloc, row.texts.source)?;
+    let receiver = RowText::copy_of(alloc, row.texts.receiver)?;
+    let filters = RowText::copy_of(alloc, row.texts.filters)?;
+    let texts = RowTexts {
+        group,
+        source,
+        receiver,
+        filters,
+    };
     Ok(ImportRow {
-        texts: row_texts(alloc, row.texts)?,
+        texts,
         numbers: row.numbers,
     })
 }

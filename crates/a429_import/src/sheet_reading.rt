@@ -1,27 +1,43 @@
 //! The lines of a sheet, one after the other, from its heading on.
-ghost use Rattle.std.specs.Prelude.{◌≡◌, ◌++◌, ◌∷◌, ◌<◌, ℕ, [], filter, IfOk, List, OnOk};
-ghost use Rattle.csv.specs.Reading.{owned_rows_left, owned_rows_reader};
+ghost use Rattle.std.specs.Prelude.{◌≡◌, ◌++◌, ◌∷◌, ℕ, [], filter, IfOk, List, OnOk};
 ghost use Rattle.csv.specs.Records.{fields_of};
 ghost use Rattle.a429_import.specs.declared.import.ImportOptions.{ImportOptions};
 ghost use Rattle.a429_import.specs.declared.lines.CsvLine.{CsvLine};
+ghost use Rattle.a429_import.specs.FilledLines.{IsFilledLine, filled_below, is_filled_column};
 ghost use Rattle.a429_import.specs.ImportForms.{from_heading, separator_in};
 ghost use Rattle.a429_import.specs.ImportMaps.{IsNamedBy, given_texts};
-ghost use Rattle.a429_import.specs.ImportReading.{IsUnread};
 ghost use Rattle.a429_import.specs.Imports.{AreLines, has_text};
 ghost use Rattle.a429_import.specs.SheetReading.{IsFilledIf, ReadsBelow, ReadsKeyed, ReadsNothing, ReadsSheet};
 
-use crate::columns::Heading;
-use crate::filled_lines::filled_line;
+use crate::columns::{Heading, is_named};
+use crate::fault::ImportColumn;
 use crate::forms::Form;
 use crate::import::ImportOptions;
-use crate::keyed_lines::{KeyedRoom, write_keyed};
-use crate::lines::{CsvLine, count_before, line_of, rows_of};
+use crate::keyed_lines::{KeyedRoom, put_keyed};
+use crate::lines::{CsvLine, LineCount, count_before, field_at, line_of, rows_of};
 use crate::maps::named_by;
 use crate::reading::{LinesRead, heading_fault, take_line};
 use crate::refused::RefusedRows;
-use crate::watch::{Watch, show_count};
-use csv::{ByteRecord, ByteRecordsIntoIter};
+use csv::ByteRecord;
 use std::alloc::{AllocError, Global};
+
+/// After how many bytes it is shown again how many are read.
+const STRIDE: usize = 1 << 16;
+
+/// Shows to a person who waits how many bytes are read. No contract rests on it.
+pub trait Watch {
+    /// Shows how many of all bytes are read.
+    fn show_done(&self, _done: usize, _all: usize) {}
+}
+
+/// Shows how many bytes of a text are counted, now and then. The answer is how many were when it was shown last.
+fn show_count<W: Watch>(watch: &W, count: &LineCount, text: &[u8], shown: usize) -> usize {
+    if count.bytes().saturating_sub(shown) < STRIDE {
+        return shown;
+    }
+    watch.show_done(count.bytes(), text.len());
+    count.bytes()
+}
 
 /// What is known of the lines below a heading.
 #[derive(Drop)]
@@ -58,8 +74,52 @@ impl SheetRead {
     }
 }
 
-/// A line below a heading. If the flag is set, it is filled from the fields of the line above it, and takes their place. Error: an
-/// allocation failed.
+/// Whether a field of the heading is the name of a column that is filled.
+fn is_filled_column(heading: &[u8]) -> bool
+    ensures { result ≡ is_filled_column heading.now }
+{
+    is_named(ImportColumn::Group, heading)
+        || is_named(ImportColumn::Rate, heading)
+        || is_named(ImportColumn::Receiver, heading)
+}
+
+/// The field below a field of the heading; the one above it if it is empty and its column is filled.
+fn filled_below<'a>(heading: &[u8], above: &'a [u8], field: &'a [u8]) -> &'a [u8]
+    ensures { result.now ≡ filled_below heading.now above.now field.now }
+{
+    if is_filled_column(heading) && field.is_empty() {
+        above
+    } else {
+        field
+    }
+}
+
+/// A line below a heading, filled from the line above it, as merged cells of a spreadsheet are meant.
+fn filled_line(
+    alloc: Global,
+    heading: &ByteRecord,
+    above: &ByteRecord,
+    line: &CsvLine,
+) -> Result<CsvLine, AllocError>
+    ensures { IfOk result (λ filled. IsFilledLine (fields_of heading.now) (fields_of above.now) line.now filled) }
+{
+    let mut fields = ByteRecord::new(alloc);
+    for place in 0..line.len() {
+        let field = filled_below(
+            field_at(heading, place),
+            field_at(above, place),
+            line.field(place),
+        );
+        fields.push_field(field)?;
+    }
+    Ok(CsvLine {
+        number: line.number,
+        separator: line.separator,
+        fields,
+    })
+}
+
+/// A line below a heading. If the flag is set, it is filled from the fields of the line above it, and takes their place.
 fn filled_if(
     alloc: Global,
     fills: bool,
@@ -67,7 +127,8 @@ fn filled_if(
     above: &mut ByteRecord,
     line: CsvLine,
 ) -> Result<CsvLine, AllocError>
-    ensures { IfOk result (λ filled. IsFilledIf fills (fields_of heading.now.fields) (fields_of above.old) line (fields_of above.new) filled) }
+    ensures { IfOk result (λ filled. IsFilledIf fills (fields_of heading.now.fields) (fields_of above.old) line
+        (fields_of above.new) filled) }
 {
     if !fills {
         return Ok(line);
@@ -95,12 +156,12 @@ fn take_keyed(
         take_line(alloc, heading, read, line);
         return Ok(());
     }
-    write_keyed(&mut room.key, &mut room.line, heading, line)?;
+    put_keyed(room, heading, line)?;
     take_line(alloc, heading, read, &room.line);
     Ok(())
 }
 
-/// Takes one more line below a heading, filled and with the key of its source if the options say so. Error: an allocation failed.
+/// Takes one more line below a heading, filled and with the key of its source if the options say so.
 fn take_below(
     alloc: Global,
     options: ImportOptions,
@@ -129,7 +190,7 @@ fn take_below(
     Ok(())
 }
 
-/// Takes the heading, which gets its names by texts HEADING=COLUMN. Error: an allocation failed.
+/// Takes the heading, which gets its names by texts HEADING=COLUMN.
 fn take_heading(
     alloc: Global,
     maps: &[&str],
@@ -137,7 +198,8 @@ fn take_heading(
     line: CsvLine,
 ) -> Result<Heading, AllocError>
     ensures named { IfOk result (λ heading. IsNamedBy (given_texts maps.now) line heading.line) }
-    ensures read { IfOk result (λ heading. (options : ImportOptions) → ReadsNothing read.old → ReadsBelow options heading.line read.new []) }
+    ensures read { IfOk result (λ heading. (options : ImportOptions) → ReadsNothing read.old
+        → ReadsBelow options heading.line read.new []) }
 {
     // without such texts the heading is as it is written
     read.refused.note_titles(maps.is_empty(), &line)?;
@@ -148,7 +210,7 @@ fn take_heading(
     Ok(Heading::of(named))
 }
 
-/// Takes one more line, unless its fields are all empty. The first one is the heading. Error: an allocation failed.
+/// Takes one more line, unless its fields are all empty. The first one is the heading.
 fn take_row(
     alloc: Global,
     maps: &[&str],
@@ -173,35 +235,6 @@ fn take_row(
     }
 }
 
-/// Takes the lines of all rows of a text of this form. Error: an allocation failed.
-fn read_rows<W: Watch>(
-    alloc: Global,
-    maps: &[&str],
-    options: ImportOptions,
-    text: &[u8],
-    form: Form<'_>,
-    watch: &W,
-    rows: &mut ByteRecordsIntoIter<&[u8]>,
-    read: &mut SheetRead,
-) -> Result<(), AllocError>
-    requires separator { form.separator ≡ separator_in (given_texts maps.now) text.now }
-    requires text { form.text.now ≡ from_heading (given_texts maps.now) text.now }
-    requires before { IsUnread form.separator form.text.now (owned_rows_reader rows.old) }
-    requires left { 0 < owned_rows_left rows.old }
-    requires read { ReadsSheet options (given_texts maps.now) read.old [] }
-    ensures { OnOk result ((all : List CsvLine) × AreLines (given_texts maps.now) text.now all
-        × ReadsSheet options (given_texts maps.now) read.new all) }
-{
-    let mut count = count_before(text, form.text);
-    let mut shown = 0;
-    for row in rows {
-        let line = line_of(alloc, text, form, &mut count, row)?;
-        take_row(alloc, maps, options, read, line)?;
-        shown = show_count(watch, &count, text, shown);
-    }
-    Ok(())
-}
-
 /// Takes all lines of a text of this form from its heading on. Error: an allocation failed.
 pub fn read_lines<W: Watch>(
     alloc: Global,
@@ -218,9 +251,12 @@ pub fn read_lines<W: Watch>(
     ensures { OnOk result ((all : List CsvLine) × AreLines (given_texts maps.now) text.now all
         × ReadsSheet options (given_texts maps.now) read.new all) }
 {
-    let mut rows = rows_of(alloc, form);
-    let done = read_rows(alloc, maps, options, text, form, watch, &mut rows, read);
-    // One call, instead of a drop of each of its parts.
-    std::mem::drop(rows);
-    done
+    let mut count = count_before(text, form.text);
+    let mut shown = 0;
+    for row in rows_of(alloc, form) {
+        let line = line_of(alloc, text, form, &mut count, row)?;
+        take_row(alloc, maps, options, read, line)?;
+        shown = show_count(watch, &count, text, shown);
+    }
+    Ok(())
 }

@@ -1,7 +1,6 @@
 //! The equipment table that rows describe, as TOML.
 ghost use Rattle.std.specs.Prelude.{◌≡◌, ◌==◌, IfOk, OnOk, [], ◌∷◌, codes, filter, if◌then◌else◌, map, string_bytes};
 ghost use Rattle.std.specs.List.{slice_split};
-ghost use Rattle.std.specs.Option.{option_copied};
 ghost use Rattle.toml.specs.Data.{string};
 ghost use Rattle.toml.specs.View.{table_view, view};
 ghost use Rattle.a429_word.specs.Texts.{octal};
@@ -9,18 +8,53 @@ ghost use Rattle.a429_import.specs.ImportBuilding.{GainsTables, Puts, PutsFilter
 ghost use Rattle.a429_import.specs.declared.rows.ImportRow.{ImportRow};
 ghost use Rattle.a429_import.specs.KeptFields.{lines_kept};
 ghost use Rattle.a429_import.specs.PrintedTables.{GainsDocument, IsWithTables, PutsEmpty, alone, head_members};
-ghost use Rattle.a429_import.specs.ImportTables.{group_tree, is_stated, is_word, output_tree, part_tree, receiver_tree, rows_of_group, sdi_data, source_tree, words};
+ghost use Rattle.a429_import.specs.ImportTables.{group_tree, is_stated, is_word, number, output_tree, part_tree, receiver_tree, rows_of_group, sdi_data, source_tree, words};
 ghost use Rattle.a429_import.specs.Known.{Knows};
 ghost use Rattle.a429_import.specs.TableTexts.{AreSound, IsTableText, above_of, is_placed, piece_of, pieces, rows_before};
 
-use crate::building::{put, put_number, put_text};
 use crate::comments::{Comments, put_above, row_before};
 use crate::firsts::Part;
-use crate::kept::KeptTexts;
 use crate::known::Known;
 use crate::rows::ImportRow;
 use std::alloc::{AllocError, Global};
 use toml::{Table, Value};
+
+/// Puts a value at a key that comes before those of the table.
+fn insert(table: &mut Table, key: String, value: Value) -> Result<(), AllocError>
+    ensures { Puts result (table_view table.old) (table_view table.new) (string_bytes key) (view value) }
+{
+    match table.insert(key, value) {
+        Ok(_) => Ok(()),
+        Err(_) => Err(AllocError),
+    }
+}
+
+/// Puts a value at a key that comes before those of the table. The key is copied.
+fn put(alloc: Global, table: &mut Table, key: &str, value: Value) -> Result<(), AllocError>
+    ensures { Puts result (table_view table.old) (table_view table.new) key.now (view value) }
+{
+    match String::from_str(alloc, key) {
+        Ok(key) => insert(table, key, value),
+        Err(error) => {
+            // One call, instead of a drop of each of its parts.
+            std::mem::drop(value);
+            Err(error)
+        }
+    }
+}
+
+fn put_text(alloc: Global, table: &mut Table, key: &str, text: &str) -> Result<(), AllocError>
+    ensures { Puts result (table_view table.old) (table_view table.new) key.now (string text.now) }
+{
+    let value = Value::string(alloc, text)?;
+    put(alloc, table, key, value)
+}
+
+fn put_number(alloc: Global, table: &mut Table, key: &str, value: u32) -> Result<(), AllocError>
+    ensures { Puts result (table_view table.old) (table_view table.new) key.now (number value) }
+{
+    put(alloc, table, key, Value::Integer(i64::from(value)))
+}
 
 /// Adds a word, if it is not empty.
 fn push_word(alloc: Global, words: &mut Vec<Value>, word: &str) -> Result<(), AllocError>
@@ -44,7 +78,7 @@ fn words_of(alloc: Global, parts: &[&str]) -> Result<Vec<Value>, AllocError>
     Ok(values)
 }
 
-/// The parts of a text between spaces, which may be empty. Error: an allocation failed.
+/// The parts of a text between spaces, which may be empty.
 fn parts(alloc: Global, text: &str) -> Result<Vec<&str>, AllocError>
     ensures { IfOk result (λ parts. map (λ part. part.now) parts.items ≡ slice_split (λ b. b == 32) text.now) }
 {
@@ -71,7 +105,6 @@ fn put_filters(alloc: Global, table: &mut Table, text: &str) -> Result<(), Alloc
     put(alloc, table, "filters", Value::Array(words))
 }
 
-/// The table of the receiver of a row.
 #[tactic(auto, unfolding(crate::specs::ImportTables::receiver_tree))]
 fn receiver_table(alloc: Global, row: &ImportRow) -> Result<Value, AllocError>
     ensures { IfOk result (λ value. view value ≡ receiver_tree row.now) }
@@ -92,7 +125,6 @@ fn put_sdi(alloc: Global, table: &mut Table, row: &ImportRow) -> Result<(), Allo
     }
 }
 
-/// Puts the label of a source.
 fn put_label(alloc: Global, table: &mut Table, row: &ImportRow) -> Result<(), AllocError>
     ensures { Puts result (table_view table.old) (table_view table.new) (codes "label") (string (octal row.now.numbers.label)) }
 {
@@ -100,7 +132,6 @@ fn put_label(alloc: Global, table: &mut Table, row: &ImportRow) -> Result<(), Al
     put_text(alloc, table, "label", label.as_str())
 }
 
-/// The table of the source of a row.
 #[tactic(auto, unfolding(crate::specs::ImportTables::source_tree))]
 fn source_table(alloc: Global, row: &ImportRow) -> Result<Value, AllocError>
     ensures { IfOk result (λ value. view value ≡ source_tree row.now) }
@@ -123,7 +154,6 @@ fn put_hold(alloc: Global, table: &mut Table, hold: Option<u32>) -> Result<(), A
     }
 }
 
-/// The table of the output of a row.
 #[tactic(auto, unfolding(crate::specs::ImportTables::output_tree))]
 fn output_table(alloc: Global, row: &ImportRow) -> Result<Value, AllocError>
     ensures { IfOk result (λ value. view value ≡ output_tree row.now) }
@@ -166,7 +196,6 @@ fn output_tables(
     Ok(outputs)
 }
 
-/// The table of the group of a row.
 #[tactic(auto, unfolding(crate::specs::ImportTables::group_tree))]
 fn group_table(alloc: Global, rows: &[ImportRow], row: &ImportRow) -> Result<Value, AllocError>
     ensures { IfOk result (λ value. view value ≡ group_tree rows.now row.now) }
@@ -205,7 +234,7 @@ fn is_stated(part: Part, row: &ImportRow) -> bool
     }
 }
 
-/// A document with one table at a key. Error: an allocation failed.
+/// A document with one table at a key.
 fn table_alone(alloc: Global, key: &str, value: Value) -> Result<Table, AllocError>
     ensures { IfOk result (λ table. table_view table ≡ alone key.now (view value)) }
 {
@@ -216,7 +245,7 @@ fn table_alone(alloc: Global, key: &str, value: Value) -> Result<Table, AllocErr
     Ok(table)
 }
 
-/// Writes a document at the end of a text. Error: an allocation failed.
+/// Writes a document at the end of a text.
 fn put_document(alloc: Global, shown: &mut String, table: &Table) -> Result<(), AllocError>
     ensures { GainsDocument result (string_bytes shown.old) (string_bytes shown.new) (table_view table.now) }
 {
@@ -226,29 +255,8 @@ fn put_document(alloc: Global, shown: &mut String, table: &Table) -> Result<(), 
     }
 }
 
-/// Writes the table of the receiver, the source or the group at a place, below its comments. Error: an allocation failed.
+/// Writes the table of the receiver, the source or the group at a place, below its comments, if the row states one.
 fn put_table(
-    alloc: Global,
-    shown: &mut String,
-    kept: &KeptTexts,
-    named: NamedPart<'_>,
-    before: Option<&ImportRow>,
-    row: &ImportRow,
-) -> Result<(), AllocError>
-    ensures { OnOk result (IsWithTables (string_bytes shown.old) (string_bytes shown.new) named.entry.key.now
-        ((
-          above_of (lines_kept kept.now) named.entry.part (option_copied before.entry) row.now,
-          part_tree named.entry.part named.entry.rows.now row.now,
-        ) ∷ [])) }
-{
-    let value = part_table(alloc, named.part, named.rows, row)?;
-    let table = table_alone(alloc, named.key, value)?;
-    put_above(alloc, shown, kept, named.part, before, row)?;
-    put_document(alloc, shown, &table)
-}
-
-/// The same, if the row states a receiver, a source or a group.
-fn put_stated(
     alloc: Global,
     shown: &mut String,
     comments: Comments<'_>,
@@ -261,12 +269,14 @@ fn put_stated(
         (map (piece_of (lines_kept comments.entry.kept.now) (rows_before comments.entry.made_of) named.entry.part named.entry.rows.now)
         (filter (is_placed named.entry.part) ((place, row.now) ∷ [])))) }
 {
-    if is_stated(named.part, row) {
-        let before = row_before(comments.made_of, named.part, place);
-        put_table(alloc, shown, comments.kept, named, before, row)
-    } else {
-        Ok(())
+    if !is_stated(named.part, row) {
+        return Ok(());
     }
+    let before = row_before(comments.made_of, named.part, place);
+    let value = part_table(alloc, named.part, named.rows, row)?;
+    let table = table_alone(alloc, named.key, value)?;
+    put_above(alloc, shown, comments.kept, named.part, before, row)?;
+    put_document(alloc, shown, &table)
 }
 
 /// The receivers, the sources or the groups of rows, and their key in a table.
@@ -278,7 +288,6 @@ struct NamedPart<'a> {
 }
 
 /// Writes the tables of the receivers, the sources or the groups, in the order of their first rows, each below its comments.
-/// Error: an allocation failed.
 fn put_tables(
     alloc: Global,
     shown: &mut String,
@@ -298,19 +307,13 @@ fn put_tables(
         rows: &known.rows,
     };
     for place in 0..known.count(part) {
-        put_stated(
-            alloc,
-            shown,
-            comments,
-            named,
-            place,
-            known.first_row(part, place),
-        )?;
+        let row = known.first_row(part, place);
+        put_table(alloc, shown, comments, named, place, row)?;
     }
     Ok(())
 }
 
-/// Puts an array without tables at a key that comes before those of the table, if it has none. Error: an allocation failed.
+/// Puts an array without tables at a key that comes before those of the table, if it has none.
 fn put_empty(alloc: Global, table: &mut Table, key: &str, count: usize) -> Result<(), AllocError>
     ensures { PutsEmpty result (table_view table.old) (table_view table.new) key.now count }
 {
@@ -321,7 +324,7 @@ fn put_empty(alloc: Global, table: &mut Table, key: &str, count: usize) -> Resul
     }
 }
 
-/// The pairs above all tables: the arrays that have none, and the version. Error: an allocation failed.
+/// The pairs above all tables: the arrays that have none, and the version.
 fn head_table(alloc: Global, known: &Known) -> Result<Table, AllocError>
     requires { Knows known.now }
     ensures { IfOk result (λ table. table_view table ≡ head_members known.now.rows.items) }

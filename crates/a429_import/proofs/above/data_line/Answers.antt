@@ -1,7 +1,7 @@
 use Rattle.std.proofs.Common.{ap, ◌∷◌, ◌++◌, ◌∙◌, [], refl, ◌≡◌, map}
 use Rattle.csv.specs.Records.{fields_of}
 use Rattle.a429_import.specs.declared.lines.CsvLine.{CsvLine}
-use Rattle.a429_import.specs.ImportAbove.{is_data}
+use Rattle.a429_import.specs.FaultLines.{is_data}
 use Rattle.a429_import.proofs.FaultLines.{line_more, no_line}
 use Rattle.a429_import.proofs.ImportAbove.{line_read}
 use Rattle.a429_import.specs.ImportWords.{trimmed}
@@ -19,7 +19,7 @@ line_of-requires-clause-counted c = c.loop-row.invariant.read.counted
 pub loop-row-init : goal.loop-row-init
 loop-row-init c =
     let start = c.into_iter-row-iterator.ensures.into_iter_gives ∙ refl in
-    rw start (record { turns = c.requires.left; all = []; read = c.requires.before c.args.form.text.now c.count_before-count.result c.count_before-count.ensures; line = no_line (is_data (fields_of c.args.heading.now.line.fields)) })
+    rw start (record { turns = c.rows_of-row-items.ensures.left; all = []; read = c.rows_of-row-items.ensures.before c.args.form.text.now c.count_before-count.result c.count_before-count.ensures; line = no_line (is_data (fields_of c.args.heading.now.line.fields)) })
 
 pub loop-row-preserved : goal.loop-row-preserved
 loop-row-preserved c =
@@ -30,7 +30,7 @@ loop-row-preserved c =
     record {
       turns = s.2;
       all = inv.all ++ line ∷ [];
-      read = read_more c.args.form.separator c.args.form.text.now c.args.form.text.now c.loop-row.row-iterator.now.rdr c.next.new.self.now.rdr c.loop-row.count c.line_of.new.count inv.all line (fields_of is.0) inv.read s.0 s.1 c.in_ok-line.ensures.separator is.2
+      read = read_more c.args.form.separator c.args.form.text.now c.args.form.text.now c.loop-row.row-iterator.rdr c.next.new.self.rdr c.loop-row.count c.line_of.new.count inv.all line (fields_of is.0) inv.read s.0 s.1 c.in_ok-line.ensures.separator is.2
           (record { number = c.in_ok-line.ensures.number; counted = c.in_ok-line.ensures.counted; row = c.in_ok-line.ensures.row; between = c.in_ok-line.ensures.between });
       line = line_more (is_data (fields_of c.args.heading.now.line.fields)) inv.all line c.loop-row.found c.found_at-found.result inv.line c.found_at-found.ensures;
     }
@@ -39,4 +39,4 @@ pub returns : goal.returns
 returns c =
     let inv = c.loop-row.invariant in
     let end = rw c.in-None.is at ((c.next.ensures.steps inv.turns inv.read.plain).0 inv.read.ready) in
-    inv.line ∙ line_read c.args.form.separator (fields_of c.args.heading.now.line.fields) c.args.form.text.now c.loop-row.row-iterator.now.rdr c.next.new.self.now.rdr c.loop-row.count inv.all inv.read end
+    inv.line ∙ line_read c.args.form.separator (fields_of c.args.heading.now.line.fields) c.args.form.text.now c.loop-row.row-iterator.rdr c.next.new.self.rdr c.loop-row.count inv.all inv.read end

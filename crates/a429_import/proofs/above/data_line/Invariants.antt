@@ -2,7 +2,7 @@ use Rattle.std.proofs.Common.{◌≡◌, ◌<◌, List}
 use Rattle.csv.specs.Records.{fields_of}
 use Rattle.a429_import.specs.declared.lines.CsvLine.{CsvLine}
 use Rattle.a429_import.specs.ImportReading.{HasRead}
-use Rattle.a429_import.specs.ImportAbove.{is_data}
+use Rattle.a429_import.specs.FaultLines.{is_data}
 use Rattle.a429_import.proofs.FaultLines.{line_number}
 use Rattle.a429_import.proofs.above.data_line.Given as goal
 

@@ -1,6 +1,6 @@
 use Rattle.std.proofs.Common.{◌≡◌, ◌∙◌, ap, length, sym, true, List, ℕ}
 use Rattle.std.specs.Prelude.{◌==◌}
-use Rattle.a429_import.specs.ImportAbove.{first_row}
+use Rattle.a429_import.specs.FaultLines.{first_row}
 use Rattle.a429_import.specs.ImportMaps.{given_texts, names_by}
 use Rattle.a429_import.specs.ImportQuotes.{text_before}
 use Rattle.a429_import.specs.Imports.{separated}

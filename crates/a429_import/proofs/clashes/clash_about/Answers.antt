@@ -1,7 +1,7 @@
 use Rattle.std.proofs.Common.{◌∙◌, ap, sym}
 use Rattle.std.specs.Prelude.{slice_index_or}
 use Rattle.a429_import.specs.ImportClashes.{numbered}
-use Rattle.a429_import.specs.ImportTexts.{row_view}
+use Rattle.a429_import.specs.ImportRows.{row_view}
 use Rattle.a429_import.specs.Known.{named_of, numbers_of, place_of}
 use Rattle.a429_import.proofs.Knowing.{knows_part, place_within}
 use Rattle.a429_import.proofs.KnownClashes.{decided, undecided}

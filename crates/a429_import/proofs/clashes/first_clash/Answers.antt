@@ -1,6 +1,6 @@
 use Rattle.std.proofs.Common.{◌∙◌, None, Some, ap, sym}
 use Rattle.a429_import.specs.ImportClashes.{earlier_clash}
-use Rattle.a429_import.specs.ImportTexts.{row_view}
+use Rattle.a429_import.specs.ImportRows.{row_view}
 use Rattle.a429_import.proofs.ImportClashes.{first_of_three}
 use Rattle.a429_import.proofs.clashes.first_clash.Goals as goal
 

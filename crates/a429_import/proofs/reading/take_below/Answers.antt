@@ -2,9 +2,8 @@ use Rattle.std.proofs.Common.{◌≡◌, ◌∙◌, List, ℕ, None, Ok, Option,
 use Rattle.csv.specs.Records.{fields_of}
 use Rattle.a429_import.specs.declared.fault.ImportColumn.{ImportColumn}
 use Rattle.a429_import.specs.declared.rows.ImportRow.{ImportRow}
-use Rattle.a429_import.specs.ImportRows.{◌>>=◌, CsvFault, next_row, with_row}
+use Rattle.a429_import.specs.ImportRows.{◌>>=◌, CsvFault, next_row, row_view, with_row}
 use Rattle.a429_import.specs.ImportReading.{IsAdded}
-use Rattle.a429_import.specs.ImportTexts.{row_view}
 use Rattle.a429_import.proofs.ImportClashes.{agree_with, next_agrees}
 use Rattle.a429_import.proofs.reading.take_below.Goals as goal
 

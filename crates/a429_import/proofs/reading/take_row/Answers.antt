@@ -1,8 +1,7 @@
 use Rattle.std.proofs.Common.{◌∙◌, ◌∷◌, ◌++◌, [], Bool, List, Ok, ap, cond, sym}
 use Rattle.a429_import.specs.declared.rows.ImportRow.{ImportRow}
 use Rattle.a429_import.specs.ImportLimits.{too_many}
-use Rattle.a429_import.specs.ImportRows.{limited, with_row}
-use Rattle.a429_import.specs.ImportTexts.{row_view}
+use Rattle.a429_import.specs.ImportRows.{limited, row_view, with_row}
 use Rattle.a429_import.proofs.ImportReading.{added}
 use Rattle.a429_import.proofs.reading.take_row.Goals as goal
 

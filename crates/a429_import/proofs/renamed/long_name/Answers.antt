@@ -1,8 +1,7 @@
 use Rattle.std.proofs.Common.{◌≡◌, ◌∙◌, ◌++◌, List, ℕ, ap, arith, false, refl, sym, true}
 use Rattle.a429_import.specs.MadeNames.{numbered_name}
-use Rattle.a429_import.specs.Renamed.{is_taken, long_name}
+use Rattle.a429_import.specs.Renamed.{is_taken, long_name, texts_of}
 use Rattle.a429_import.proofs.ChosenNames.{free_end, free_here, free_step, not_false, not_true}
-use Rattle.a429_import.specs.RenamedReading.{texts_of}
 use Rattle.a429_import.proofs.renamed.long_name.Goals as goal
 
 pub loop-number-init : goal.loop-number-init

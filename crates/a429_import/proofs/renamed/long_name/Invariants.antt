@@ -1,6 +1,5 @@
 use Rattle.std.proofs.Common.{◌≡◌, ◌-◌, ◌++◌}
-use Rattle.a429_import.specs.Renamed.{free_name, long_name}
-use Rattle.a429_import.specs.RenamedReading.{texts_of}
+use Rattle.a429_import.specs.Renamed.{free_name, long_name, texts_of}
 use Rattle.a429_import.proofs.renamed.long_name.Given as goal
 
 abbrev pub invariant-loop-number : goal.invariant-loop-number

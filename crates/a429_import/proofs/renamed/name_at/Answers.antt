@@ -3,7 +3,7 @@ use Rattle.std.specs.Prelude.{unwrap_or}
 use Rattle.std.specs.Str.{is_utf8}
 use Rattle.std.proofs.lemmas.List.{get_or_past, length-map}
 use Rattle.a429_import.specs.ImportFields.{field_in, utf8_in}
-use Rattle.a429_import.specs.RenamedReading.{texts_of}
+use Rattle.a429_import.specs.Renamed.{texts_of}
 use Rattle.a429_import.proofs.renamed.name_at.Goals as goal
 
 no_text : (text : List ℕ) → text ≡ [] → [] ≡ unwrap_or (utf8_in text) []

@@ -6,8 +6,7 @@ use Rattle.a429_import.specs.declared.rows.ImportRow.{ImportRow}
 use Rattle.a429_import.specs.ImportFields.{field_in, utf8_in}
 use Rattle.a429_import.specs.ImportTables.{firsts, name_in}
 use Rattle.a429_import.specs.Known.{named_of, place_of}
-use Rattle.a429_import.specs.Renamed.{name_for}
-use Rattle.a429_import.specs.RenamedReading.{texts_of}
+use Rattle.a429_import.specs.Renamed.{name_for, texts_of}
 use Rattle.a429_import.proofs.Knowing.{knows_part}
 use Rattle.a429_import.proofs.renamed.name_for.Goals as goal
 

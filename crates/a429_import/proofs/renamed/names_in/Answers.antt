@@ -2,8 +2,7 @@ use Rattle.std.proofs.Common.{◌∙◌, ◌++◌, ◌∷◌, [], List, ℕ, ap,
 use Rattle.std.proofs.lemmas.List.{map-append}
 use Rattle.a429_import.specs.declared.rows.ImportRow.{ImportRow}
 use Rattle.a429_import.specs.ImportTables.{firsts}
-use Rattle.a429_import.specs.Renamed.{chosen, names_after, names_in}
-use Rattle.a429_import.specs.RenamedReading.{texts_of}
+use Rattle.a429_import.specs.Renamed.{chosen, names_after, names_in, texts_of}
 use Rattle.a429_import.proofs.ChosenNames.{names_more, no_more}
 use Rattle.a429_import.proofs.renamed.names_in.Goals as goal
 

@@ -1,7 +1,6 @@
 use Rattle.std.proofs.Common.{◌≡◌, [], drop}
 use Rattle.a429_import.specs.ImportTables.{firsts}
-use Rattle.a429_import.specs.Renamed.{names_after}
-use Rattle.a429_import.specs.RenamedReading.{texts_of}
+use Rattle.a429_import.specs.Renamed.{names_after, texts_of}
 use Rattle.a429_import.proofs.renamed.names_in.Given as goal
 
 abbrev pub invariant-loop-place : goal.invariant-loop-place

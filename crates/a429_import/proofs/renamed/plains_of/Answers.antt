@@ -2,8 +2,7 @@ use Rattle.std.proofs.Common.{◌∙◌, ◌++◌, ◌∷◌, [], List, ap, arit
 use Rattle.std.proofs.lemmas.List.{append-nil, map-append}
 use Rattle.a429_import.specs.declared.rows.ImportRow.{ImportRow}
 use Rattle.a429_import.specs.ImportTables.{firsts}
-use Rattle.a429_import.specs.Renamed.{plain_of, plains_of}
-use Rattle.a429_import.specs.RenamedReading.{texts_of}
+use Rattle.a429_import.specs.Renamed.{plain_of, plains_of, texts_of}
 use Rattle.a429_import.proofs.ChosenNames.{mapped_more, no_more}
 use Rattle.a429_import.proofs.renamed.plains_of.Goals as goal
 

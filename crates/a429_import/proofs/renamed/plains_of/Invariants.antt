@@ -1,7 +1,6 @@
 use Rattle.std.proofs.Common.{◌≡◌, ◌++◌, drop, map}
 use Rattle.a429_import.specs.ImportTables.{firsts}
-use Rattle.a429_import.specs.Renamed.{plain_of, plains_of}
-use Rattle.a429_import.specs.RenamedReading.{texts_of}
+use Rattle.a429_import.specs.Renamed.{plain_of, plains_of, texts_of}
 use Rattle.a429_import.proofs.renamed.plains_of.Given as goal
 
 abbrev pub invariant-loop-place : goal.invariant-loop-place

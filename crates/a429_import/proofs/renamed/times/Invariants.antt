@@ -1,7 +1,7 @@
 use Rattle.std.proofs.Common.{◌≡◌, take}
 use Rattle.std.specs.List.{count_by}
 use Rattle.std.specs.Str.{bytes_eq}
-use Rattle.a429_import.specs.RenamedReading.{texts_of}
+use Rattle.a429_import.specs.Renamed.{texts_of}
 use Rattle.a429_import.proofs.renamed.times.Given as goal
 
 abbrev pub invariant-loop-other : goal.invariant-loop-other

@@ -21,7 +21,7 @@ pub loop-place-preserved : goal.loop-place-preserved
 loop-place-preserved c =
     let part = c.args.part in
     let rows : List ImportRow = c.args.known.now.rows.items in
-    let row : ImportRow = c.first_row.result.now in
+    let row : ImportRow = c.first_row-row.result.now in
     let place : ℕ = c.loop-place.place in
     let (done, has, left) = c.loop-place.invariant in
     let kept : List ℕ → List ℕ = lines_kept c.args.comments.kept.now in
@@ -29,9 +29,9 @@ loop-place-preserved c =
     let piece : ℕ × ImportRow → List ℕ × Data = piece_of kept before part rows in
     let more : List (List ℕ × Data) = map piece (filter (is_placed part) ((place, row) ∷ [])) in (
       done ++ more,
-      with_more c.args.key.now done more (string_bytes c.args.shown.now) (string_bytes c.loop-place.shown) (string_bytes c.put_stated.new.shown) has
-          (subst (λ (rs : List ImportRow). IsWithTables (string_bytes c.loop-place.shown) (string_bytes c.put_stated.new.shown) c.args.key.now (map (piece_of kept before part rs) (filter (is_placed part) ((place, row) ∷ [])))) c.deref.ensures.value c.in_ok-put_stated.ensures),
-      picked_more (is_placed part) piece (enumerate_from 0 (firsts part rows)) place (place, row) done (done ++ more) (pieces kept before part rows) (numbered_at (firsts part rows) place row c.first_row.ensures) left refl,
+      with_more c.args.key.now done more (string_bytes c.args.shown.now) (string_bytes c.loop-place.shown) (string_bytes c.put_table.new.shown) has
+          (subst (λ (rs : List ImportRow). IsWithTables (string_bytes c.loop-place.shown) (string_bytes c.put_table.new.shown) c.args.key.now (map (piece_of kept before part rs) (filter (is_placed part) ((place, row) ∷ [])))) c.deref.ensures.value c.in_ok-put_table.ensures),
+      picked_more (is_placed part) piece (enumerate_from 0 (firsts part rows)) place (place, row) done (done ++ more) (pieces kept before part rows) (numbered_at (firsts part rows) place row c.first_row-row.ensures) left refl,
     )
 
 pub returns : goal.returns

@@ -1,7 +1,7 @@
 use Rattle.std.proofs.Common.{◌∙◌, ap, sym}
 use Rattle.std.specs.Prelude.{is_some}
 use Rattle.a429_import.specs.declared.firsts.Part.TheVariants.{Sources}
-use Rattle.a429_import.specs.ImportTexts.{row_view}
+use Rattle.a429_import.specs.ImportRows.{row_view}
 use Rattle.a429_import.proofs.Knowing.{found_is_known}
 use Rattle.a429_import.proofs.known.Known.has_all_of.Goals as goal
 

@@ -4,7 +4,7 @@ use Rattle.std.specs.List.{count_by}
 use Rattle.std.proofs.lemmas.Option.{get_or_from_slice_get, slice_get_read}
 use Rattle.a429_import.specs.declared.firsts.Part.TheVariants.{Groups}
 use Rattle.a429_import.specs.ImportTables.{same_name}
-use Rattle.a429_import.specs.ImportTexts.{row_view}
+use Rattle.a429_import.specs.ImportRows.{row_view}
 use Rattle.a429_import.proofs.KnownClashes.{no_outputs, outputs_known}
 use Rattle.a429_import.proofs.KnownRows.{group_within}
 use Rattle.a429_import.proofs.known.Known.has_too_many_outputs.Goals as goal

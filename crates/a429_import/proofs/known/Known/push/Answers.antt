@@ -2,7 +2,7 @@ use Rattle.std.proofs.Common.{◌≡◌, ◌∙◌, ◌++◌, ◌∷◌, [], Lis
 use Rattle.a429_import.specs.declared.firsts.Part.TheVariants.{Receivers, Sources, Groups}
 use Rattle.a429_import.specs.declared.rows.ImportRow.{ImportRow}
 use Rattle.a429_import.specs.ImportTables.{firsts}
-use Rattle.a429_import.specs.ImportTexts.{row_view}
+use Rattle.a429_import.specs.ImportRows.{row_view}
 use Rattle.a429_import.specs.Known.{KnowsFirsts, outputs_of}
 use Rattle.a429_import.proofs.KnownRows.{outputs_more}
 use Rattle.a429_import.proofs.known.Known.push.Goals as goal

@@ -1,6 +1,6 @@
 use Rattle.std.proofs.Common.{◌≡◌, ◌∙◌, ◌+◌, ◌<◌, ℕ, List, ap, arith, drop, length, refl, sym, true, false}
 use Rattle.csv.specs.declared.parser.State.TheVariants as st
-use Rattle.a429_import.specs.declared.steps.Part.TheVariants as part
+use Rattle.a429_import.specs.declared.lines.Part.TheVariants as part
 use Rattle.a429_import.specs.Imports.{separated}
 use Rattle.a429_import.specs.ImportSteps.{state_of}
 use Rattle.a429_import.specs.LineCounts.{begins_with_end, row_end}

@@ -2,7 +2,7 @@ use Rattle.std.proofs.Common.{◌≡◌, ◌∙◌, ◌≤◌, ℕ, List, ap, ap
 use Rattle.csv.specs.Machine.{is_end, step}
 use Rattle.csv.specs.declared.parser.Config.{Config}
 use Rattle.csv.specs.declared.parser.State.{State}
-use Rattle.a429_import.specs.declared.steps.Part.TheVariants as part
+use Rattle.a429_import.specs.declared.lines.Part.TheVariants as part
 use Rattle.a429_import.specs.Imports.{separated}
 use Rattle.a429_import.specs.ImportSteps.{ends_row, state_of}
 use Rattle.a429_import.specs.LineCounts.{row_end}
