@@ -28,7 +28,7 @@ const SOURCE: &str = "source parameter name signal";
 
 /// The columns in the order in which they take fields, those with the plainest words first, and the words that people write in
 /// a heading for each, the likeliest first.
-const COLUMNS: [(ImportColumn, &str); 8] = [
+static COLUMNS: [(ImportColumn, &str); 8] = [
     (ImportColumn::MinUs, MINIMUM),
     (ImportColumn::MaxUs, MAXIMUM),
     (ImportColumn::Label, "label lbl octal"),
@@ -266,14 +266,17 @@ fn add_guesses(
     file: FileRows,
     by_words: bool,
 ) -> Result<(), AllocError> {
-    for (column, words) in COLUMNS {
-        let place = match is_missing(file, guesses, column) {
-            true if by_words => likeliest(file, guesses, column, words),
-            true => nearest(alloc, file, guesses, column),
-            false => None,
+    for (column, words) in &COLUMNS {
+        if !is_missing(file, guesses, *column) {
+            continue;
+        }
+        let place = if by_words {
+            likeliest(file, guesses, *column, *words)
+        } else {
+            nearest(alloc, file, guesses, *column)
         };
         if let Some(place) = place {
-            guesses.push(Guess::of(file, column, place))?;
+            guesses.push(Guess::of(file, *column, place))?;
         }
     }
     Ok(())
