@@ -45,8 +45,7 @@ impl<'a> FileRows<'a> {
         row_numbers(self.heading, row).ok()
     }
 
-    /// Whether two rows have the same field in a column, and the same label and SDI. If SDIs may overlap, it suffices that one
-    /// of them is any.
+    /// Whether two rows have the same field in a column, and the same label and SDI. If SDIs may overlap, one of them can be any.
     pub fn are_twins(
         self,
         a: &'a CsvLine,
@@ -93,10 +92,8 @@ impl<'a> FileRows<'a> {
 
     /// The row of an output, by the name of its group and its number in the group, from 0. `None` if there is none.
     pub fn output_row(self, group: &[u8], number: usize) -> Option<&'a CsvLine> {
-        let mut outputs = self
-            .rows
-            .iter()
-            .filter(|row| self.field(row, ImportColumn::Group) == group);
+        let rows = self.rows.iter();
+        let mut outputs = rows.filter(|row| self.field(row, ImportColumn::Group) == group);
         outputs.nth(number)
     }
 }

@@ -190,20 +190,26 @@ fn say_channel(channel: &str, name: &str, bus: Option<&str>, names: &[String], h
     let Some(quote) = quotes_of(channel) else {
         return hint.say("FROM=NAME");
     };
-    let shown = short_text(name);
-    let near = nearest_of(hint.alloc, shown.as_str(), names).name();
     hint.say_two("{}{}=", quote, channel);
-    hint.say(match (near, names) {
-        (Some(near), _) => near,
-        (None, [only]) => only.as_str(),
-        _ => "NAME",
-    });
+    say_likely(name, names, hint);
     if let Some(bus) = bus {
         hint.say_one(".{}", bus);
     }
     hint.say(quote);
     hint.say_two("; to pass over its words, --ignore {}{}", quote, channel);
     hint.say(quote);
+}
+
+/// Says the name that a channel may have: the nearest of these, or the only one.
+fn say_likely(name: &str, names: &[String], hint: &HintText) {
+    let shown = short_text(name);
+    if let Some(near) = nearest_of(hint.alloc, shown.as_str(), names).name() {
+        return hint.say(near);
+    }
+    match names.first() {
+        Some(only) if names.len() == 1 => hint.say(only.as_str()),
+        _ => hint.say("NAME"),
+    }
 }
 
 /// What a shell needs around a text: nothing, or double quotes. `None` if these are not enough, or the text is long.

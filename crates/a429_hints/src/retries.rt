@@ -43,9 +43,8 @@ fn is_merged<'a>(
 
 /// Whether a row has an empty field in a column that `--fill` fills, below one that is not empty.
 fn has_merged<'a>(file: FileRows<'a>, guesses: &[Guess], row: &'a CsvLine) -> bool {
-    FILLED
-        .iter()
-        .any(|column| is_merged(file, guesses, row, *column))
+    let mut columns = FILLED.iter();
+    columns.any(|column| is_merged(file, guesses, row, *column))
 }
 
 /// Whether one of these rows has such a field, and none was filled.
