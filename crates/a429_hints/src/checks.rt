@@ -2,6 +2,7 @@
 
 use crate::files::{REFUSED_OUTPUT, other_file};
 use crate::hint::HintText;
+use crate::lists::text_of;
 use crate::reasons::meaning;
 use a429_arguments::options::OptionName;
 use a429_arguments::requests::Asked;
@@ -18,7 +19,7 @@ pub fn tell_objection(text: &[u8], objection: &Objection, hint: &HintText) {
         return hint.say_line(advice);
     }
     let rest = lines_from(text, objection.line);
-    let found = text_of_line(rest);
+    let found = text_of(first_line(rest));
     let expected = objection.expected.as_str();
     match objection.reason {
         "form" => tell_form(rest, found, expected, hint),
@@ -54,11 +55,6 @@ pub fn tell_plan(
     hint.say_line(
         "`a429 plan` with --keep makes a plan in which as many outputs of this text stay as can",
     );
-}
-
-/// The first line of a text; the empty text if it is not UTF-8.
-fn text_of_line(text: &[u8]) -> &str {
-    str::from_utf8(first_line(text)).unwrap_or("")
 }
 
 /// Says the form that is expected of a line, the first of the rest of a text. It is empty after the last line.

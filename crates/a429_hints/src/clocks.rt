@@ -75,59 +75,34 @@ struct Sends {
     foreign: u64,
 }
 
-const NO_SENDS: Sends = Sends {
-    sent: 0,
-    known: 0,
-    wrong: 0,
-    soon: 0,
-    late: 0,
-    outputs: 0,
-    silent: 0,
-    foreign: 0,
-};
+/// The number of a row of comma-separated values in a column. `None` if it has none.
+fn number_in(heading: &str, row: &str, column: &str) -> Option<u64> {
+    let mut fields = heading.split(',').zip(row.split(','));
+    let (_, field) = fields.find(|(name, _)| *name == column)?;
+    field.parse::<u64>().ok()
+}
 
-/// The sends of a row. That of words of no output has their number alone.
-fn sends_of(heading: &str, row: &str) -> Sends {
-    let mut sends = NO_SENDS;
-    for (column, field) in heading.split(',').zip(row.split(',')) {
-        let Ok(number) = field.parse::<u64>() else {
-            if column == "known" {
-                return Sends {
-                    foreign: sends.sent,
-                    ..NO_SENDS
-                };
-            }
-            continue;
-        };
-        match column {
-            "sent" => {
-                sends.sent = number;
-                sends.outputs = number.min(1);
-            }
-            "known" => sends.known = number,
-            "wrong" | "stale" => sends.wrong = sends.wrong.saturating_add(number),
-            "soon" => sends.soon = number,
-            "late" => sends.late = number,
-            "silent" => sends.silent = number,
-            _ => {}
-        }
-    }
-    sends
+/// A sum with the number of a row in a column, if it has one.
+fn with_number(sum: u64, heading: &str, row: &str, column: &str) -> u64 {
+    sum.saturating_add(number_in(heading, row, column).unwrap_or(0))
 }
 
 impl Sends {
-    /// These and others.
-    fn and(self, other: Sends) -> Sends {
-        Sends {
-            sent: self.sent.saturating_add(other.sent),
-            known: self.known.saturating_add(other.known),
-            wrong: self.wrong.saturating_add(other.wrong),
-            soon: self.soon.saturating_add(other.soon),
-            late: self.late.saturating_add(other.late),
-            outputs: self.outputs.saturating_add(other.outputs),
-            silent: self.silent.saturating_add(other.silent),
-            foreign: self.foreign.saturating_add(other.foreign),
-        }
+    /// Adds those of a row. That of words of no output has their number alone.
+    fn add(&mut self, heading: &str, row: &str) {
+        let Some(known) = number_in(heading, row, "known") else {
+            self.foreign = with_number(self.foreign, heading, row, "sent");
+            return;
+        };
+        let sent = number_in(heading, row, "sent").unwrap_or(0);
+        self.sent = self.sent.saturating_add(sent);
+        self.outputs = self.outputs.saturating_add(sent.min(1));
+        self.known = self.known.saturating_add(known);
+        self.wrong = with_number(self.wrong, heading, row, "wrong");
+        self.wrong = with_number(self.wrong, heading, row, "stale");
+        self.soon = with_number(self.soon, heading, row, "soon");
+        self.late = with_number(self.late, heading, row, "late");
+        self.silent = with_number(self.silent, heading, row, "silent");
     }
 
     /// Whether all outputs that send fall silent.
@@ -156,11 +131,20 @@ impl Sends {
 
 /// The sends of all rows of comma-separated values.
 fn all_sends(text: &str) -> Sends {
-    let mut all = NO_SENDS;
+    let mut all = Sends {
+        sent: 0,
+        known: 0,
+        wrong: 0,
+        soon: 0,
+        late: 0,
+        outputs: 0,
+        silent: 0,
+        foreign: 0,
+    };
     let mut lines = text.split('\n');
     let heading = lines.next().unwrap_or("");
     for row in lines {
-        all = all.and(sends_of(heading, row));
+        all.add(heading, row);
     }
     all
 }

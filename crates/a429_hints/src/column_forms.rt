@@ -1,34 +1,66 @@
 //! What must be in a column of rows, and what to write instead of what is often there.
 
 use crate::guesses::is_octal;
+use crate::lists::text_under;
 use a429_import::{ImportColumn, IntervalForm, IntervalUnit};
 
-/// What must be in a column of intervals.
-pub fn form_of_interval(column: ImportColumn, form: IntervalForm) -> &'static str {
+/// The columns that have names.
+pub const OF_NAMES: [ImportColumn; 3] = [
+    ImportColumn::Group,
+    ImportColumn::Source,
+    ImportColumn::Receiver,
+];
+
+/// What must be in a column with this name in the heading.
+static FORMS: [&str; 14] = [
+    "name: 1 to 16 characters of `a` to `z`, `0` to `9`, `-` and `_`",
+    "rate: HS (100000), LS (12500), or 12000 to 14500 bit/s",
+    "label: three octal digits, 000 to 377",
+    "sdi: 0 to 3, or `any`",
+    "min_us: a whole number of microseconds, from 1 to the maximum",
+    "max_us: a whole number of microseconds, from the minimum to 30000000",
+    "min_ms: milliseconds from 0.001 to the maximum, with at most three decimals",
+    "max_ms: milliseconds from the minimum to 30000, with at most three decimals",
+    "hz: a rate in Hz above 0, with at most three decimals",
+    "interval_us: both limits in microseconds, the smaller first, such as 50000-100000",
+    "interval_ms: both limits in milliseconds, the smaller first, such as 50-100 or 50/100",
+    "rate_hz: both rates in Hz, the smaller first and above 0, such as 10-20",
+    "hold: a whole number from 1 to 1000000, or nothing for no limit",
+    "filters: LLL/MMM, label and mask, each three octal digits from 000 to 377",
+];
+
+/// The name in the heading of a column that states intervals so.
+pub fn name_of(column: ImportColumn, form: IntervalForm) -> &'static str {
+    let is_min = column == ImportColumn::MinUs;
     match (form.unit, form.has_both) {
-        (IntervalUnit::Micros, true) => {
-            "both limits in microseconds, the smaller first, such as 50000-100000"
-        }
-        (IntervalUnit::Millis, true) => {
-            "both limits in milliseconds, the smaller first, such as 50-100 or 50/100"
-        }
-        (IntervalUnit::Hertz, true) => {
-            "both rates in Hz, the smaller first and above 0, such as 10-20"
-        }
-        (IntervalUnit::Hertz, false) => "a rate in Hz above 0, with at most three decimals",
-        (IntervalUnit::Micros, false) => form_in(column),
-        (IntervalUnit::Millis, false) if column == ImportColumn::MinUs => {
-            "milliseconds from 0.001 to the maximum, with at most three decimals"
-        }
-        (IntervalUnit::Millis, false) => {
-            "milliseconds from the minimum to 30000, with at most three decimals"
-        }
+        (IntervalUnit::Micros, true) => "interval_us",
+        (IntervalUnit::Millis, true) => "interval_ms",
+        (IntervalUnit::Hertz, true) => "rate_hz",
+        (IntervalUnit::Micros, false) => column.name(),
+        (IntervalUnit::Millis, false) if is_min => "min_ms",
+        (IntervalUnit::Millis, false) => "max_ms",
+        // the greatest rate is that of the shortest interval
+        (IntervalUnit::Hertz, false) if is_min => "max_hz",
+        (IntervalUnit::Hertz, false) => "min_hz",
     }
 }
 
-/// What a column has, in two words.
-pub fn thing_in(column: ImportColumn) -> &'static str {
+/// What must be in a column that states intervals so.
+pub fn form_of(column: ImportColumn, form: IntervalForm) -> &'static str {
+    text_under(
+        &FORMS,
+        match name_of(column, form) {
+            "max_hz" | "min_hz" => "hz",
+            _ if OF_NAMES.contains(&column) => "name",
+            name => name,
+        },
+    )
+}
+
+/// What a column has that states intervals so, in two words.
+pub fn thing_in(column: ImportColumn, form: IntervalForm) -> &'static str {
     match column {
+        _ if form.unit == IntervalUnit::Hertz => "a rate",
         ImportColumn::Rate => "a bit rate",
         ImportColumn::Label => "a label",
         ImportColumn::Sdi => "an SDI",
@@ -39,18 +71,12 @@ pub fn thing_in(column: ImportColumn) -> &'static str {
     }
 }
 
-/// What must be in a column.
-pub fn form_in(column: ImportColumn) -> &'static str {
-    match column {
-        ImportColumn::Rate => "HS (100000), LS (12500), or 12000 to 14500 bit/s",
-        ImportColumn::Label => "three octal digits, 000 to 377",
-        ImportColumn::Sdi => "0 to 3, or `any`",
-        ImportColumn::MinUs => "a whole number of microseconds, from 1 to the maximum",
-        ImportColumn::MaxUs => "a whole number of microseconds, from the minimum to 30000000",
-        ImportColumn::Hold => "a whole number from 1 to 1000000, or nothing for no limit",
-        ImportColumn::Filters => "LLL/MMM, label and mask, each three octal digits from 000 to 377",
-        _ => "1 to 16 characters of `a` to `z`, `0` to `9`, `-` and `_`",
-    }
+/// Whether a column is about an output, and not about its source. Such a column has a whole number.
+pub fn is_of_output(column: ImportColumn) -> bool {
+    matches!(
+        column,
+        ImportColumn::Rate | ImportColumn::MinUs | ImportColumn::MaxUs | ImportColumn::Hold
+    )
 }
 
 /// The bit rate in bit/s, if a text is one of the two usual bit rates in kbit/s, or has a mark between thousands.

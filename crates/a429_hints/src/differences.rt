@@ -1,8 +1,9 @@
 //! Hints about a further table that describes another station.
 
 use crate::hint::HintText;
+use crate::lists::{Named, has_name};
 use a429_console::files::reading::printable_name;
-use a429_equipment::{Equipment, GroupRow, Name, ReceiverRow, SourceRow, receiver_name};
+use a429_equipment::{Equipment, GroupRow, ReceiverRow, SourceRow, receiver_name};
 use a429_filter::FilterSet;
 use a429_word::Sdi;
 
@@ -23,75 +24,68 @@ pub fn tell_difference(table: &str, running: &Equipment, other: &Equipment, hint
     hint.end("its rows differ");
 }
 
-/// A row with a name.
-trait Named {
-    fn name(&self) -> Name;
-}
-
 impl Named for ReceiverRow {
-    fn name(&self) -> Name {
-        self.name
+    fn name(&self) -> &str {
+        self.name.as_str()
     }
 }
 
 impl Named for SourceRow {
-    fn name(&self) -> Name {
-        self.name
+    fn name(&self) -> &str {
+        self.name.as_str()
     }
 }
 
 impl Named for GroupRow {
-    fn name(&self) -> Name {
-        self.name
+    fn name(&self) -> &str {
+        self.name.as_str()
     }
-}
-
-/// Whether one of these rows has a name.
-fn has_row<N: Named>(rows: &[N], name: Name) -> bool {
-    for row in rows {
-        if row.name().as_str() == name.as_str() {
-            return true;
-        }
-    }
-    false
-}
-
-/// The name of the first of these rows that the others do not have. `None` if they have all.
-fn absent_row<N: Named>(rows: &[N], others: &[N]) -> Option<Name> {
-    for row in rows {
-        if !has_row(others, row.name()) {
-            return Some(row.name());
-        }
-    }
-    None
 }
 
 /// Says which row one table has and the other one does not, or which row is at another place, and answers whether there is
 /// one.
 fn tell_rows<N: Named>(kind: &str, running: &[N], other: &[N], hint: &HintText) -> bool {
-    if let Some(name) = absent_row(running, other) {
-        hint.say_two("{} {} is in the first table, ", kind, name.as_str());
-        hint.end("and not in the new table");
-        return true;
-    }
-    if let Some(name) = absent_row(other, running) {
-        hint.say_two("{} {} is in the new table, ", kind, name.as_str());
-        hint.end("and not in the first table");
-        return true;
-    }
-    tell_order(kind, running, other, hint)
+    tell_absent(
+        kind,
+        running,
+        other,
+        "in the first table, and not in the new table",
+        hint,
+    ) || tell_absent(
+        kind,
+        other,
+        running,
+        "in the new table, and not in the first table",
+        hint,
+    ) || tell_order(kind, running, other, hint)
+}
+
+/// Says which of these rows is the first that the others do not have, and answers whether there is one.
+fn tell_absent<N: Named>(
+    kind: &str,
+    rows: &[N],
+    others: &[N],
+    place: &str,
+    hint: &HintText,
+) -> bool {
+    let Some(row) = rows.iter().find(|row| !has_name(others, row.name())) else {
+        return false;
+    };
+    hint.say_two("{} {}", kind, row.name());
+    hint.end_one(" is {}", place);
+    true
 }
 
 /// Says which row is the first at another place, and answers whether there is one. Both tables have the same names.
 fn tell_order<N: Named>(kind: &str, running: &[N], other: &[N], hint: &HintText) -> bool {
     for (place, (own, found)) in running.iter().zip(other).enumerate() {
         let (own, found) = (own.name(), found.name());
-        if own.as_str() != found.as_str() {
+        if own != found {
             hint.say_two("{} {}", kind, place);
             hint.say_two(
                 " is {?} in the new table, and {?} in the first table: ",
-                found.as_str(),
-                own.as_str(),
+                found,
+                own,
             );
             hint.end("keep their order");
             return true;
@@ -102,25 +96,14 @@ fn tell_order<N: Named>(kind: &str, running: &[N], other: &[N], hint: &HintText)
 
 /// Says which receiver differs first, in its name or its filters, and answers whether one does.
 fn tell_receivers(running: &[ReceiverRow], other: &[ReceiverRow], hint: &HintText) -> bool {
-    if tell_rows("receiver", running, other, hint) {
-        return true;
-    }
-    for (own, found) in running.iter().zip(other) {
-        if tell_filters(own, found, hint) {
-            return true;
-        }
-    }
-    false
+    let mut pairs = running.iter().zip(other);
+    tell_rows("receiver", running, other, hint)
+        || pairs.any(|(own, found)| tell_filters(own, found, hint))
 }
 
 /// Says both lists of filters of a receiver if they differ, and answers whether they do.
 fn tell_filters(own: &ReceiverRow, found: &ReceiverRow, hint: &HintText) -> bool {
-    let are_same = match (own.filters.list(), found.filters.list()) {
-        (None, None) => true,
-        (Some(own), Some(found)) => own == found,
-        _ => false,
-    };
-    if are_same {
+    if own.filters.list() == found.filters.list() {
         return false;
     }
     hint.say_one("receiver {} has ", own.name.as_str());
@@ -150,15 +133,9 @@ fn say_filters(filters: &FilterSet, hint: &HintText) {
 /// Says which source differs first, and answers whether one does.
 fn tell_sources(running: &Equipment, other: &Equipment, hint: &HintText) -> bool {
     let (own, found) = (running.sources(), other.sources());
-    if tell_rows("source", own, found, hint) {
-        return true;
-    }
-    for (a, b) in own.iter().zip(found) {
-        if tell_source(running.receivers(), a, b, hint) {
-            return true;
-        }
-    }
-    false
+    let mut pairs = own.iter().zip(found);
+    tell_rows("source", own, found, hint)
+        || pairs.any(|(own, found)| tell_source(running.receivers(), own, found, hint))
 }
 
 /// Says in what a source differs, and answers whether it does.
@@ -197,15 +174,9 @@ fn say_sdi(words: &str, sdi: Option<Sdi>, hint: &HintText) {
 
 /// Says which group differs first, in its name or its bit rate, and answers whether one does.
 fn tell_groups(running: &[GroupRow], other: &[GroupRow], hint: &HintText) -> bool {
-    if tell_rows("group", running, other, hint) {
-        return true;
-    }
-    for (own, found) in running.iter().zip(other) {
-        if tell_rate(own, found, hint) {
-            return true;
-        }
-    }
-    false
+    let mut pairs = running.iter().zip(other);
+    tell_rows("group", running, other, hint)
+        || pairs.any(|(own, found)| tell_rate(own, found, hint))
 }
 
 /// Says both bit rates of a group if they differ, and answers whether they do.

@@ -2,12 +2,12 @@
 
 use crate::hint::{HintText, LINES};
 use crate::keys::{form, is_faulty, kilobits};
-use crate::lists::{LISTED, say_more};
+use crate::lists::say_unknown;
 use crate::nearest::Nearest;
-use crate::rows::{TableRow, say_found, say_row, short_text};
+use crate::rows::{TableRow, integer_at, say_found, say_row, short_text};
 use crate::twins::twin_of;
 use crate::words::say_meant_filter;
-use a429_equipment::{LONGEST_INTERVAL, TableVersion};
+use a429_equipment::TableVersion;
 use a429_filter::Filter;
 use a429_table::{
     Column, FaultKind, RefusedTable, Shape, TablePlace, columns_of, places_of, rows_at, text_at,
@@ -60,7 +60,10 @@ fn tell_row(kind: FaultKind, row: &TableRow, hint: &HintText) {
         FaultKind::DuplicateName | FaultKind::DuplicateSource | FaultKind::DuplicateOutput => {
             tell_twin(kind, row, hint);
         }
-        FaultKind::Interval => tell_interval(row, hint),
+        FaultKind::Interval => {
+            tell_values(kind, row, hint);
+            tell_order(row, hint);
+        }
         _ => tell_values(kind, row, hint),
     }
 }
@@ -134,29 +137,10 @@ fn way_to_write(column: &Column, found: Option<&Value>) -> &'static str {
     }
 }
 
-/// Says which end of an interval has a fault.
-fn tell_interval(row: &TableRow, hint: &HintText) {
-    let (Some(Value::Integer(min_us)), Some(Value::Integer(max_us))) = (
-        row.value.get("min_us"),
-        row.value.get("max_us"),
-    ) else {
-        return;
-    };
-    let (min_us, max_us) = (*min_us, *max_us);
-    if min_us < 1 {
-        begin_row(row, hint);
-        hint.end_one(
-            ": `min_us` is {}; it must be an integer from 1 to max_us (microseconds)",
-            min_us,
-        );
-    }
-    if max_us > i64::from(LONGEST_INTERVAL) {
-        begin_row(row, hint);
-        hint.end_one(
-            ": `max_us` is {}; it must be an integer from min_us to 30000000 (microseconds)",
-            max_us,
-        );
-    }
+/// Says that the ends of an interval are in the wrong order, if they are.
+fn tell_order(row: &TableRow, hint: &HintText) {
+    let min_us = integer_at(row.value, "min_us").unwrap_or(0);
+    let max_us = integer_at(row.value, "max_us").unwrap_or(0);
     if min_us > max_us {
         begin_row(row, hint);
         hint.end_two(
@@ -178,21 +162,15 @@ fn tell_late_version(row: &TableRow, hint: &HintText) {
             return hint.line_one(LATE_VERSION, key);
         }
     }
-    for group in rows_at(row.root, "group") {
-        if have_version(rows_at(group, "output")) {
-            return hint.line_one(LATE_VERSION, "group.output");
-        }
+    let mut groups = rows_at(row.root, "group").iter();
+    if groups.any(|group| have_version(rows_at(group, "output"))) {
+        hint.line_one(LATE_VERSION, "group.output");
     }
 }
 
 /// Whether one of these rows has a key `version`.
 fn have_version(rows: &[Value]) -> bool {
-    for row in rows {
-        if row.get("version").is_some() {
-            return true;
-        }
-    }
-    false
+    rows.iter().any(|row| row.get("version").is_some())
 }
 
 /// Says what is wrong with the first filter of a receiver that is not a text of the form LLL/MMM.
@@ -264,36 +242,29 @@ fn say_nearest_key(version: TableVersion, place: TablePlace, key: &str, hint: &H
 
 /// The right place of a key that this row must not have in the version of its table. `None` if no row has the key.
 fn where_it_belongs(version: TableVersion, place: TablePlace, key: &str) -> Option<&'static str> {
-    match place {
-        _ if key == "version" => Some(
+    match (key, place, version) {
+        ("version", _, _) => Some(
             "`version` belongs to the top of the table, before the first [[..]]",
         ),
-        TablePlace::Root if key == "output" => Some(
+        ("output", TablePlace::Root, _) => Some(
             "outputs belong to a group: [[group.output]] after its [[group]]",
         ),
-        TablePlace::Root if key == "rate" => Some("in version 2 each [[group]] has its own `rate`"),
-        TablePlace::Group(_) if key == "rate" => Some("`rate` of a group needs version = 2"),
-        _ if key == "rate" => Some(place_of_rate(version)),
-        TablePlace::Output(_, _) if key == "hold" => Some("`hold` needs version = 2"),
+        ("rate", TablePlace::Root, _) => Some("in version 2 each [[group]] has its own `rate`"),
+        ("rate", TablePlace::Group(_), _) => Some("`rate` of a group needs version = 2"),
+        ("rate", _, TableVersion::One) => Some(
+            "`rate` belongs to the top of the table, before the first [[..]]",
+        ),
+        ("rate", _, TableVersion::Two) => Some(
+            "`rate` belongs to a [[group]], before its first [[group.output]]",
+        ),
+        ("hold", TablePlace::Output(_, _), _) => Some("`hold` needs version = 2"),
         _ => None,
     }
 }
 
-/// The place of the bit rate in a version.
-fn place_of_rate(version: TableVersion) -> &'static str {
-    match version {
-        TableVersion::One => "`rate` belongs to the top of the table, before the first [[..]]",
-        TableVersion::Two => "`rate` belongs to a [[group]], before its first [[group.output]]",
-    }
-}
-
 fn has_key(version: TableVersion, place: TablePlace, text: &str) -> bool {
-    for column in columns_of(version, place) {
-        if column.key == text {
-            return true;
-        }
-    }
-    false
+    let mut columns = columns_of(version, place).iter();
+    columns.any(|column| column.key == text)
 }
 
 /// Says which name of a row is unknown, which name is the nearest, and which names there are.
@@ -302,28 +273,9 @@ fn tell_unknown_name(row: &TableRow, hint: &HintText) {
         TablePlace::Source(_) => "receiver",
         _ => "source",
     };
-    let name = short_text(text_at(row.value, key));
-    let name = name.as_str();
     begin_row(row, hint);
-    hint.say_two(": no {} has the name {?}", key, name);
+    hint.say(": ");
     let rows = rows_at(row.root, key);
-    let mut nearest = Nearest::to(name);
-    for other in rows {
-        nearest = nearest.or(hint.alloc, text_at(other, "name"));
-    }
-    nearest.tell("; the nearest is {}", hint);
-    say_names(key, rows, hint);
+    say_unknown(key, text_at(row.value, key), rows, hint);
     hint.end("");
-}
-
-/// Says the names of these rows, the first ones if there are many.
-fn say_names(kind: &str, rows: &[Value], hint: &HintText) {
-    if rows.is_empty() {
-        return hint.say("; the table has none");
-    }
-    hint.say_one("; the {}s are", kind);
-    for row in rows.iter().take(LISTED) {
-        hint.say_one(" {}", text_at(row, "name"));
-    }
-    say_more(rows.len(), hint);
 }

@@ -30,50 +30,31 @@ pub fn tell_trouble(trouble: FileTrouble, name: &str, hint: &HintText) {
     });
 }
 
-/// A kind of file: the bytes that it begins with, and what to do about it.
-#[derive(Clone, Copy)]
-struct FileKind {
-    start: &'static [u8],
-    advice: &'static str,
-}
+/// The hint about a capture file.
+const CAPTURE: &str = "this is a capture file (pcap); export it as text";
 
-/// The form of a kind of file.
-macro_rules! kind {
-    ($start:literal, $advice:literal) => {
-        FileKind {
-            start: $start,
-            advice: $advice,
-        }
-    };
-}
-
-static KINDS: [FileKind; 6] = [
-    kind!(b"\xFF\xFE", "the file is UTF-16; save it as UTF-8"),
-    kind!(b"\xFE\xFF", "the file is UTF-16; save it as UTF-8"),
-    kind!(
+/// The bytes with which kinds of files begin, and what to do about each.
+static KINDS: [(&[u8], &str); 6] = [
+    (b"\xFF\xFE", UTF_16),
+    (b"\xFE\xFF", UTF_16),
+    (
         b"\x1F\x8B",
-        "the file is compressed (gzip); unpack it first"
+        "the file is compressed (gzip); unpack it first",
     ),
-    kind!(
-        b"\xD4\xC3\xB2\xA1",
-        "this is a capture file (pcap); export it as text"
-    ),
-    kind!(
-        b"\xA1\xB2\xC3\xD4",
-        "this is a capture file (pcap); export it as text"
-    ),
-    kind!(
+    (b"\xD4\xC3\xB2\xA1", CAPTURE),
+    (b"\xA1\xB2\xC3\xD4", CAPTURE),
+    (
         b"PK\x03\x04",
-        "this is a workbook or an archive; save it as comma-separated values"
+        "this is a workbook or an archive; save it as comma-separated values",
     ),
 ];
 
 /// What kind of file begins with these bytes, and what to do with it. `None` if they begin like no other kind than text
 /// in UTF-8.
 pub fn other_file(bytes: &[u8]) -> Option<&'static str> {
-    for kind in &KINDS {
-        if bytes.starts_with(kind.start) {
-            return Some(kind.advice);
+    for (start, advice) in &KINDS {
+        if bytes.starts_with(*start) {
+            return Some(*advice);
         }
     }
     match bytes.get(1) {

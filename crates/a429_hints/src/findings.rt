@@ -1,7 +1,8 @@
 //! Hints about the rows of `lint` and `diff`.
 
 use crate::hint::HintText;
-use a429_text::Rows;
+use crate::lists::text_in;
+use a429_text::{Row, Rows};
 
 /// The kinds of findings, in the order in which `lint` prints them, with what each means and what to do about it.
 static ADVICE: [&str; 12] = [
@@ -27,45 +28,32 @@ const OTHER_STATION: &str =
     "a table with other receivers, filters, sources or groups is one of another station: a station that runs takes no plan of it";
 
 /// Whether a row has this kind in its first column.
-fn has_row(rows: &Rows, kind: &str) -> bool {
-    for row in 0..usize::MAX {
-        match rows.text(row, 0) {
-            Ok(Some(word)) if word == kind.as_bytes() => return true,
-            Ok(Some(_)) => {}
-            _ => return false,
-        }
-    }
-    false
+fn has_row(rows: &[Row], kind: &str) -> bool {
+    rows.iter().any(|row| text_in(row, 0) == kind)
 }
 
 /// Says what to do about each kind of finding in the rows of `lint`, one line a kind.
 pub fn tell_findings(rows: &Rows, hint: &HintText) {
+    let Ok(rows) = rows.as_slice() else {
+        return hint.give_up();
+    };
     for advice in &ADVICE {
         let (kind, _) = advice.split_once(':').unwrap_or((*advice, ""));
         if has_row(rows, kind) {
             hint.say_line(*advice);
         }
     }
-    if has_one_of(rows, &STATION_KINDS) {
+    if STATION_KINDS.iter().any(|kind| has_row(rows, *kind)) {
         hint.say_line(OTHER_STATION);
     }
 }
 
-/// Whether a row has one of these kinds.
-fn has_one_of(rows: &Rows, kinds: &[&'static str]) -> bool {
-    for kind in kinds {
-        if has_row(rows, kind) {
-            return true;
-        }
-    }
-    false
-}
-
 /// Says that the second of two tables is of another station, by the rows of `diff`.
 pub fn tell_changes(rows: &Rows, hint: &HintText) {
-    if has_row(rows, "station") {
-        hint.say_line(
+    match rows.as_slice() {
+        Ok(rows) if has_row(rows, "station") => hint.say_line(
             "it is a table of another station: a station that runs with the first table takes no plan of it",
-        );
+        ),
+        _ => {}
     }
 }

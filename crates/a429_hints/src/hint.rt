@@ -138,24 +138,15 @@ impl HintText {
     /// Begins a line: says the file and the line in it, as far as there are such, and words.
     pub fn begin(&self, words: &str) {
         self.say("a429");
-        self.say_file();
+        self.say_file(": {}");
         if let Some(line) = self.line.get() {
             self.say_one(", line {}", line);
         }
         self.say(words);
     }
 
-    fn say_file(&self) {
-        self.say_name(": {}");
-    }
-
-    /// Says the name of the file.
-    pub fn say_file_name(&self) {
-        self.say_name("{}");
-    }
-
     /// Says a form with the name of the file, if there is one.
-    fn say_name(&self, form: &str) {
+    pub fn say_file(&self, form: &str) {
         if let Ok(file) = self.file.try_borrow() {
             if let Some(name) = &*file {
                 self.say_one(form, name.as_str());

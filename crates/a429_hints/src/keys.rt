@@ -1,7 +1,7 @@
 //! What must be at each key of a table, as a text.
 
 use crate::lists::text_under;
-use a429_equipment::{GROUPS, OUTPUTS, RECEIVERS, SOURCES};
+use a429_equipment::{GROUPS, LONGEST_INTERVAL, OUTPUTS, RECEIVERS, SOURCES};
 use a429_filter::FILTERS;
 use a429_table::{Column, FaultKind, Shape};
 use toml::Value;
@@ -44,6 +44,10 @@ pub fn is_faulty(column: &Column, kind: FaultKind, found: Option<&Value>) -> boo
         (FaultKind::WrongKind, Some(value)) => !takes(column.shape, value),
         (FaultKind::TooMany, Some(Value::Array(rows))) => rows.len() > most(column.key),
         (FaultKind::Hold, None) => false,
+        (FaultKind::Interval, Some(Value::Integer(us))) => {
+            column.key == "min_us" && *us < 1
+                || column.key == "max_us" && *us > i64::from(LONGEST_INTERVAL)
+        }
         _ => column.key == key_of(kind),
     }
 }

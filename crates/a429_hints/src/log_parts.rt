@@ -21,42 +21,14 @@ fn value_form(base: Base) -> &'static str {
     }
 }
 
-/// A field of a word: what it is, its place, and the form that it has to have.
-#[derive(Clone, Copy)]
-pub struct FieldForm {
-    pub name: &'static str,
-    pub place: usize,
-    pub form: &'static str,
-}
-
-/// The field of a word that has a fault.
-pub fn field_form(parts: &PartsPlaces, fault: RowFault) -> FieldForm {
+/// What must be in the field of a word that has a fault.
+pub fn part_form(parts: &PartsPlaces, fault: RowFault) -> &'static str {
     match fault {
-        RowFault::Label => FieldForm {
-            name: "label",
-            place: parts.label.place,
-            form: label_form(parts.label.base),
-        },
-        RowFault::Sdi => FieldForm {
-            name: "SDI",
-            place: parts.sdi,
-            form: "0 to 3, or two binary digits",
-        },
-        RowFault::Ssm => FieldForm {
-            name: "SSM",
-            place: parts.ssm,
-            form: "0 to 3, two binary digits, or NO, NCD, FT, FW, Normal, Test or Fail",
-        },
-        RowFault::Parity => FieldForm {
-            name: "parity",
-            place: parts.parity.unwrap_or(0),
-            form: "0, 1, odd, even, ok or error",
-        },
-        _ => FieldForm {
-            name: "data",
-            place: parts.value.place,
-            form: value_form(parts.value.base),
-        },
+        RowFault::Label => label_form(parts.label.base),
+        RowFault::Sdi => "0 to 3, or two binary digits",
+        RowFault::Ssm => "0 to 3, two binary digits, or NO, NCD, FT, FW, Normal, Test or Fail",
+        RowFault::Parity => "0, 1, odd, even, ok or error",
+        _ => value_form(parts.value.base),
     }
 }
 
@@ -81,8 +53,7 @@ pub fn names_of(column: Column) -> &'static str {
 
 /// The first name that a column can have.
 pub fn first_name(column: Column) -> &'static str {
-    let (first, _) = names_of(column)
-        .split_once([',', ' '])
-        .unwrap_or((names_of(column), ""));
+    let names = names_of(column);
+    let (first, _) = names.split_once([',', ' ']).unwrap_or((names, ""));
     first
 }

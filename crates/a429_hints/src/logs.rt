@@ -2,8 +2,8 @@
 
 use crate::files::other_file;
 use crate::hint::HintText;
-use crate::lists::{begin_names, has_name, nearest_of};
-use crate::log_parts::{field_form, first_name, names_of};
+use crate::lists::{has_name, nearest_of, say_unknown, text_of};
+use crate::log_parts::{first_name, names_of, part_form};
 use crate::rows::short_text;
 use crate::scripts::{NOT_UTF8, is_script_word, tell_no_word};
 use a429_console::refusals::evidence::{LineEvidence, LogEvidence, LogRefusal};
@@ -18,14 +18,41 @@ const ARGUMENT: usize = 48;
 /// A line of a log, and how it was read.
 #[derive(Clone, Copy)]
 struct ReadLine<'a> {
+    line: &'a LineEvidence,
     text: &'a str,
     mark: Mark,
     unit: TimeUnit,
     places: Places,
-    /// Whether it is the first line that states something.
-    is_first: bool,
     /// As which names channels are taken.
     channels: &'a [&'a str],
+}
+
+impl<'a> ReadLine<'a> {
+    /// The field in a place.
+    fn field(&self, place: usize) -> &'a str {
+        field_of(self.text, self.mark, place)
+    }
+
+    /// The channel of its word.
+    fn channel(&self) -> &'a str {
+        self.field(self.places.name)
+    }
+
+    /// The name as which its channel is taken.
+    fn name(&self) -> &'a str {
+        text_of(renamed(self.channels, self.channel().as_bytes()))
+    }
+}
+
+/// The field of a text with this mark in a place.
+fn field_of(text: &str, mark: Mark, place: usize) -> &str {
+    let mut fields = Fields::of(mark, text.as_bytes());
+    for passed in 0..place {
+        if fields.next().is_none() {
+            return "";
+        }
+    }
+    text_of(fields.next().unwrap_or(&[]))
 }
 
 /// The places of the fields in a log without a heading.
@@ -55,34 +82,46 @@ pub fn tell_log_line<'a>(
         None => (Mark::in_line(text.as_bytes()), log.unit, PLAIN),
     };
     let read = ReadLine {
+        line,
         text,
         mark,
         unit,
         places,
-        is_first: log.shape.is_none(),
         channels,
     };
-    if !tell_first_field(line, &read, hint) {
-        tell_why(line, &read, log.why, hint);
+    match other_line(&read, log.shape.is_none()) {
+        Some(kind) => hint.line_one("{}; a log has lines TIME RECEIVER HEX", kind),
+        None => tell_why(&read, log.why, hint),
+    }
+}
+
+/// What kind of line it is by its first field, if it is none of a log. The time may be missing in the first line that states
+/// something.
+fn other_line(read: &ReadLine<'_>, is_first: bool) -> Option<&'static str> {
+    let first = read.field(0);
+    if is_script_word(first) {
+        Some("this is a line of a script")
+    } else if is_first && has_name(&read.line.receivers, first) && !is_number(first) {
+        Some("the time before the receiver is missing")
+    } else {
+        None
     }
 }
 
 /// Says why a line of a log is refused.
-fn tell_why(line: &LineEvidence, read: &ReadLine<'_>, why: LogRefusal, hint: &HintText) {
+fn tell_why(read: &ReadLine<'_>, why: LogRefusal, hint: &HintText) {
     match why {
         LogRefusal::Line(LineFault::Heading(fault)) => tell_heading(fault, hint),
-        LogRefusal::Line(LineFault::Row(fault)) => tell_row(line, read, fault, hint),
-        LogRefusal::Receiver => {
-            tell_unknown("receiver", name_in(read), None, read, &line.receivers, hint);
-        }
-        LogRefusal::Group => tell_group(line, read, hint),
+        LogRefusal::Line(LineFault::Row(fault)) => tell_row(read, fault, hint),
+        LogRefusal::Receiver => tell_receiver(read, hint),
+        LogRefusal::Group => tell_group(read, hint),
         LogRefusal::Neither => {
-            tell_unknown("receiver", name_in(read), None, read, &line.receivers, hint);
-            tell_group(line, read, hint);
+            tell_receiver(read, hint);
+            tell_group(read, hint);
         }
         LogRefusal::Both => hint.line_one(
             "{?} is a receiver and a group: name the bus as GROUP.BUS, or give what was sent as a log of its own",
-            name_in(read),
+            read.name(),
         ),
         LogRefusal::Name => hint.say_line(NOT_UTF8),
         LogRefusal::Late => hint.say_line(
@@ -91,39 +130,36 @@ fn tell_why(line: &LineEvidence, read: &ReadLine<'_>, why: LogRefusal, hint: &Hi
     }
 }
 
-/// The field of a line in a place.
-fn field<'a>(read: &ReadLine<'a>, place: usize) -> &'a str {
-    field_of(read.text, read.mark, place)
+/// Says that no receiver has the name of a word.
+fn tell_receiver(read: &ReadLine<'_>, hint: &HintText) {
+    tell_unknown(
+        "receiver",
+        read.name(),
+        None,
+        read,
+        &read.line.receivers,
+        hint,
+    );
 }
 
-/// The field of a text with this mark in a place.
-fn field_of(text: &str, mark: Mark, place: usize) -> &str {
-    let mut fields = Fields::of(mark, text.as_bytes());
-    for passed in 0..place {
-        if fields.next().is_none() {
-            return "";
-        }
+/// Says that no group has the name of a word, or that the group has no bus of its number.
+fn tell_group(read: &ReadLine<'_>, hint: &HintText) {
+    let (name, groups) = (read.name(), &read.line.groups);
+    if has_name(&read.line.receivers, name) && !has_name(groups, name) {
+        return hint.line_one(
+            "{?} is a receiver; in a log of what was sent a name is a group, and the log of what came in is given first",
+            name,
+        );
     }
-    str::from_utf8(fields.next().unwrap_or(&[])).unwrap_or("")
-}
-
-/// How many fields a line has.
-fn count(read: &ReadLine<'_>) -> usize {
-    let mut fields = Fields::of(read.mark, read.text.as_bytes());
-    let mut count = 0usize;
-    for place in 0..read.text.len() + 1 {
-        if fields.next().is_none() {
-            return place;
-        }
-        count = place;
+    match name.split_once('.') {
+        Some((group, bus)) if has_name(groups, group) => hint.line_two(
+            "group {?} has no bus {?}; `plan` prints how many it has, and they are numbered from 0",
+            group,
+            bus,
+        ),
+        Some((group, bus)) => tell_unknown("group", group, Some(bus), read, groups, hint),
+        None => tell_unknown("group", name, None, read, groups, hint),
     }
-    count
-}
-
-/// The name as which that of a line is taken.
-fn name_in<'a>(read: &ReadLine<'a>) -> &'a str {
-    let channel = field(read, read.places.name);
-    str::from_utf8(renamed(read.channels, channel.as_bytes())).unwrap_or("")
 }
 
 /// Says that no receiver or group has the name of a word, and how to take the channel of the line as one. A group may have
@@ -136,49 +172,44 @@ fn tell_unknown(
     names: &[String],
     hint: &HintText,
 ) {
-    begin_names(kind, name, names, hint);
-    let channel = field(read, read.places.name);
-    if channel != name_in(read) {
+    hint.begin(": ");
+    say_unknown(kind, name, names, hint);
+    let channel = read.channel();
+    if channel != read.name() {
         hint.say_one("; --channel takes {?} as this name", channel);
     } else if !names.is_empty() && !channel.is_empty() {
         hint.say("; to take it as one, give --channel ");
         say_channel(channel, name, bus, names, hint);
-        say_ignored(channel, hint);
     }
     hint.end("");
 }
 
-/// Says the option that passes over the words of a channel, if a shell takes its text.
-fn say_ignored(channel: &str, hint: &HintText) {
-    if let Some(quote) = quotes_of(channel) {
-        hint.say_two("; to pass over its words, --ignore {}{}", quote, channel);
-        hint.say(quote);
+/// Says the value of `--channel` that takes a channel as the nearest of these names, or the only one, and the option that
+/// passes over its words. If no shell takes the text of the channel, says the form of the value.
+fn say_channel(channel: &str, name: &str, bus: Option<&str>, names: &[String], hint: &HintText) {
+    let Some(quote) = quotes_of(channel) else {
+        return hint.say("FROM=NAME");
+    };
+    hint.say_two("{}{}=", quote, channel);
+    say_likely(name, names, hint);
+    if let Some(bus) = bus {
+        hint.say_one(".{}", bus);
     }
+    hint.say(quote);
+    hint.say_two("; to pass over its words, --ignore {}{}", quote, channel);
+    hint.say(quote);
 }
 
 /// Says the name that a channel may have: the nearest of these, or the only one.
 fn say_likely(name: &str, names: &[String], hint: &HintText) {
     let shown = short_text(name);
     if let Some(near) = nearest_of(hint.alloc, shown.as_str(), names).name() {
-        return hint.say_one("={}", near);
+        return hint.say(near);
     }
     match names.first() {
-        Some(only) if names.len() == 1 => hint.say_one("={}", only.as_str()),
-        _ => hint.say("=NAME"),
+        Some(only) if names.len() == 1 => hint.say(only.as_str()),
+        _ => hint.say("NAME"),
     }
-}
-
-/// Says the value of `--channel` that takes a channel as the nearest of these names.
-fn say_channel(channel: &str, name: &str, bus: Option<&str>, names: &[String], hint: &HintText) {
-    let Some(quote) = quotes_of(channel) else {
-        return hint.say("FROM=NAME");
-    };
-    hint.say_two("{}{}", quote, channel);
-    say_likely(name, names, hint);
-    if let Some(bus) = bus {
-        hint.say_one(".{}", bus);
-    }
-    hint.say(quote);
 }
 
 /// What a shell needs around a text: nothing, or double quotes. `None` if these are not enough, or the text is long.
@@ -198,45 +229,6 @@ fn quotes_of(text: &str) -> Option<&'static str> {
     Some(if is_quoted { "\"" } else { "" })
 }
 
-/// Says that no group has the name of a word, or that the group has no bus of its number.
-fn tell_group(line: &LineEvidence, read: &ReadLine<'_>, hint: &HintText) {
-    let name = name_in(read);
-    if has_name(&line.receivers, name) && !has_name(&line.groups, name) {
-        return hint.line_one(
-            "{?} is a receiver; in a log of what was sent a name is a group, and the log of what came in is given first",
-            name,
-        );
-    }
-    let (group, bus) = match name.split_once('.') {
-        Some((group, bus)) => (group, Some(bus)),
-        None => (name, None),
-    };
-    match bus {
-        Some(bus) if has_name(&line.groups, group) => {
-            hint.line_two(
-                "group {?} has no bus {?}; `plan` prints how many it has, and they are numbered from 0",
-                group,
-                bus,
-            );
-        }
-        _ => tell_unknown("group", group, bus, read, &line.groups, hint),
-    }
-}
-
-/// Says that a line belongs to another kind of file, by its first field, and answers whether it does.
-fn tell_first_field(line: &LineEvidence, read: &ReadLine<'_>, hint: &HintText) -> bool {
-    let first = field(read, 0);
-    if is_script_word(first) {
-        hint.begin(": this is a line of a script");
-    } else if read.is_first && has_name(&line.receivers, first) && !is_number(first) {
-        hint.begin(": the time before the receiver is missing");
-    } else {
-        return false;
-    }
-    hint.end("; a log has lines TIME RECEIVER HEX");
-    true
-}
-
 /// Says what is wrong with a heading.
 fn tell_heading(fault: HeadingFault, hint: &HintText) {
     match fault {
@@ -252,35 +244,37 @@ fn tell_heading(fault: HeadingFault, hint: &HintText) {
 }
 
 /// Says what is wrong with a row.
-fn tell_row(line: &LineEvidence, read: &ReadLine<'_>, fault: RowFault, hint: &HintText) {
+fn tell_row(read: &ReadLine<'_>, fault: RowFault, hint: &HintText) {
     match fault {
         RowFault::Fields => tell_count(read, hint),
         RowFault::Time => tell_time(read, hint),
-        RowFault::Falls => tell_fall(line, read, hint),
-        RowFault::Word => tell_word(read, hint),
+        RowFault::Falls => tell_fall(read, hint),
         RowFault::Early => hint.say_line("the word comes before the time of --from"),
         RowFault::DateOrder => hint.line_one(
             "{?} may begin with the day or with the month, and no row before shows which: give --dates dmy or --dates mdy",
-            field(read, read.places.time),
+            read.field(read.places.time),
         ),
-        _ => tell_part(read, fault, hint),
+        _ => tell_word(read, fault, hint),
     }
 }
 
-/// Says what is wrong with a field of a word, and which column it is in.
-fn tell_part(read: &ReadLine<'_>, fault: RowFault, hint: &HintText) {
-    let WordPlaces::Parts(parts) = read.places.word else {
-        return tell_word(read, hint);
+/// Says what is wrong with a word, or with a field of it and which column that is in.
+fn tell_word(read: &ReadLine<'_>, fault: RowFault, hint: &HintText) {
+    let parts = match read.places.word {
+        WordPlaces::Whole(place) => return tell_no_word(read.field(place), hint),
+        WordPlaces::Parts(parts) => parts,
     };
-    let wrong = field_form(&parts, fault);
+    let (name, place) = match fault {
+        RowFault::Label => ("label", parts.label.place),
+        RowFault::Sdi => ("SDI", parts.sdi),
+        RowFault::Ssm => ("SSM", parts.ssm),
+        RowFault::Parity => ("parity", parts.parity.unwrap_or(0)),
+        _ => ("data", parts.value.place),
+    };
     hint.begin(": ");
-    hint.say_two("the {} {?}", wrong.name, field(read, wrong.place));
-    hint.say_two(
-        " in column {} is not {}",
-        wrong.place.saturating_add(1),
-        wrong.form,
-    );
-    hint.end("");
+    hint.say_two("the {} {?}", name, read.field(place));
+    hint.say_one(" in column {}", place.saturating_add(1));
+    hint.end_one(" is not {}", part_form(&parts, fault));
 }
 
 /// Says how many fields a line has, and how many it has to have.
@@ -290,18 +284,17 @@ fn tell_count(read: &ReadLine<'_>, hint: &HintText) {
         Mark::Comma => "commas",
         _ => "blanks",
     };
-    let form = "the number of fields is {}, not {}; fields are separated by {}";
-    hint.line_three(form, count(read), read.places.width.all, marks);
+    hint.line_three(
+        "the number of fields is {}, not {}; fields are separated by {}",
+        Width::of(read.mark, read.text.as_bytes()).all,
+        read.places.width.all,
+        marks,
+    );
 }
 
 /// Whether a text is one or more decimal digits.
 fn is_number(text: &str) -> bool {
-    for byte in text.bytes() {
-        if !byte.is_ascii_digit() {
-            return false;
-        }
-    }
-    !text.is_empty()
+    !text.is_empty() && text.bytes().all(|byte| byte.is_ascii_digit())
 }
 
 /// Whether a text is digits with one point or comma between them.
@@ -314,24 +307,20 @@ fn is_decimal(text: &str) -> bool {
 
 /// Says what is wrong with the form of a time.
 fn tell_time(read: &ReadLine<'_>, hint: &HintText) {
-    let time = field(read, read.places.time);
-    if let TimeUnit::Ticks(_) = read.unit {
-        return hint.line_one(
-            "{?} is not a count of --tick: 1 to 16 hexadecimal digits, which may follow 0x, for less than 10^18 us",
-            time,
-        );
-    }
-    if is_number(time) && time.len() <= 12 {
-        return hint.line_one("{?} has another form than the first time", time);
-    }
-    if is_number(time) {
+    let time = read.field(read.places.time);
+    let is_counted = matches!(read.unit, TimeUnit::Ticks(_));
+    if !is_counted && is_number(time) && time.len() > 12 {
         return hint.line_two(
             "{?} has {} digits; a time has at most 18 for microseconds",
             time,
             time.len(),
         );
     }
-    let fault = if time.starts_with('+') || time.starts_with('-') {
+    let fault = if is_counted {
+        "is not a count of --tick: 1 to 16 hexadecimal digits, which may follow 0x, for less than 10^18 us"
+    } else if is_number(time) {
+        "has another form than the first time"
+    } else if time.starts_with('+') || time.starts_with('-') {
         "has a sign; write the time without it"
     } else if time.contains('/') {
         "is not YYYY/MM/DD HH:MM:SS or DD/MM/YYYY HH:MM:SS, or has another form than the first time"
@@ -350,24 +339,14 @@ fn tell_time(read: &ReadLine<'_>, hint: &HintText) {
 }
 
 /// Says that a time is less than the time before it.
-fn tell_fall(line: &LineEvidence, read: &ReadLine<'_>, hint: &HintText) {
-    let before = str::from_utf8(&line.before).unwrap_or("");
-    let earlier = field_of(before, read.mark, read.places.time);
+fn tell_fall(read: &ReadLine<'_>, hint: &HintText) {
+    let earlier = field_of(text_of(&read.line.before), read.mark, read.places.time);
     hint.begin(": ");
-    hint.say_one("the time {..} is less than ", field(read, read.places.time));
+    hint.say_one("the time {..} is less than ", read.field(read.places.time));
     if let [b'0'..=b'9', ..] = earlier.as_bytes() {
         hint.say_one("the time before it, {..}", earlier);
     } else {
         hint.say("that of the last word in the logs before");
     }
     hint.end("; times must not decrease");
-}
-
-/// Says what is wrong with a word.
-fn tell_word(read: &ReadLine<'_>, hint: &HintText) {
-    let place = match read.places.word {
-        WordPlaces::Whole(place) => place,
-        WordPlaces::Parts(_) => 2,
-    };
-    tell_no_word(field(read, place), hint);
 }

@@ -4,8 +4,7 @@ use crate::hint::HintText;
 use crate::nearest::Nearest;
 use crate::rows::short_text;
 use a429_arguments::forms::{CommandForm, command_named, commands};
-use a429_arguments::options::{OPTIONS, OptionKind, OptionName};
-use std::alloc::Global;
+use a429_arguments::options::{OPTIONS, OptionName};
 
 /// Says which command or which option is nearest to an unknown one, or which commands have an option.
 pub fn tell_nearest_word(words: &[&str], hint: &HintText) {
@@ -101,7 +100,10 @@ fn tell_owners(command: &str, name: &str, hint: &HintText) {
 
 /// Says which option is nearest to one that is none. Its two hyphens are left out of the comparison.
 fn tell_nearest_option(name: &str, hint: &HintText) {
-    let nearest = or_options(hint.alloc, Nearest::after(2, name), OPTIONS);
+    let mut nearest = Nearest::after(2, name);
+    for option in OPTIONS {
+        nearest = nearest.or(hint.alloc, option.1);
+    }
     let nearest = nearest.or(hint.alloc, "help").or(hint.alloc, "version");
     if let Some(other) = nearest.other_name() {
         hint.line_two(
@@ -110,19 +112,6 @@ fn tell_nearest_option(name: &str, hint: &HintText) {
             other,
         );
     }
-}
-
-/// Compares the names of options too.
-fn or_options<'a>(
-    alloc: Global,
-    nearest: Nearest<'a>,
-    options: &'a [(OptionName, &'static str, OptionKind)],
-) -> Nearest<'a> {
-    let mut nearest = nearest;
-    for option in options {
-        nearest = nearest.or(alloc, option.1);
-    }
-    nearest
 }
 
 /// Says how to write what other programs take: the name of a file for the answer, a number with `%`, or a value after an
@@ -149,36 +138,23 @@ fn tell_value(option: &str, word: &str, hint: &HintText) {
         tell_microseconds(word, hint);
     } else if option == "--ssm" || option == "--sdi" {
         tell_bits(option, word, hint);
-    } else if let Some(digits) = negative_bcd(option, word) {
-        let form = "the sign of BCD data is its SSM: write --bcd {..} --ssm 3";
-        hint.line_one(form, digits);
-    }
-}
-
-/// The digits of a negative number after `--bcd`.
-fn negative_bcd<'a>(option: &str, word: &'a str) -> Option<&'a str> {
-    if option == "--bcd" {
-        word.strip_prefix('-')
-    } else {
-        None
+    } else if option == "--bcd" {
+        if let Some(digits) = word.strip_prefix('-') {
+            let form = "the sign of BCD data is its SSM: write --bcd {..} --ssm 3";
+            hint.line_one(form, digits);
+        }
     }
 }
 
 /// Says the microseconds of a time with a unit.
 fn tell_microseconds(word: &str, hint: &HintText) {
-    let (number, unit) = if let Some(number) = word.strip_suffix("us") {
-        (number, 1)
-    } else if let Some(number) = word.strip_suffix("ms") {
-        (number, 1000)
-    } else if let Some(number) = word.strip_suffix('s') {
-        (number, 1_000_000)
-    } else {
-        return;
-    };
-    let time: Result<u64, _> = number.parse();
-    if let Ok(time) = time {
-        if let Some(time) = time.checked_mul(unit) {
-            hint.line_one("--until is in microseconds: write --until {}", time);
+    for (unit, micros) in [("us", 1), ("ms", 1000), ("s", 1_000_000)] {
+        if let Some(number) = word.strip_suffix(unit) {
+            let time = number.parse::<u64>().ok();
+            if let Some(time) = time.and_then(|time| time.checked_mul(micros)) {
+                hint.line_one("--until is in microseconds: write --until {}", time);
+            }
+            return;
         }
     }
 }

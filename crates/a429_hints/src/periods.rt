@@ -67,23 +67,20 @@ fn tell_millis(interval: Interval, hint: &HintText) {
 /// Says which minimum interval would allow the next shorter period, if there is one.
 fn tell_period_below(interval: Interval, hint: &HintText) {
     let shortest = interval.slot_time(interval.min_us);
-    for slots in PERIODS.iter().rev() {
-        let time = slots.saturating_mul(SLOT_TIME);
-        if time < shortest {
-            let us = time / u64::from(interval.rate.max(1));
-            return hint.line_two("min_us = {} would allow period {}", us, *slots);
-        }
+    let mut periods = PERIODS.iter().rev();
+    if let Some(slots) = periods.find(|slots| slots.saturating_mul(SLOT_TIME) < shortest) {
+        let us = slots.saturating_mul(SLOT_TIME) / u64::from(interval.rate.max(1));
+        hint.line_two("min_us = {} would allow period {}", us, *slots);
     }
 }
 
 /// Says which maximum interval would allow the next longer period, if there is one.
 fn tell_period_above(interval: Interval, hint: &HintText) {
     let longest = interval.slot_time(interval.max_us);
-    for slots in &PERIODS {
+    let mut periods = PERIODS.iter();
+    if let Some(slots) = periods.find(|slots| slots.saturating_mul(SLOT_TIME) > longest) {
         let time = slots.saturating_mul(SLOT_TIME);
-        if time > longest {
-            let us = time.div_ceil(u64::from(interval.rate.max(1)));
-            return hint.line_two("max_us = {} would allow period {}", us, *slots);
-        }
+        let us = time.div_ceil(u64::from(interval.rate.max(1)));
+        hint.line_two("max_us = {} would allow period {}", us, *slots);
     }
 }

@@ -17,19 +17,16 @@ impl<'a> TableRow<'a> {
     /// The row of a place. `None` if there is no such row.
     pub fn at(root: &'a Value, place: TablePlace) -> Option<TableRow<'a>> {
         let value = match place {
-            TablePlace::Root => Some(root),
-            TablePlace::Receiver(row) => rows_at(root, "receiver").get(row),
-            TablePlace::Source(row) => rows_at(root, "source").get(row),
-            TablePlace::Group(row) => rows_at(root, "group").get(row),
-            TablePlace::Output(group, row) => match rows_at(root, "group").get(group) {
-                Some(group) => rows_at(group, "output").get(row),
-                None => None,
-            },
+            TablePlace::Root => root,
+            TablePlace::Receiver(row) => rows_at(root, "receiver").get(row)?,
+            TablePlace::Source(row) => rows_at(root, "source").get(row)?,
+            TablePlace::Group(row) => rows_at(root, "group").get(row)?,
+            TablePlace::Output(group, row) => {
+                let group = rows_at(root, "group").get(group)?;
+                rows_at(group, "output").get(row)?
+            }
         };
-        match value {
-            Some(value) => Some(TableRow { root, place, value }),
-            None => None,
-        }
+        Some(TableRow { root, place, value })
     }
 }
 
@@ -64,4 +61,12 @@ pub fn say_found(words: &str, found: Option<&Value>, hint: &HintText) {
 /// The first 48 bytes of a text, or fewer if a character would be cut. A longer text ends in dots.
 pub fn short_text(text: &str) -> InlineText<48> {
     InlineText::of(text)
+}
+
+/// The integer at a key. `None` if there is none.
+pub fn integer_at(table: &Value, key: &str) -> Option<i64> {
+    match table.get(key) {
+        Some(Value::Integer(number)) => Some(*number),
+        _ => None,
+    }
 }

@@ -1,7 +1,7 @@
 //! Hints about lines of scripts and of files of words.
 
 use crate::hint::HintText;
-use crate::lists::{has_name, tell_names};
+use crate::lists::{has_name, say_unknown};
 use crate::nearest::Nearest;
 use crate::rows::short_text;
 use a429_console::refusals::evidence::LineEvidence;
@@ -12,27 +12,18 @@ const FORMS: &str = "arrive RECEIVER HEX, cell GROUP, frame GROUP, or publish N"
 /// What is wrong with a line that is not text.
 pub const NOT_UTF8: &str = "the line is not UTF-8";
 
-/// What is wrong with a line without words.
-const EMPTY: &str = "the line is empty";
-
-/// What is wrong with a line that is a comment.
-const COMMENT: &str = "this file cannot have comments";
-
 /// The first words of the lines of a script, separated by spaces.
 const VERBS: &str = "arrive cell frame publish";
 
 /// Says what is wrong with a line of a script.
 pub fn tell_script_line(line: &LineEvidence, hint: &HintText) {
-    let Ok(text) = str::from_utf8(&line.bytes) else {
-        return hint.say_line(NOT_UTF8);
-    };
-    if tell_form(line, text, FORMS, hint) {
+    let Some(text) = text_or_tell(line, FORMS, hint) else {
         return;
-    }
+    };
     let (verb, rest) = cut(text);
     match verb {
         "arrive" => tell_arrival(line, rest, hint),
-        "cell" | "frame" => tell_names("group", rest, &line.groups, hint),
+        "cell" | "frame" => tell_unknown("group", rest, &line.groups, hint),
         "publish" => tell_publication(line, rest, hint),
         _ => tell_verb(verb, hint),
     }
@@ -40,12 +31,9 @@ pub fn tell_script_line(line: &LineEvidence, hint: &HintText) {
 
 /// Says what is wrong with a line of a file of words.
 pub fn tell_words_line(line: &LineEvidence, hint: &HintText) {
-    let Ok(text) = str::from_utf8(&line.bytes) else {
-        return hint.say_line(NOT_UTF8);
-    };
-    if tell_form(line, text, "RECEIVER HEX", hint) {
+    let Some(text) = text_or_tell(line, "RECEIVER HEX", hint) else {
         return;
-    }
+    };
     if is_script_word(cut(text).0) {
         return hint.say_line("this is a line of a script; a file of words has lines RECEIVER HEX");
     }
@@ -62,37 +50,34 @@ pub fn is_script_word(word: &str) -> bool {
     matches!(word, "arrive" | "cell" | "frame" | "publish")
 }
 
-/// Says what is wrong with the form of a line, before its words are read, and answers whether something is.
-pub fn tell_form(line: &LineEvidence, text: &str, form: &str, hint: &HintText) -> bool {
-    let Some(fault) = fault_of_form(line, text) else {
-        return false;
+/// The text of a line. If something is wrong with its form, before its words are read, says what, and gives no text.
+fn text_or_tell<'a>(line: &'a LineEvidence, form: &str, hint: &HintText) -> Option<&'a str> {
+    let Ok(text) = str::from_utf8(&line.bytes) else {
+        hint.say_line(NOT_UTF8);
+        return None;
     };
-    if fault == EMPTY || fault == COMMENT {
-        hint.line_two("{}; each line is {}", fault, form);
+    let Some(fault) = fault_of_form(line, text) else {
+        return Some(text);
+    };
+    if fault.ends_with("{}") {
+        hint.line_one(fault, form);
     } else {
         hint.say_line(fault);
     }
-    true
+    None
 }
 
-/// What is wrong with the form of a line. `None` if nothing is.
+/// What is wrong with the form of a line. A `{}` in it is the place of the right form. `None` if nothing is wrong.
 fn fault_of_form(line: &LineEvidence, text: &str) -> Option<&'static str> {
     if text.starts_with('\u{feff}') {
         Some("the file begins with a byte order mark: save it as UTF-8 without one")
     } else if text.ends_with('\r') {
         Some("the line ends with a carriage return: save the file with line feeds only")
     } else if text.is_empty() && line.is_ended {
-        Some(EMPTY)
+        Some("the line is empty; each line is {}")
     } else if text.starts_with('#') {
-        Some(COMMENT)
-    } else {
-        fault_between_words(line, text)
-    }
-}
-
-/// What is wrong between the words of a line, or at its ends. `None` if nothing is.
-fn fault_between_words(line: &LineEvidence, text: &str) -> Option<&'static str> {
-    if text.contains('\t') {
+        Some("this file cannot have comments; each line is {}")
+    } else if text.contains('\t') {
         Some("the line has a tab; use single spaces")
     } else if text.starts_with(' ') {
         Some("the line begins with a space")
@@ -116,13 +101,20 @@ fn tell_verb(verb: &str, hint: &HintText) {
     hint.end_one("; each line is {}", FORMS);
 }
 
+/// Says that a line names no receiver or group.
+fn tell_unknown(kind: &str, name: &str, names: &[String], hint: &HintText) {
+    hint.begin(": ");
+    say_unknown(kind, name, names, hint);
+    hint.end("");
+}
+
 /// Says what is wrong with a receiver and a word.
 pub fn tell_arrival(line: &LineEvidence, text: &str, hint: &HintText) {
     let (receiver, word) = cut(text);
     if has_name(&line.receivers, receiver) {
         tell_word(word, hint);
     } else {
-        tell_names("receiver", receiver, &line.receivers, hint);
+        tell_unknown("receiver", receiver, &line.receivers, hint);
     }
 }
 

@@ -1,24 +1,12 @@
 //! Hints about the rows of `survey --table`.
 
 use crate::hint::HintText;
+use crate::lists::text_in;
 use a429_logs::TimeUnit;
 use a429_text::{Row, Sheet};
 
 /// Fewer rows say nothing of units or labels.
-const FEWEST_ROWS: u64 = 3;
-
-/// The column of what the table says: the last.
-fn says_column(sheet: &Sheet) -> usize {
-    sheet.columns.len().saturating_sub(1)
-}
-
-/// The text of a row in a column; empty if there is none.
-fn text_of(row: &Row, column: usize) -> &str {
-    match row.text(column) {
-        Ok(Some(text)) => str::from_utf8(text).unwrap_or(""),
-        _ => "",
-    }
-}
+const FEWEST_ROWS: usize = 3;
 
 /// Whether a name is for this line: its name, or that and a full stop before more.
 fn is_on(name: &str, line: &str) -> bool {
@@ -28,69 +16,34 @@ fn is_on(name: &str, line: &str) -> bool {
 
 /// Whether a row shows that the table expects something under a name.
 fn is_known_by(row: &Row, says: usize, name: &str) -> bool {
-    match text_of(row, says) {
-        "missing" => is_on(name, text_of(row, 0)),
-        "expected" | "fast" | "slow" => text_of(row, 0) == name,
+    match text_in(row, says) {
+        "missing" => is_on(name, text_in(row, 0)),
+        "expected" | "fast" | "slow" => text_in(row, 0) == name,
         _ => false,
     }
 }
 
-/// Whether one of these rows shows it.
-fn is_known(rows: &[Row], says: usize, name: &str) -> bool {
-    rows.iter().any(|row| is_known_by(row, says, name))
+/// Of how many rows the table says this.
+fn count_of(rows: &[Row], says: usize, word: &str) -> usize {
+    rows.iter().filter(|row| text_in(row, says) == word).count()
 }
 
-/// How many rows of words are taken by a source or an output, how many of these come too fast, and how many rows none takes.
-#[derive(Clone, Copy)]
-struct Taken {
-    taken: u64,
-    fast: u64,
-    unexpected: u64,
-}
-
-impl Taken {
-    /// These, and the row of which the table says this.
-    fn and(self, said: &str) -> Taken {
-        match said {
-            "expected" | "slow" => Taken {
-                taken: self.taken.saturating_add(1),
-                ..self
-            },
-            "fast" => Taken {
-                taken: self.taken.saturating_add(1),
-                fast: self.fast.saturating_add(1),
-                ..self
-            },
-            "unexpected" => Taken {
-                unexpected: self.unexpected.saturating_add(1),
-                ..self
-            },
-            _ => self,
-        }
+/// Says whether nearly all words come too fast, or most are none of the table's.
+fn tell_counts(unit: Option<TimeUnit>, rows: &[Row], says: usize, hint: &HintText) {
+    let fast = count_of(rows, says, "fast");
+    let fit = count_of(rows, says, "expected").saturating_add(count_of(rows, says, "slow"));
+    let taken = fit.saturating_add(fast);
+    if unit.is_none() && fast >= FEWEST_ROWS && fast >= taken - taken / 10 {
+        hint.say_line(
+            "nearly all words come too fast: if the times are milliseconds, give --time ms",
+        );
     }
-
-    /// Whether nearly all words come too fast.
-    fn look_fast(self) -> bool {
-        self.fast >= FEWEST_ROWS && self.fast >= self.taken - self.taken / 10
+    let unexpected = count_of(rows, says, "unexpected");
+    if unexpected >= FEWEST_ROWS && unexpected > taken {
+        hint.say_line(
+            "most labels are not in the table: perhaps a name is that of another line, TABLE is of another revision, or the bits of labels are reversed; then give --reversed label",
+        );
     }
-
-    /// Whether most words are none of the table's.
-    fn look_foreign(self) -> bool {
-        self.unexpected >= FEWEST_ROWS && self.unexpected > self.taken
-    }
-}
-
-/// How the table takes the rows.
-fn taken_of(rows: &[Row], says: usize) -> Taken {
-    let mut all = Taken {
-        taken: 0,
-        fast: 0,
-        unexpected: 0,
-    };
-    for row in rows {
-        all = all.and(text_of(row, says));
-    }
-    all
 }
 
 /// Says what may be wrong with a log, by the rows of `survey --table`: names that are none of the table's, another unit of
@@ -99,27 +52,19 @@ pub fn tell_survey(unit: Option<TimeUnit>, sheet: &Sheet, hint: &HintText) {
     let Ok(rows) = sheet.rows.as_slice() else {
         return hint.give_up();
     };
-    let says = says_column(sheet);
+    // what the table says is in the last column
+    let says = sheet.columns.len().saturating_sub(1);
     tell_unknown_names(rows, says, hint);
-    let taken = taken_of(rows, says);
-    if taken.look_fast() && unit.is_none() {
-        hint.say_line(
-            "nearly all words come too fast: if the times are milliseconds, give --time ms",
-        );
-    }
-    if taken.look_foreign() {
-        hint.say_line(
-            "most labels are not in the table: perhaps a name is that of another line, TABLE is of another revision, or the bits of labels are reversed; then give --reversed label",
-        );
-    }
+    tell_counts(unit, rows, says, hint);
 }
 
 /// Says for which names of a log the table expects nothing.
 fn tell_unknown_names(rows: &[Row], says: usize, hint: &HintText) {
     for row in rows {
-        let name = text_of(row, 0);
+        let name = text_in(row, 0);
         // the row of all words has no label
-        if text_of(row, 1).is_empty() && !is_known(rows, says, name) {
+        let has_label = !text_in(row, 1).is_empty();
+        if !has_label && !rows.iter().any(|row| is_known_by(row, says, name)) {
             hint.line_two(
                 "the table expects nothing under the name {?}; to take it as a receiver or a group, give --channel {..}=NAME; to pass over its words, --ignore",
                 name,

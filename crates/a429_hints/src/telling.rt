@@ -7,7 +7,7 @@ use crate::faults::tell_table_fault;
 use crate::files::{REFUSED_OUTPUT, UTF_16, nth, tell_trouble};
 use crate::findings::{tell_changes, tell_findings};
 use crate::hint::HintText;
-use crate::imports::{tell_millis_group, tell_notes, tell_rows, tell_short_intervals};
+use crate::imports::{tell_millis, tell_rows};
 use crate::keeping::{kept_line, tell_kept, tell_moved};
 use crate::logs::tell_log_line;
 use crate::mistakes::{tell_habits, tell_nearest_word};
@@ -22,13 +22,11 @@ use a429_arguments::forms::{CommandForm, Verb};
 use a429_arguments::options::OptionName;
 use a429_arguments::requests::Asked;
 use a429_console::answered::{Answered, Found};
-use a429_console::files::FileTrouble;
 use a429_console::hints::Hints;
 use a429_console::hints::warnings::{FurtherCause, FurtherFault, Warning};
 use a429_console::refusals::evidence::{
     Evidence, LineEvidence, LogEvidence, TableEvidence, TableLook,
 };
-use a429_console::refusals::rows::RowsEvidence;
 use a429_console::refusals::{CommandRefusal, Refused};
 use a429_equipment::Equipment;
 use a429_table::FaultKind;
@@ -105,6 +103,12 @@ fn tell_found(asked: &Asked, found: &Sheet, hint: &HintText) {
     }
 }
 
+/// How intervals look that have no period, and may be milliseconds.
+const NO_PERIOD: &str = "1000 us, and none allows a period";
+
+/// How intervals look that fill a bus, and may be milliseconds.
+const FULL_BUS: &str = "5000 us, and one label takes a quarter of a bus or more";
+
 /// Says what a warning is about.
 fn tell_warning(asked: &Asked, warning: &Warning, hint: &HintText) {
     hint.turn_to(match warning {
@@ -118,9 +122,12 @@ fn tell_warning(asked: &Asked, warning: &Warning, hint: &HintText) {
     match warning {
         Warning::Further(fault) => tell_further_fault(asked, fault, hint),
         Warning::CloseWords(name) => tell_close_words(name.as_str(), asked.unit(), hint),
-        Warning::ShortIntervals(group) => tell_short_intervals(group.as_str(), maps, hint),
-        Warning::MillisGroup(group) => tell_millis_group(group.as_str(), maps, hint),
-        Warning::Notes(count) => tell_notes(*count, hint),
+        Warning::ShortIntervals(group) => tell_millis(group.as_str(), NO_PERIOD, maps, hint),
+        Warning::MillisGroup(group) => tell_millis(group.as_str(), FULL_BUS, maps, hint),
+        Warning::Notes(count) => hint.line_one(
+            "rows at the end without a label, which are passed over as notes: {}",
+            *count,
+        ),
         Warning::Kept(counts) => tell_kept(*counts, hint),
         Warning::Moved(output) => tell_moved(output, hint),
         Warning::Clock(clock) => tell_clock(asked.second, *clock, hint),
@@ -156,7 +163,11 @@ fn tell_refusal(asked: &Asked, refused: &Refused, hint: &HintText) {
     let refusal = refused.refusal();
     match refused.evidence() {
         Evidence::Nothing => tell_plain(asked, refusal, hint),
-        Evidence::File(trouble) => tell_of_file(refusal, *trouble, hint),
+        Evidence::File(trouble) => {
+            if let CommandRefusal::File(name) = refusal {
+                tell_trouble(*trouble, name.as_str(), hint);
+            }
+        }
         Evidence::Table { table, is_second } => {
             hint.turn_to(if *is_second {
                 asked.second
@@ -174,7 +185,10 @@ fn tell_refusal(asked: &Asked, refused: &Refused, hint: &HintText) {
         Evidence::Line(line) => tell_of_line(asked, line, None, hint),
         Evidence::Byte { line, byte } => tell_of_line(asked, line, Some(*byte), hint),
         Evidence::Log { line, log } => tell_of_log(asked, line, log, hint),
-        Evidence::Rows(rows) => tell_of_rows(asked, refusal, rows, hint),
+        Evidence::Rows(rows) => {
+            hint.turn_to(text_name(asked));
+            tell_rows(asked, refusal, rows, hint);
+        }
         Evidence::Threads(threads) => tell_of_run(asked, refusal, *threads, hint),
     }
 }
@@ -192,20 +206,6 @@ fn tell_plain(asked: &Asked, refusal: &CommandRefusal, hint: &HintText) {
             hint.turn_to(sent_name(asked));
             tell_apart(asked.second, asked.more.is_empty(), hint);
         }
-        _ => tell_of_words(asked, refusal, hint),
-    }
-}
-
-/// Says why a file cannot be read.
-fn tell_of_file(refusal: &CommandRefusal, trouble: FileTrouble, hint: &HintText) {
-    if let CommandRefusal::File(name) = refusal {
-        tell_trouble(trouble, name.as_str(), hint);
-    }
-}
-
-/// Says what is wrong with an argument.
-fn tell_of_words(asked: &Asked, refusal: &CommandRefusal, hint: &HintText) {
-    match refusal {
         CommandRefusal::WordText => tell_word_text(asked.first, hint),
         CommandRefusal::Parity => tell_even_word(asked.first, hint),
         CommandRefusal::LabelText => tell_label_text(asked.first, hint),
@@ -231,12 +231,6 @@ fn tell_of_log(asked: &Asked, line: &LineEvidence, log: &LogEvidence, hint: &Hin
     hint.turn_to(log_name(asked, log.number));
     hint.turn_to_line(line.number);
     tell_log_line(line, log, asked.texts(OptionName::Channel), hint);
-}
-
-/// Says what is wrong with rows of comma-separated values.
-fn tell_of_rows(asked: &Asked, refusal: &CommandRefusal, rows: &RowsEvidence, hint: &HintText) {
-    hint.turn_to(text_name(asked));
-    tell_rows(asked, refusal, rows, hint);
 }
 
 /// Says that a log is too long, or that an image is too high.

@@ -1,6 +1,6 @@
 //! Rows that clash with an earlier row of the same array.
 
-use crate::rows::TableRow;
+use crate::rows::{TableRow, integer_at};
 use a429_table::{FaultKind, TablePlace, rows_at, text_at};
 use toml::Value;
 
@@ -34,13 +34,14 @@ fn are_twins(root: &Value, kind: FaultKind, a: &Value, b: &Value) -> bool {
     match kind {
         FaultKind::DuplicateName => have_same(a, b, "name"),
         FaultKind::DuplicateSource => {
+            let (sdi, other) = (integer_at(a, "sdi"), integer_at(b, "sdi"));
             have_same(a, b, "receiver")
                 && have_same(a, b, "label")
-                && (sdi_of(a) == sdi_of(b) || sdi_of(a).is_none() || sdi_of(b).is_none())
+                && (sdi == other || sdi.is_none() || other.is_none())
         }
         FaultKind::DuplicateOutput => {
             let (a, b) = (source_of(root, a), source_of(root, b));
-            have_same(a, b, "label") && sdi_of(a) == sdi_of(b)
+            have_same(a, b, "label") && integer_at(a, "sdi") == integer_at(b, "sdi")
         }
         _ => false,
     }
@@ -50,20 +51,11 @@ fn have_same(a: &Value, b: &Value, key: &str) -> bool {
     text_at(a, key) == text_at(b, key)
 }
 
-/// The SDI of a source; `None` is any.
-fn sdi_of(source: &Value) -> Option<i64> {
-    match source.get("sdi") {
-        Some(Value::Integer(number)) => Some(*number),
-        _ => None,
-    }
-}
-
 /// The source that an output names; the output itself if there is none.
 fn source_of<'a>(root: &'a Value, output: &'a Value) -> &'a Value {
-    for source in rows_at(root, "source") {
-        if text_at(source, "name") == text_at(output, "source") {
-            return source;
-        }
-    }
-    output
+    let mut sources = rows_at(root, "source").iter();
+    let name = text_at(output, "source");
+    sources
+        .find(|source| text_at(source, "name") == name)
+        .unwrap_or(output)
 }

@@ -25,10 +25,8 @@ pub fn tell_word_text(text: &str, hint: &HintText) {
 /// The digits after 0x, if they are those of a word.
 fn digits_after_0x(text: &str) -> Option<&str> {
     let digits = text.strip_prefix("0x").or(text.strip_prefix("0X"))?;
-    match raw_word(digits.as_bytes()) {
-        Some(_) => Some(digits),
-        None => None,
-    }
+    raw_word(digits.as_bytes())?;
+    Some(digits)
 }
 
 /// Says how many ones a word of even parity has, and which word it is with the other parity bit.
