@@ -2,8 +2,9 @@
 
 use crate::hint::HintText;
 use crate::nearest::Nearest;
-use crate::rows::{short_text, text_at};
+use crate::rows::short_text;
 use a429_import::CsvLine;
+use a429_table::text_at;
 use a429_text::Row;
 use std::alloc::Global;
 use std::cmp::min;

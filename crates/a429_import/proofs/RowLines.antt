@@ -14,9 +14,10 @@ use Rattle.csv.specs.declared.parser.Action.{Action}
 use Rattle.csv.specs.declared.parser.Action.TheVariants as act
 use Rattle.csv.specs.declared.parser.State.{State}
 use Rattle.csv.specs.declared.parser.State.TheVariants as st
+use Rattle.a429_text.specs.CutText.{without_byte_order_mark}
 use Rattle.a429_import.specs.declared.lines.LineCount.{LineCount}
 use Rattle.a429_import.specs.declared.lines.Part.{Part}
-use Rattle.a429_import.specs.ImportForms.{count_before, ends_line, from_heading, from_line, heading_among, heading_of, is_heading, later_lines, quoted_len, separators, without_byte_order_mark}
+use Rattle.a429_import.specs.ImportForms.{count_before, ends_line, from_heading, from_line, heading_among, heading_of, is_heading, later_lines, quoted_len, separators}
 use Rattle.a429_import.specs.ImportSteps.{ended_by, ends_row}
 use Rattle.a429_import.specs.Imports.{separated}
 use Rattle.a429_import.specs.LineCounts.{HasCounted, IsEnd, after_return, begins_with_end, is_between, row_end}

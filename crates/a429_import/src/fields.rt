@@ -1,13 +1,12 @@
 //! The values of fields.
 ghost use Rattle.std.specs.Prelude.{◌≡◌, ◌<◌, ◌==◌, is_some, option_map, position, slice_get};
-ghost use Rattle.std.specs.Char.{is_ascii_digit};
 ghost use Rattle.std.specs.List.{list_all};
 ghost use Rattle.a429_filter.specs.FilterTexts.{filter_read};
 ghost use Rattle.a429_import.specs.ImportFields.{are_filters, are_micros, digit_of, filters_in, has_thousands, hold_in, if_group, is_any, is_mark, label_in, may_be_thousands, micros_in, millis_in, number_in, sdi_digits, sdi_in, text_in, together, utf8_in};
 
 use crate::plain::{is_text, unwrapped};
 use a429_filter::Filter;
-use a429_word::{Label, Sdi, decimal_number};
+use a429_word::{Label, Sdi, are_digits, decimal_number};
 
 /// The number in a field: one to ten decimal digits without leading zeros, below 2^32. `None` for any other field.
 #[tactic(auto, unfolding(crate::specs::ImportFields::number_in))]
@@ -35,12 +34,6 @@ fn digit_at(digits: &[u8], place: usize) -> u32
         Some(digit) if digit.is_ascii_digit() => u32::from(*digit - b'0'),
         _ => 0,
     }
-}
-
-fn are_digits(digits: &[u8]) -> bool
-    ensures { result ≡ list_all is_ascii_digit digits.now }
-{
-    digits.iter().all(|digit| digit.is_ascii_digit())
 }
 
 fn are_zeros(digits: &[u8]) -> bool

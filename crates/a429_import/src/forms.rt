@@ -1,11 +1,7 @@
 //! The heading of a text: its line, and what separates its fields.
 ghost use Rattle.std.specs.Prelude.{◌≡◌, ◌≤◌, ◌+◌, ◌==◌, ◌&&◌, ◌||◌, IfSome, false, drop, length, not, option_map, position};
 ghost use Rattle.std.specs.List.{find};
-<<<<<<< HEAD
-ghost use Rattle.a429_import.specs.ImportForms.{after_separator, closed_len, count_before, ends_field, ends_line, field_len, from_heading, from_line, heading_among, is_heading, later_lines, len_before, names_column, quoted_len, quotes_end, separator_in, separators};
-=======
-ghost use Rattle.a429_import.specs.ImportForms.{after_separator, count_before, ends_field, ends_line, field_len, from_heading, from_line, heading_among, is_heading, later_lines, len_before, names_column, quoted_len, quotes_end, separator_in, separators, without_byte_order_mark};
->>>>>>> 798af65d3693ef0c495d96a5654588a42b6c60cb
+ghost use Rattle.a429_import.specs.ImportForms.{after_separator, count_before, ends_field, ends_line, field_len, from_heading, from_line, heading_among, is_heading, later_lines, len_before, names_column, quoted_len, quotes_end, separator_in, separators};
 ghost use Rattle.a429_import.specs.ImportMaps.{given_texts};
 ghost use Rattle.a429_import.specs.ImportQuotes.{text_before};
 
@@ -236,18 +232,8 @@ pub fn form_of<'a>(maps: &[&str], text: &'a [u8]) -> Form<'a>
     ensures separator { result.separator ≡ separator_in (given_texts maps.now) text.now }
     ensures text { result.text.now ≡ from_heading (given_texts maps.now) text.now }
 {
-<<<<<<< HEAD
-    match heading_among(maps, 11, from_line(without_byte_order_mark(text))) {
-        Some(form) => form,
-        None => Form {
-            separator: b',',
-            text,
-        },
-    }
-=======
-    heading_among(maps, 11, from_line(without_mark(text))).unwrap_or(Form {
+    heading_among(maps, 11, from_line(without_byte_order_mark(text))).unwrap_or(Form {
         separator: b',',
         text,
     })
->>>>>>> 798af65d3693ef0c495d96a5654588a42b6c60cb
 }

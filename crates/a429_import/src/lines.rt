@@ -13,13 +13,8 @@ ghost use Rattle.a429_import.specs.LineCounts.{HasCounted, IsBefore, IsEnd, begi
 ghost use Rattle.a429_import.specs.RowLines.{ends_here, from_row, line_of};
 
 use crate::blanks::trimmed_row;
-<<<<<<< HEAD
 use crate::forms::{Form, ends_line};
-use crate::steps::{Part, ends_row, pass};
 use a429_text::cut::without_byte_order_mark;
-=======
-use crate::forms::{Form, ends_line, without_mark};
->>>>>>> 798af65d3693ef0c495d96a5654588a42b6c60cb
 use csv::{ByteRecord, ByteRecordsIntoIter, Error, ReaderBuilder};
 use std::alloc::{AllocError, Global};
 
@@ -288,13 +283,7 @@ pub fn count_before(text: &[u8], end: &[u8]) -> LineCount
     requires { IsEnd text.now end.now }
     ensures { IsBefore text.now end.now result }
 {
-<<<<<<< HEAD
-    let mut count = LineCount::new();
-    count.pass_to(text, text.len() - without_byte_order_mark(end).len());
-    count
-=======
-    LineCount::before(text, text.len() - without_mark(end).len())
->>>>>>> 798af65d3693ef0c495d96a5654588a42b6c60cb
+    LineCount::before(text, text.len() - without_byte_order_mark(end).len())
 }
 
 /// The line on which the first row of an end of a text begins, counted from 1.

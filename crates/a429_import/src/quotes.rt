@@ -7,15 +7,9 @@ ghost use Rattle.a429_import.specs.ImportSteps.{ends_field, state_of};
 ghost use Rattle.a429_import.specs.Imports.{separated};
 ghost use Rattle.a429_import.specs.LineCounts.{IsEnd};
 
-<<<<<<< HEAD
 use crate::forms::{Form, from_place, text_before};
-use crate::lines::line_at;
-use crate::steps::{Ended, Part, pass};
-use a429_text::cut::without_byte_order_mark;
-=======
-use crate::forms::{Form, from_place, text_before, without_mark};
 use crate::lines::{Ended, Part, line_at, pass};
->>>>>>> 798af65d3693ef0c495d96a5654588a42b6c60cb
+use a429_text::cut::without_byte_order_mark;
 
 fn is_inside_quotes(part: Part) -> bool
     ensures { result ≡ is_inside_quotes (state_of part) }

@@ -1,5 +1,5 @@
 use Rattle.std.proofs.Common.{◌∙◌, ◌-◌, ℕ, List, ap, drop, length, sym}
-use Rattle.a429_import.specs.ImportForms.{without_byte_order_mark}
+use Rattle.a429_text.specs.CutText.{without_byte_order_mark}
 use Rattle.a429_import.specs.ImportSteps.{state_of}
 use Rattle.a429_import.proofs.ImportQuotes.{same_mark}
 use Rattle.a429_import.proofs.RowLines.{end_of, end_place, mark_end}
@@ -13,6 +13,6 @@ returns c =
       counted = c.before-2.ensures.counted;
       start = c.before-2.ensures.start;
       rest =
-          ap (λ (n : ℕ). drop n text) c.before-2.ensures.at ∙ ap (λ (xs : List ℕ). drop (length text - length xs) text) c.without_mark.ensures
+          ap (λ (n : ℕ). drop n text) c.before-2.ensures.at ∙ ap (λ (xs : List ℕ). drop (length text - length xs) text) c.without_byte_order_mark.ensures
           ∙ end_place text (without_byte_order_mark end) (end_of text end (without_byte_order_mark end) c.requires (mark_end end)) ∙ sym (same_mark end);
     }
