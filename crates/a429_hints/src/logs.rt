@@ -8,7 +8,8 @@ use crate::rows::short_text;
 use crate::scripts::{NOT_UTF8, is_script_word, tell_no_word};
 use a429_console::refusals::evidence::{LineEvidence, LogEvidence, LogRefusal};
 use a429_logs::{
-    Column, Fields, HeadingFault, LineFault, Mark, Places, RowFault, TimeUnit, Width, WordPlaces,
+    Column, Fields, HeadingFault, LineFault, Places, RowFault, Separator, TimeUnit, Width,
+    WordPlaces,
 };
 use a429_text::renames::renamed;
 
@@ -20,7 +21,7 @@ const ARGUMENT: usize = 48;
 struct ReadLine<'a> {
     line: &'a LineEvidence,
     text: &'a str,
-    mark: Mark,
+    separator: Separator,
     unit: TimeUnit,
     places: Places,
     /// As which names channels are taken.
@@ -30,7 +31,7 @@ struct ReadLine<'a> {
 impl<'a> ReadLine<'a> {
     /// The field in a place.
     fn field(&self, place: usize) -> &'a str {
-        field_of(self.text, self.mark, place)
+        field_of(self.text, self.separator, place)
     }
 
     /// The channel of its word.
@@ -44,9 +45,9 @@ impl<'a> ReadLine<'a> {
     }
 }
 
-/// The field of a text with this mark in a place.
-fn field_of(text: &str, mark: Mark, place: usize) -> &str {
-    let mut fields = Fields::of(mark, text.as_bytes());
+/// The field of a text with this separator in a place.
+fn field_of(text: &str, separator: Separator, place: usize) -> &str {
+    let mut fields = Fields::of(separator, text.as_bytes());
     for passed in 0..place {
         if fields.next().is_none() {
             return "";
@@ -77,14 +78,14 @@ pub fn tell_log_line<'a>(
     let Ok(text) = str::from_utf8(&line.bytes) else {
         return hint.say_line(NOT_UTF8);
     };
-    let (mark, unit, places) = match log.shape {
-        Some(shape) => (shape.mark, shape.unit, shape.places),
-        None => (Mark::in_line(text.as_bytes()), log.unit, PLAIN),
+    let (separator, unit, places) = match log.shape {
+        Some(shape) => (shape.separator, shape.unit, shape.places),
+        None => (Separator::in_line(text.as_bytes()), log.unit, PLAIN),
     };
     let read = ReadLine {
         line,
         text,
-        mark,
+        separator,
         unit,
         places,
         channels,
@@ -279,16 +280,16 @@ fn tell_word(read: &ReadLine<'_>, fault: RowFault, hint: &HintText) {
 
 /// Says how many fields a line has, and how many it has to have.
 fn tell_count(read: &ReadLine<'_>, hint: &HintText) {
-    let marks = match read.mark {
-        Mark::Semicolon => "semicolons",
-        Mark::Comma => "commas",
+    let separators = match read.separator {
+        Separator::Semicolon => "semicolons",
+        Separator::Comma => "commas",
         _ => "blanks",
     };
     hint.line_three(
         "the number of fields is {}, not {}; fields are separated by {}",
-        Width::of(read.mark, read.text.as_bytes()).all,
+        Width::of(read.separator, read.text.as_bytes()).all,
         read.places.width.all,
-        marks,
+        separators,
     );
 }
 
@@ -340,7 +341,7 @@ fn tell_time(read: &ReadLine<'_>, hint: &HintText) {
 
 /// Says that a time is less than the time before it.
 fn tell_fall(read: &ReadLine<'_>, hint: &HintText) {
-    let earlier = field_of(text_of(&read.line.before), read.mark, read.places.time);
+    let earlier = field_of(text_of(&read.line.before), read.separator, read.places.time);
     hint.begin(": ");
     hint.say_one("the time {..} is less than ", read.field(read.places.time));
     if let [b'0'..=b'9', ..] = earlier.as_bytes() {

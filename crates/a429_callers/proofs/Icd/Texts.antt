@@ -12,9 +12,10 @@ use Rattle.csv.specs.declared.parser.State.{State}
 use Rattle.csv.specs.declared.parser.State.TheVariants as st
 use Rattle.csv.proofs.RoundTrip.{read-write}
 use Rattle.a429_import.specs.declared.lines.CsvLine.{CsvLine}
+use Rattle.a429_text.specs.CutText.{without_byte_order_mark}
 use Rattle.a429_text.specs.Sheets.{csv_text_of}
 use Rattle.a429_documents.specs.Document.{icd_columns}
-use Rattle.a429_import.specs.ImportForms.{ends_line, from_heading, from_line, heading_among, heading_of, is_heading, len_before, names_in_row, separator_in, separators, without_byte_order_mark}
+use Rattle.a429_import.specs.ImportForms.{ends_line, from_heading, from_line, heading_among, heading_of, is_heading, len_before, names_in_row, separator_in, separators}
 use Rattle.a429_import.specs.ImportRows.{is_named}
 use Rattle.a429_import.specs.ImportWords.{stepped, trimmed}
 use Rattle.a429_import.specs.Imports.{AreLines, has_row_above, has_text, is_misquoted_text, separated}
