@@ -14,7 +14,7 @@ use Rattle.a429_arguments.specs.contracts.options.OptionName.{the_type as option
 use Rattle.a429_arguments.specs.declared.command_line.Given.{Given}
 use Rattle.a429_arguments.specs.declared.command_line.Given.TheVariants as thing
 use Rattle.a429_arguments.specs.declared.forms.Answers.{Answers}
-use Rattle.a429_arguments.specs.declared.forms.CommandForm.{CommandForm}
+use Rattle.a429_arguments.specs.declared.command_forms.CommandForm.{CommandForm}
 use Rattle.a429_arguments.specs.declared.options.OptionKind.{OptionKind}
 use Rattle.a429_arguments.specs.declared.options.OptionKind.TheVariants as given
 use Rattle.a429_arguments.specs.declared.options.OptionName.{OptionName}

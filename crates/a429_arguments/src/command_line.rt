@@ -3,8 +3,9 @@ ghost use Rattle.std.specs.Prelude.{◌≡◌, ◌∷◌, [], IfOk, Some, fold, 
 ghost use Rattle.clap.specs.Words.{HasKind, app_of, kind_of, new_app, with_rule, with_subcommand};
 ghost use Rattle.a429_arguments.specs.CommandLine.{HasRule, bare_line, command_line, form_row, given_rule, option_rule, name_id, row_app, row_of, with_any, with_commands};
 
-use crate::forms::{COMMANDS, CommandForm, MOST_FRAMES, Row, Verb};
-use crate::help::{CommandHelp, VERSION, help_of, option_help};
+use crate::command_forms::CommandForm;
+use crate::forms::{COMMANDS, CommandHelp, MOST_FRAMES, Row, Verb, help_of};
+use crate::help::{VERSION, option_help};
 use crate::options::{OptionHelp, OptionKind, OptionName};
 use crate::program_help::PROGRAM;
 use clap::builder::ValueParser;

@@ -11,6 +11,7 @@
 //! ```
 #![tactic(auto)]
 
+pub mod command_forms;
 pub mod command_line;
 pub mod forms;
 pub mod given;

@@ -8,8 +8,9 @@ ghost use Rattle.a429_arguments.specs.Requests.{AskedBytes, IsRead, asked_of};
 ghost use Rattle.a429_arguments.specs.RequestRows.{AreGivenTexts, AsksFor, IsFound, IsGivenText};
 ghost use Rattle.a429_arguments.specs.Usage.{ComesTo, elsewhere, found_kinds, is_live, is_run, kinds_of_words, live_kinds_of_words};
 
+use crate::command_forms::command_named;
 use crate::command_line::{build_command, words_error};
-use crate::forms::{MOST_FRAMES, Verb, command_named};
+use crate::forms::{MOST_FRAMES, Verb};
 use crate::options::{OptionKind, OptionName};
 use crate::rules::fault_of;
 use crate::times::{

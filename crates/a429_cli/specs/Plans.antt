@@ -1,6 +1,7 @@
 -- The commands on the plan of one table: what they write, their status, and when they are refused (profile: output).
-use Rattle.std.specs.Prelude.{◌≡◌, ◌⊎◌, ℕ, List, Bool, true, false, Option, None, Result, Ok, Err}
+use Rattle.std.specs.Prelude.{◌≡◌, ◌⊎◌, ℕ, List, Bool, true, false, Option, None, MatchOption, Result, Ok, Err}
 use Rattle.std.specs.declared.alloc.AllocError.{AllocError}
+use Rattle.a429_arguments.specs.CommandLine.{row_of}
 use Rattle.a429_arguments.specs.Given.{Given, form_of, has_given, number_given, text_given}
 use Rattle.a429_arguments.specs.Requests.{AskedBytes}
 use Rattle.a429_arguments.specs.declared.options.OptionName.TheVariants as option
@@ -12,9 +13,8 @@ use Rattle.a429_documents.specs.Document.{icd_columns, icd_rows}
 use Rattle.a429_documents.specs.KeptColumns.{kept_sheet, kept_texts}
 use Rattle.a429_documents.specs.Margins.{IsMargin, margin_columns}
 use Rattle.a429_documents.specs.PlanRows.{plan_columns, plan_rows}
-use Rattle.a429_documents.specs.PlanSheets.{sheet_columns, sheet_rows}
+use Rattle.a429_documents.specs.PlanSheets.{sheet_columns, sheet_named, sheet_rows}
 use Rattle.a429_documents.specs.declared.sheets.PlanSheet.{PlanSheet}
-use Rattle.a429_documents.specs.declared.sheets.PlanSheet.TheVariants as sheet
 use Rattle.a429_cert.specs.PlanText.{plan_text_of}
 use Rattle.a429_equipment.specs.TableRecord.{TableRecord}
 use Rattle.a429_slots.specs.Tables.{PlanTable}
@@ -40,17 +40,21 @@ told_plan form e p = sheet_text form plan_columns (plan_rows e p)
 abbrev pub IsSheet : PlanSheet → SheetForm → Proposed → ℕ → List ℕ → Type 0
 IsSheet s form q status text = (text ≡ sheet_text form (sheet_columns s) (sheet_rows s q.station q.plan None)) × (status ≡ 0)
 
--- its status, and the bytes about a proposal of a table
-abbrev pub IsReplyOnPlan : Verb → Given → List ℕ → Proposed → ℕ → List ℕ → Type 0
-IsReplyOnPlan verb.Plan given table q status text = (text ≡ told_plan (form_of given) q.station q.plan) × (status ≡ 0)
-IsReplyOnPlan verb.Icd given table q status text = (text ≡ kept_sheet (form_of given) (kept_texts table) icd_columns 2 (icd_rows (has_given given option.Text) q.station q.plan)) × (status ≡ 0)
-IsReplyOnPlan verb.Margin given table q status text =
+-- its status, and the bytes about a proposal of a table, of a command that has no sheet of its name
+abbrev pub IsOtherReply : Verb → Given → List ℕ → Proposed → ℕ → List ℕ → Type 0
+IsOtherReply verb.Plan given table q status text = (text ≡ told_plan (form_of given) q.station q.plan) × (status ≡ 0)
+IsOtherReply verb.Icd given table q status text = (text ≡ kept_sheet (form_of given) (kept_texts table) icd_columns 2 (icd_rows (has_given given option.Text) q.station q.plan)) × (status ≡ 0)
+IsOtherReply verb.Margin given table q status text =
     ((rows : List (List Field)) × IsMargin q.station q.plan rows × (text ≡ sheet_text (form_of given) margin_columns rows)) × (status ≡ 0)
-IsReplyOnPlan verb.Load given table q status text = IsLoad q (limit_of (number_given given option.Limit)) (form_of given) status text
-IsReplyOnPlan verb.Slots given table q status text = HasSlots (slots_form given) table q (text_given given option.Group) status text
-IsReplyOnPlan verb.Buses given table q status text = IsSheet sheet.Buses (form_of given) q status text
-IsReplyOnPlan verb.Draw given table q status text = HasImage q (text_given given option.Group) (picture_of given) × (status ≡ 0)
-IsReplyOnPlan _ given table q status text = ⊥
+IsOtherReply verb.Load given table q status text = IsLoad q (limit_of (number_given given option.Limit)) (form_of given) status text
+IsOtherReply verb.Slots given table q status text = HasSlots (slots_form given) table q (text_given given option.Group) status text
+IsOtherReply verb.Draw given table q status text = HasImage q (text_given given option.Group) (picture_of given) × (status ≡ 0)
+IsOtherReply _ given table q status text = ⊥
+
+-- the same of each command: one that has the name of a sheet writes that sheet
+abbrev pub IsReplyOnPlan : Verb → Given → List ℕ → Proposed → ℕ → List ℕ → Type 0
+IsReplyOnPlan v given table q status text =
+    MatchOption (sheet_named (row_of v).name) (IsOtherReply v given table q status text) (λ s. IsSheet s (form_of given) q status text)
 
 -- why it writes nothing about a proposal
 abbrev pub IsNoReplyOnPlan : Verb → Given → Proposed → CommandRefusal → Type 0

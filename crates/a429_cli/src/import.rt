@@ -13,11 +13,11 @@ use a429_console::files::reading::read_file;
 use a429_console::hints::warnings::Warning;
 use a429_console::refusals::evidence::Evidence;
 use a429_console::refusals::kinds::CsvKind;
-use a429_console::refusals::rows::{RowEvidence, RowsEvidence};
+use a429_console::refusals::rows::RowsEvidence;
 use a429_console::refusals::{CommandRefusal, Refused};
 use a429_console::reply::Reply;
 use a429_import::{
-    CsvFaultKind, CsvLine, ImportFault, ImportOptions, Imported, RefusedRows, Watch, heading_texts,
+    CsvFaultKind, ImportFault, ImportOptions, Imported, RefusedRows, Watch, heading_texts,
     import_table, keep_texts,
 };
 use a429_table::TableFault;
@@ -61,32 +61,8 @@ fn column_name(fault: &ImportFault) -> Option<&'static str> {
     }
 }
 
-/// A row, for a hint.
-fn row_evidence(line: CsvLine) -> RowEvidence {
-    let CsvLine {
-        number,
-        separator,
-        fields,
-    } = line;
-    RowEvidence {
-        number,
-        separator,
-        fields,
-    }
-}
-
-/// Rows, for a hint. Error: an allocation failed.
-fn all_evidence(alloc: Global, lines: Vec<CsvLine>) -> Result<Vec<RowEvidence>, AllocError> {
-    let mut rows = Vec::new(alloc);
-    for line in lines {
-        rows.push(row_evidence(line))?;
-    }
-    Ok(rows)
-}
-
 /// Rows that are refused, for a hint. Error: an allocation failed.
 fn rows_evidence(
-    alloc: Global,
     bytes: Vec<u8>,
     column: Option<&'static str>,
     refused: RefusedRows,
@@ -102,12 +78,12 @@ fn rows_evidence(
         ..
     } = refused;
     Ok(RowsEvidence {
-        rows: all_evidence(alloc, rows)?,
-        faulty: all_evidence(alloc, faulty)?,
-        titles: titles.map(row_evidence),
-        heading: heading.map(row_evidence),
         bytes,
         column,
+        titles,
+        heading,
+        rows,
+        faulty,
         count,
         is_misquoted,
     })
@@ -124,7 +100,7 @@ fn evidence_of(
         Some(refused) => refused,
         None => RefusedRows::new(alloc),
     };
-    match rows_evidence(alloc, bytes, column_name(fault), refused) {
+    match rows_evidence(bytes, column_name(fault), refused) {
         Ok(rows) => Evidence::Rows(rows),
         Err(_) => Evidence::Nothing,
     }

@@ -1,16 +1,17 @@
 //! The commands on the plan of one table: `plan`, `icd`, `margin`, `load`, `slots`, `buses` and `draw`.
-ghost use Rattle.std.specs.Prelude.{◌≡◌, List, true, IfOk};
+ghost use Rattle.std.specs.Prelude.{◌≡◌, List, None, true, IfOk};
 ghost use Rattle.a429_console.specs.Readings.{HasRead};
 ghost use Rattle.a429_arguments.specs.Requests.{asked_of};
+ghost use Rattle.a429_arguments.specs.CommandLine.{row_of};
 ghost use Rattle.a429_arguments.specs.Usage.{is_on_plan};
 ghost use Rattle.a429_documents.specs.Document.{icd_columns, icd_rows};
 ghost use Rattle.a429_documents.specs.KeptColumns.{kept_sheet, kept_texts};
 ghost use Rattle.a429_documents.specs.Margins.{IsMargin, margin_columns};
-ghost use Rattle.a429_documents.specs.PlanSheets.{HasLimit};
+ghost use Rattle.a429_documents.specs.PlanSheets.{HasLimit, sheet_named};
 ghost use Rattle.a429_text.specs.Fields.{Field};
 ghost use Rattle.a429_text.specs.Sheets.{sheet_text};
 ghost use Rattle.a429_given.specs.GivenTables.{table_texts};
-ghost use Rattle.a429_cli.specs.Plans.{IsNoPlanReply, IsNoReplyOnPlan, IsNoReplyToTable, IsPlanReply, IsReplyOnPlan, IsReplyToTable, IsSheet, or_no_memory, told_plan};
+ghost use Rattle.a429_cli.specs.Plans.{IsNoPlanReply, IsNoReplyOnPlan, IsNoReplyToTable, IsOtherReply, IsPlanReply, IsReplyOnPlan, IsReplyToTable, IsSheet, or_no_memory, told_plan};
 ghost use Rattle.a429_cli.specs.Stamping.{IsStamped, stamp_line};
 ghost use Rattle.a429_console.specs.WholeReplies.{Replies};
 
@@ -26,7 +27,9 @@ use a429_console::files::FileReader;
 use a429_console::planning::with_plan;
 use a429_console::refusals::{CommandRefusal, Refused};
 use a429_console::reply::Reply;
-use a429_documents::{PlanSheet, SOURCE, TableFile, margin_sheet, plan_sheet, render_kept};
+use a429_documents::{
+    PlanSheet, SOURCE, TableFile, margin_sheet, plan_sheet, render_kept, sheet_named,
+};
 use a429_given::{GivenTable, TableNames};
 use a429_slots::{OUTPUTS, Proposal};
 use a429_text::SheetForm;
@@ -112,15 +115,16 @@ pub fn plan_of(
     Ok(Reply::done(told_plan(alloc, proposal, form)?))
 }
 
-/// What a command writes about a proposal, and its status.
-fn reply_on_plan(
+/// What a command that has no sheet of its name writes about a proposal, and its status.
+fn other_reply(
     alloc: Global,
     asked: &Asked,
     file: TableFile<'_>,
     proposal: &Proposal<OUTPUTS>,
 ) -> Result<Reply, Refused>
-    requires { is_on_plan asked.now.verb ≡ true }
-    ensures { Replies (IsReplyOnPlan asked.now.verb (asked_of asked.now).given file.entry.bytes.now proposal.now)
+    requires plan { is_on_plan asked.now.verb ≡ true }
+    requires other { sheet_named (row_of asked.now.verb).name ≡ None }
+    ensures { Replies (IsOtherReply asked.now.verb (asked_of asked.now).given file.entry.bytes.now proposal.now)
         (IsNoReplyOnPlan asked.now.verb (asked_of asked.now).given proposal.now) result }
 {
     let form = asked.form();
@@ -142,7 +146,6 @@ fn reply_on_plan(
             asked.text(OptionName::Group),
             SlotsForm::of(asked),
         ),
-        Verb::Buses => or_no_memory(sheet_of(alloc, proposal, PlanSheet::Buses, form)),
         Verb::Draw => image_of(
             alloc,
             file,
@@ -151,6 +154,23 @@ fn reply_on_plan(
             Picture::of(asked),
         ),
         _ => unreachable!(),
+    }
+}
+
+/// What a command writes about a proposal, and its status: the sheet of its name, if there is one.
+fn reply_on_plan(
+    alloc: Global,
+    asked: &Asked,
+    file: TableFile<'_>,
+    proposal: &Proposal<OUTPUTS>,
+) -> Result<Reply, Refused>
+    requires { is_on_plan asked.now.verb ≡ true }
+    ensures { Replies (IsReplyOnPlan asked.now.verb (asked_of asked.now).given file.entry.bytes.now proposal.now)
+        (IsNoReplyOnPlan asked.now.verb (asked_of asked.now).given proposal.now) result }
+{
+    match sheet_named(asked.verb.form().name) {
+        Some(sheet) => or_no_memory(sheet_of(alloc, proposal, sheet, asked.form())),
+        None => other_reply(alloc, asked, file, proposal),
     }
 }
 

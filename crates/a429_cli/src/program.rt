@@ -1,9 +1,9 @@
 //! The whole program: from its arguments to a status.
-ghost use Rattle.std.specs.Prelude.{◌≡◌, false, map, string_bytes, true, IfOk};
+ghost use Rattle.std.specs.Prelude.{◌≡◌, map, string_bytes, IfOk};
 ghost use Rattle.a429_console.specs.Ends.{IsMemoryRefused, writing};
 ghost use Rattle.a429_arguments.specs.Texts.{texts_of};
 ghost use Rattle.a429_console.specs.Readings.{HasReadFrom};
-ghost use Rattle.a429_cli.specs.ProgramRuns.{HasRunProgram, IsCallDone, IsDoneOrRefused, is_live};
+ghost use Rattle.a429_cli.specs.ProgramRuns.{HasRunProgram, IsDoneOrRefused, is_live};
 
 use crate::commands::command;
 use crate::live::command_live;
@@ -55,47 +55,6 @@ fn refuse_without_memory<O: Output, V: Output>(out: &mut O, err: &mut V) -> u8
     }
 }
 
-/// Does the command `live`.
-fn answer_live<
-    'a,
-    H: Hints,
-    R: AllocGlobal + Threads + Wait,
-    F: FileReader,
-    O: Output,
-    V: Output,
-    P: Progress + Sync,
->(
-    rt: &R,
-    words: &'a [&'a str],
-    hints: &H,
-    files: &mut F,
-    out: &mut O,
-    err: &mut V,
-    progress: &P,
-) -> u8
-    ensures { IsCallDone true (texts_of words.entry.now) (record { tells = F.tells files.old; file = F.file files.old })
-        (λ Says. HasReadFrom F.answers Says files.old)
-        (writing O.contents O.failures O.is_flushed out.old out.new) (writing V.contents V.failures V.is_flushed err.old err.new) result }
-{
-    command_live(rt, rt.alloc(), words, hints, files, out, err, progress)
-}
-
-/// Does one of the other commands.
-fn answer<'a, H: Hints, F: FileReader, O: Output, V: Output>(
-    alloc: Global,
-    words: &'a [&'a str],
-    hints: &H,
-    files: &mut F,
-    out: &mut O,
-    err: &mut V,
-) -> u8
-    ensures { IsCallDone false (texts_of words.entry.now) (record { tells = F.tells files.old; file = F.file files.old })
-        (λ Says. HasReadFrom F.answers Says files.old)
-        (writing O.contents O.failures O.is_flushed out.old out.new) (writing V.contents V.failures V.is_flushed err.old err.new) result }
-{
-    command(alloc, words, hints, files, out, err)
-}
-
 /// Does what the arguments ask for. The status is the one that `command` answers, or `command_live` if the first
 /// argument is `live`.
 fn run_words<
@@ -114,9 +73,9 @@ fn run_words<
         return refuse_without_memory(out, err);
     };
     if is_live(&words) {
-        answer_live(rt, &words, hints, files, out, err, progress)
+        command_live(rt, rt.alloc(), &words, hints, files, out, err, progress)
     } else {
-        answer(rt.alloc(), &words, hints, files, out, err)
+        command(rt.alloc(), &words, hints, files, out, err)
     }
 }
 

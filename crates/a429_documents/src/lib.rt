@@ -18,9 +18,8 @@
 //! ```
 #![tactic(auto)]
 
-mod buses;
+mod cells;
 mod diff;
-mod document;
 mod drawing;
 mod kept;
 pub mod laws;
@@ -28,20 +27,18 @@ mod lint;
 mod load;
 mod margin;
 mod page;
-mod plan;
 mod planned;
 mod sheets;
 mod slots;
 mod stamps;
 
 pub use diff::diff_sheet;
-pub use document::SOURCE;
 pub use drawing::{CellMark, Drawing, DrawingFault, DrawingForm, draw_text};
 pub use kept::render_kept;
 pub use lint::{is_millis_group, lint_sheet};
 pub use load::is_any_above;
 pub use margin::margin_sheet;
 pub use page::{TableFile, page_text};
-pub use sheets::{PlanSheet, plan_sheet};
+pub use sheets::{PlanSheet, SOURCE, plan_sheet, sheet_named};
 pub use slots::{SLOT_SOURCE, slot_header};
 pub use stamps::put_stamp;

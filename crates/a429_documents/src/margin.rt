@@ -9,7 +9,7 @@ ghost use Rattle.a429_pack.specs.Windows.{raw_bound};
 ghost use Rattle.a429_slots.specs.Tables.{buses_of, demands_of, frame_of};
 ghost use Rattle.a429_documents.specs.Margins.{AddsSuch, IsChoice, IsGroupMargin, IsMargin, choice_rows, group_row_of, is_chosen, margin_columns, output_margin, outputs_margin, periods_of, saves, wider_row, window_of, yes_or_no};
 
-use crate::document::number;
+use crate::cells::number;
 use crate::planned::{PlannedGroup, PlannedOutput};
 use a429_equipment::{GroupRow, OutputRow};
 use a429_grid::{Period, SLOT_TIME};

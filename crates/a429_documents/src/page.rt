@@ -1,11 +1,10 @@
 //! A page that shows a plan and its documents.
-use crate::document::SOURCE;
 use crate::drawing::places::width_of;
 use crate::drawing::{Drawing, put_image};
 use crate::kept::{kept_texts, render_kept};
 use crate::lint::lint_sheet;
 use crate::margin::margin_sheet;
-use crate::sheets::{PlanSheet, plan_sheet};
+use crate::sheets::{PlanSheet, SOURCE, plan_sheet};
 use crate::stamps::put_stamp;
 use a429_equipment::Equipment;
 use a429_slots::{OUTPUTS, Proposal};

@@ -1,13 +1,18 @@
 //! The sheets on a plan.
 ghost use Rattle.std.specs.Prelude.{◌≡◌, ◌<◌, ◌++◌, IfSome, length, map};
 ghost use Rattle.a429_slots.specs.Tables.{groups_of};
-ghost use Rattle.a429_documents.specs.PlanSheets.{HasLimit, first_rows, group_rows, sheet_columns, sheet_rows};
-ghost use Rattle.a429_documents.specs.PlannedGroups.{of_groups};
+ghost use Rattle.a429_documents.specs.PlanSheets.{HasLimit, first_rows, group_rows, output_rows, sheet_columns, sheet_named, sheet_rows};
+ghost use Rattle.a429_documents.specs.PlannedGroups.{of_groups, of_outputs};
 
+mod buses;
+mod icd;
+mod plan;
+
+pub use self::icd::SOURCE;
 use crate::drawing::group_range;
-use crate::planned::PlannedGroup;
+use crate::planned::{PlannedGroup, PlannedOutput};
 use crate::slots::board;
-use crate::{buses, document, load, plan, slots};
+use crate::{load, slots};
 use a429_equipment::Equipment;
 use a429_slots::{OUTPUTS, Proposal};
 use a429_text::{Rows, Sheet};
@@ -47,13 +52,24 @@ pub enum PlanSheet {
     Buses,
 }
 
+/// The sheet of this name, of those that take nothing else. `None` if there is none.
+pub fn sheet_named(name: &str) -> Option<PlanSheet>
+    ensures { result ≡ sheet_named name.now }
+{
+    if name == "buses" {
+        Some(PlanSheet::Buses)
+    } else {
+        None
+    }
+}
+
 /// The names of the columns of a sheet.
 fn columns_of(sheet: PlanSheet) -> &'static [&'static str]
     ensures { map (λ name. name.now) result.now ≡ sheet_columns sheet }
 {
     match sheet {
         PlanSheet::Plan => plan::COLUMNS,
-        PlanSheet::Icd(_) => document::COLUMNS,
+        PlanSheet::Icd(_) => icd::COLUMNS,
         PlanSheet::Load(_) => load::COLUMNS,
         PlanSheet::Slots(_) => slots::COLUMNS,
         PlanSheet::Board => board::COLUMNS,
@@ -70,6 +86,26 @@ fn add_first(rows: &mut Rows, sheet: PlanSheet, equipment: &Equipment)
     }
 }
 
+/// Adds the rows of an output, of a sheet that has some for each.
+fn add_output(rows: &mut Rows, sheet: PlanSheet, output: &PlannedOutput<'_>)
+    ensures { rows.new ≡ rows.old ++ output_rows sheet output.now }
+{
+    match sheet {
+        PlanSheet::Icd(keeps_zeros) => icd::add_row(rows, keeps_zeros, output),
+        _ => {}
+    }
+}
+
+/// Adds the rows of all outputs of a group, in table order.
+#[tactic(auto, using(crate::proofs::Ranges::flat_more))]
+fn add_outputs(rows: &mut Rows, sheet: PlanSheet, group: &PlannedGroup<'_>)
+    ensures { rows.new ≡ rows.old ++ of_outputs (output_rows sheet) group.now }
+{
+    for number in 0..group.table.outputs() {
+        add_output(rows, sheet, &group.output(number));
+    }
+}
+
 /// Adds the rows of a group.
 fn add_group(rows: &mut Rows, sheet: PlanSheet, group: &PlannedGroup<'_>)
     requires { HasLimit sheet }
@@ -77,11 +113,11 @@ fn add_group(rows: &mut Rows, sheet: PlanSheet, group: &PlannedGroup<'_>)
 {
     match sheet {
         PlanSheet::Plan => plan::add_outputs(rows, group),
-        PlanSheet::Icd(keeps_zeros) => document::add_outputs(rows, keeps_zeros, group),
         PlanSheet::Load(limit) => load::add_group(rows, limit, group),
         PlanSheet::Slots(all) => slots::add_frame(rows, all, group),
         PlanSheet::Board => board::add_buses(rows, group),
         PlanSheet::Buses => buses::add_buses(rows, group),
+        PlanSheet::Icd(_) => add_outputs(rows, sheet, group),
     }
 }
 

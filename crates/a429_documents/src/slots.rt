@@ -8,7 +8,7 @@ ghost use Rattle.a429_documents.specs.SlotRows.{cell_rows, empty_row, filled_row
 pub mod board;
 mod header;
 
-use crate::document::{number, sdi_cell};
+use crate::cells::{number, sdi_cell};
 use crate::planned::{PlannedGroup, PlannedOutput};
 pub use crate::slots::header::slot_header;
 use a429_equipment::GroupRow;

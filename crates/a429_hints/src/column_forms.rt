@@ -11,22 +11,22 @@ pub const OF_NAMES: [ImportColumn; 3] = [
     ImportColumn::Receiver,
 ];
 
-/// What must be in a column with this name in the heading.
+/// What a column with this name in the heading has, in two words, and what must be in its fields.
 static FORMS: [&str; 14] = [
-    "name: 1 to 16 characters of `a` to `z`, `0` to `9`, `-` and `_`",
-    "rate: HS (100000), LS (12500), or 12000 to 14500 bit/s",
-    "label: three octal digits, 000 to 377",
-    "sdi: 0 to 3, or `any`",
-    "min_us: a whole number of microseconds, from 1 to the maximum",
-    "max_us: a whole number of microseconds, from the minimum to 30000000",
-    "min_ms: milliseconds from 0.001 to the maximum, with at most three decimals",
-    "max_ms: milliseconds from the minimum to 30000, with at most three decimals",
-    "hz: a rate in Hz above 0, with at most three decimals",
-    "interval_us: both limits in microseconds, the smaller first, such as 50000-100000",
-    "interval_ms: both limits in milliseconds, the smaller first, such as 50-100 or 50/100",
-    "rate_hz: both rates in Hz, the smaller first and above 0, such as 10-20",
-    "hold: a whole number from 1 to 1000000, or nothing for no limit",
-    "filters: LLL/MMM, label and mask, each three octal digits from 000 to 377",
+    "name: a name: 1 to 16 characters of `a` to `z`, `0` to `9`, `-` and `_`",
+    "rate: a bit rate: HS (100000), LS (12500), or 12000 to 14500 bit/s",
+    "label: a label: three octal digits, 000 to 377",
+    "sdi: an SDI: 0 to 3, or `any`",
+    "min_us: a time: a whole number of microseconds, from 1 to the maximum",
+    "max_us: a time: a whole number of microseconds, from the minimum to 30000000",
+    "min_ms: a time: milliseconds from 0.001 to the maximum, with at most three decimals",
+    "max_ms: a time: milliseconds from the minimum to 30000, with at most three decimals",
+    "hz: a rate: a rate in Hz above 0, with at most three decimals",
+    "interval_us: a time: both limits in microseconds, the smaller first, such as 50000-100000",
+    "interval_ms: a time: both limits in milliseconds, the smaller first, such as 50-100 or 50/100",
+    "rate_hz: a rate: both rates in Hz, the smaller first and above 0, such as 10-20",
+    "hold: a hold: a whole number from 1 to 1000000, or nothing for no limit",
+    "filters: a filter: LLL/MMM, label and mask, each three octal digits from 000 to 377",
 ];
 
 /// The name in the heading of a column that states intervals so.
@@ -45,30 +45,15 @@ pub fn name_of(column: ImportColumn, form: IntervalForm) -> &'static str {
     }
 }
 
-/// What must be in a column that states intervals so.
-pub fn form_of(column: ImportColumn, form: IntervalForm) -> &'static str {
-    text_under(
-        &FORMS,
-        match name_of(column, form) {
-            "max_hz" | "min_hz" => "hz",
-            _ if OF_NAMES.contains(&column) => "name",
-            name => name,
-        },
-    )
-}
-
-/// What a column has that states intervals so, in two words.
-pub fn thing_in(column: ImportColumn, form: IntervalForm) -> &'static str {
-    match column {
-        _ if form.unit == IntervalUnit::Hertz => "a rate",
-        ImportColumn::Rate => "a bit rate",
-        ImportColumn::Label => "a label",
-        ImportColumn::Sdi => "an SDI",
-        ImportColumn::MinUs | ImportColumn::MaxUs => "a time",
-        ImportColumn::Hold => "a hold",
-        ImportColumn::Filters => "a filter",
-        _ => "a name",
-    }
+/// What a column has that states intervals so, in two words, and what must be in its fields.
+pub fn form_of(column: ImportColumn, form: IntervalForm) -> (&'static str, &'static str) {
+    let name = match name_of(column, form) {
+        "max_hz" | "min_hz" => "hz",
+        _ if OF_NAMES.contains(&column) => "name",
+        name => name,
+    };
+    let text = text_under(&FORMS, name);
+    text.split_once(": ").unwrap_or(("", text))
 }
 
 /// Whether a column is about an output, and not about its source. Such a column has a whole number.

@@ -1,12 +1,14 @@
 //! Rows of comma-separated values, as a person sees them.
 
-use crate::column_forms::{OF_NAMES, form_of, is_of_output, thing_in, usual_rate, whole_label};
+use crate::column_forms::{OF_NAMES, form_of, is_of_output, usual_rate, whole_label};
+use crate::guesses::{Guess, guess_for};
 use crate::hint::HintText;
 use crate::lists::text_of;
 use a429_import::{
-    CsvLine, Heading, ImportColumn, IntervalForm, IntervalUnit, RowNumbers, made_name,
-    may_be_thousands, millis_in, row_numbers,
+    Heading, ImportColumn, IntervalForm, IntervalUnit, RowNumbers, made_name, may_be_thousands,
+    millis_in, row_numbers,
 };
+use a429_text::CsvLine;
 
 /// The rows of a file below their heading.
 #[derive(Clone, Copy)]
@@ -22,12 +24,17 @@ pub struct FileRows<'a> {
     pub names: bool,
     /// The texts HEADING=COLUMN by which the heading was read.
     pub texts: &'a [&'a str],
+    /// The fields of the heading that are likely meant by columns that it lacks.
+    pub guesses: &'a [Guess],
 }
 
 impl<'a> FileRows<'a> {
-    /// The field of a row in a column; an empty one if the heading has no such column.
+    /// The field of a row in a column, or in the one that is likely meant by it; an empty one if the heading has neither.
     pub fn field(self, row: &'a CsvLine, column: ImportColumn) -> &'a [u8] {
-        self.heading.field_of(row, column)
+        match guess_for(self.guesses, column) {
+            Some(guess) => row.field(guess.place),
+            None => self.heading.field_of(row, column),
+        }
     }
 
     /// The field as a text; the empty text if it is not UTF-8.
@@ -127,9 +134,15 @@ impl<'a> FileField<'a> {
         }
     }
 
+    /// What the column has, in two words, and what must be in the field.
+    fn thing_and_form(self) -> (&'static str, &'static str) {
+        form_of(self.column, self.interval())
+    }
+
     /// What must be in the field.
     pub fn form(self) -> &'static str {
-        form_of(self.column, self.interval())
+        let (_, form) = self.thing_and_form();
+        form
     }
 
     /// Whether the column states no interval, or a number of microseconds.
@@ -193,8 +206,8 @@ fn tell_plain(field: FileField, text: &str, hint: &HintText) {
 /// Says that a text does not have the form of its column, and what to write instead if that is known.
 fn tell_form(field: FileField, text: &str, hint: &HintText) {
     let column = field.column;
-    let thing = thing_in(column, field.interval());
-    hint.say_two(" is not {}; it must be {}", thing, field.form());
+    let (thing, form) = field.thing_and_form();
+    hint.say_two(" is not {}; it must be {}", thing, form);
     match column {
         _ if OF_NAMES.contains(&column) => say_name(field, text, hint),
         ImportColumn::MinUs if field.is_plain() => say_micros(text, "min_ms", hint),

@@ -5,8 +5,9 @@ use crate::file_rows::FileRows;
 use crate::lists::field_count;
 use crate::nearest::Nearest;
 use a429_import::{
-    CsvLine, IMPORT_COLUMNS, ImportColumn, IntervalForm, IntervalUnit, is_column, is_column_named,
+    IMPORT_COLUMNS, ImportColumn, IntervalForm, IntervalUnit, is_column, is_column_named,
 };
+use a429_text::CsvLine;
 use std::alloc::{AllocError, Global};
 
 /// How many rows are looked at to see what a field may be.
@@ -101,25 +102,27 @@ fn interval_at(file: FileRows, place: usize) -> IntervalForm {
     }
 }
 
+/// The first field below a heading; empty if there is none.
+fn first_below<'a>(file: FileRows<'a>, place: usize) -> &'a [u8] {
+    match file.rows.first() {
+        Some(row) => row.field(place),
+        None => &[],
+    }
+}
+
 /// Whether the first field below a heading has fewer than four digits at its beginning: such an interval in microseconds is
 /// rare.
 fn is_short(file: FileRows, place: usize) -> bool {
-    let Some(row) = file.rows.first() else {
-        return false;
-    };
-    let field = row.field(place).iter();
-    field.take_while(|byte| byte.is_ascii_digit()).count() < 4
+    let field = first_below(file, place).iter();
+    file.rows.first().is_some() && field.take_while(|byte| byte.is_ascii_digit()).count() < 4
 }
 
 /// Whether a heading may be meant by a column with both limits of an interval: the first field below it has two numbers, such
 /// as `50/100`, `50-100`, or with an en dash.
 fn has_both(file: FileRows, place: usize) -> bool {
-    let Some(row) = file.rows.first() else {
-        return false;
-    };
     let words = "hz hertz ms msec us usec interval intervals period time update";
-    has_one(file.titles.field(place), words)
-        && row.field(place).iter().any(|byte| b"/-\xE2".contains(byte))
+    let mut field = first_below(file, place).iter();
+    has_one(file.titles.field(place), words) && field.any(|byte| b"/-\xE2".contains(byte))
 }
 
 /// How likely a field of a heading is meant by a column: 0 is the likeliest. `None` if it is not. A field with both limits
@@ -176,10 +179,12 @@ fn may_all_be(file: FileRows, column: ImportColumn, place: usize) -> bool {
 
 /// Whether a field may be meant by a column that the heading lacks: it names no column, no guess has it, and it is no long
 /// text.
-fn is_free(file: FileRows, guesses: &[Guess], place: usize) -> bool {
-    file.titles.field(place).len() <= LONGEST
+fn is_free(file: FileRows, place: usize) -> bool {
+    let title = file.titles.field(place);
+    title.len() <= LONGEST
+        && !is_column(title)
         && !is_column(file.heading.line.field(place))
-        && !guesses.iter().any(|guess| guess.place == place)
+        && !file.guesses.iter().any(|guess| guess.place == place)
 }
 
 /// How many fields of a heading name a column.
@@ -192,11 +197,11 @@ pub fn times_in(heading: &CsvLine, column: ImportColumn) -> usize {
 
 /// Whether a heading lacks a column, and no guess has it. A guess for the minimum has the maximum too if its column has both
 /// limits.
-pub fn is_missing(file: FileRows, guesses: &[Guess], column: ImportColumn) -> bool {
+pub fn is_missing(file: FileRows, column: ImportColumn) -> bool {
     column.is_needed()
         && times_in(&file.heading.line, column) == 0
-        && guess_for(guesses, column).is_none()
-        && !(column == ImportColumn::MaxUs && guesses.iter().any(|guess| has_limits(*guess)))
+        && guess_for(file.guesses, column).is_none()
+        && !(column == ImportColumn::MaxUs && file.guesses.iter().any(|guess| has_limits(*guess)))
 }
 
 /// Whether a guess is for a column with both limits.
@@ -210,14 +215,9 @@ pub fn guess_for(guesses: &[Guess], column: ImportColumn) -> Option<Guess> {
 }
 
 /// The likeliest field for a column, by the words of its heading.
-fn likeliest(
-    file: FileRows,
-    guesses: &[Guess],
-    column: ImportColumn,
-    words: &str,
-) -> Option<usize> {
+fn likeliest(file: FileRows, column: ImportColumn, words: &str) -> Option<usize> {
     let places = (0..field_count(file.titles)).filter(|place| {
-        is_free(file, guesses, *place) && may_all_be(file, column, *place)
+        is_free(file, *place) && may_all_be(file, column, *place)
     });
     let ranked = places.filter_map(|place| Some((rank_at(file, column, words, place)?, place)));
     let (_, place) = ranked.min()?;
@@ -236,27 +236,36 @@ pub fn are_alike(a: &str, b: &str) -> bool {
     a.eq(b.bytes().filter_map(|byte| letter(byte)))
 }
 
-/// The field that is nearest to the name of a column: the first one with the same letters, or the one that takes the fewest
-/// edits.
-fn nearest(
-    alloc: Global,
-    file: FileRows,
-    guesses: &[Guess],
-    column: ImportColumn,
-) -> Option<usize> {
-    let mut nearest = Nearest::to(column.name());
+/// The field that is nearest to a name, of those that may be meant by a column: the first one with the same letters, or the
+/// one that takes the fewest edits.
+pub fn nearest(alloc: Global, file: FileRows, name: &str) -> Option<usize> {
+    let mut nearest = Nearest::to(name);
     for place in 0..field_count(file.titles) {
         let title = file.title(place);
-        if !is_free(file, guesses, place) {
+        if !is_free(file, place) {
             continue;
         }
-        if are_alike(title, column.name()) {
+        if are_alike(title, name) {
             return Some(place);
         }
         nearest = nearest.or(alloc, title);
     }
     let name = nearest.name()?;
     (0..field_count(file.titles)).find(|place| file.titles.field(*place) == name.as_bytes())
+}
+
+/// The field for a column, if it is missing: by the words of its heading, or by its name.
+fn place_for(
+    alloc: Global,
+    file: FileRows,
+    column: ImportColumn,
+    words: Option<&str>,
+) -> Option<usize> {
+    match words {
+        _ if !is_missing(file, column) => None,
+        Some(words) => likeliest(file, column, words),
+        None => nearest(alloc, file, column.name()),
+    }
 }
 
 /// Adds a guess for each missing column that has a likely field: by the words of its heading, or by its name.
@@ -267,15 +276,12 @@ fn add_guesses(
     by_words: bool,
 ) -> Result<(), AllocError> {
     for (column, words) in &COLUMNS {
-        if !is_missing(file, guesses, *column) {
-            continue;
-        }
-        let place = if by_words {
-            likeliest(file, guesses, *column, *words)
-        } else {
-            nearest(alloc, file, guesses, *column)
+        let known = FileRows {
+            guesses: guesses.as_slice(),
+            ..file
         };
-        if let Some(place) = place {
+        let words = by_words.then_some(*words);
+        if let Some(place) = place_for(alloc, known, *column, words) {
             guesses.push(Guess::of(file, *column, place))?;
         }
     }
@@ -285,12 +291,16 @@ fn add_guesses(
 /// Takes the field of the source as the receiver, if no other field is that and another field is likely the source.
 fn swap_source(guesses: &mut Vec<Guess>, file: FileRows) -> Result<(), AllocError> {
     let (source, receiver) = (ImportColumn::Source, ImportColumn::Receiver);
-    if !is_missing(file, guesses, receiver) {
+    let known = FileRows {
+        guesses: guesses.as_slice(),
+        ..file
+    };
+    if !is_missing(known, receiver) {
         return Ok(());
     }
     let guessed = guess_for(guesses, source).map(|guess| guess.place);
     let named = guessed.or(file.heading.place(source));
-    if let (Some(named), Some(other)) = (named, likeliest(file, guesses, source, SOURCE)) {
+    if let (Some(named), Some(other)) = (named, likeliest(known, source, SOURCE)) {
         guesses.retain(|guess| guess.column != source);
         guesses.push(Guess::of(file, receiver, named))?;
         guesses.push(Guess::of(file, source, other))?;

@@ -1,15 +1,12 @@
 //! Hints about the heading of rows of comma-separated values that `import` refuses.
 
 use crate::file_rows::FileRows;
-use crate::guesses::{Guess, are_alike, guess_for, guesses_of, is_missing, times_in};
+use crate::guesses::{guess_for, guesses_of, is_missing, nearest, times_in};
 use crate::hint::HintText;
 use crate::lists::{LISTED, field_count, say_more, text_of};
-use crate::nearest::Nearest;
 use crate::retries::{say_command, say_map};
-use a429_import::{
-    CsvLine, IMPORT_COLUMNS, ImportColumn, has_heading, is_column, is_column_named, is_met,
-};
-use std::alloc::Global;
+use a429_import::{IMPORT_COLUMNS, ImportColumn, has_heading, is_column, is_column_named, is_met};
+use a429_text::CsvLine;
 use std::cmp::min;
 
 /// Says which of the texts HEADING=COLUMN is not met. If all are, names each column that the heading lacks or has twice.
@@ -19,7 +16,7 @@ pub fn tell_heading(file: FileRows, hint: &HintText) {
     for text in file.texts {
         if !is_met(file.texts, file.titles, *text) {
             are_met = false;
-            tell_unmet(file.titles, *text, hint);
+            tell_unmet(file, *text, hint);
         }
     }
     if are_met {
@@ -28,12 +25,12 @@ pub fn tell_heading(file: FileRows, hint: &HintText) {
 }
 
 /// Says why a text HEADING=COLUMN is not met: of `--keep-columns` if COLUMN is `#:`, otherwise of `--map`.
-fn tell_unmet(titles: &CsvLine, text: &str, hint: &HintText) {
+fn tell_unmet(file: FileRows, text: &str, hint: &HintText) {
     let (name, column) = text.rsplit_once('=').unwrap_or(("", ""));
     hint.begin(": ");
     if column == "#:" {
         hint.say_one("--keep-columns {?}", name);
-        if has_heading(titles, text) {
+        if has_heading(file.titles, text) {
             return hint.end(
                 ": only a column that is there once, and is not read as another, can go along",
             );
@@ -47,16 +44,16 @@ fn tell_unmet(titles: &CsvLine, text: &str, hint: &HintText) {
             );
         }
     }
-    tell_missing(titles, name, hint);
+    tell_missing(file, name, hint);
 }
 
 /// Says that the heading lacks a field, which field is nearest, and which fields it has.
-fn tell_missing(titles: &CsvLine, name: &str, hint: &HintText) {
+fn tell_missing(file: FileRows, name: &str, hint: &HintText) {
     hint.say_one(": the heading has no {?}", name);
-    if let Some(near) = nearest_field(hint.alloc, titles, name) {
-        hint.say_one("; the nearest is {?}", near);
+    if let Some(place) = nearest(hint.alloc, file, name) {
+        hint.say_one("; the nearest is {?}", file.title(place));
     }
-    end_fields(titles, hint);
+    end_fields(file.titles, hint);
 }
 
 /// Names each column that the heading lacks or has twice, and the fields that are likely meant.
@@ -69,8 +66,10 @@ fn tell_columns(file: FileRows, hint: &HintText) {
     }
     match guesses_of(hint.alloc, file) {
         Ok(guesses) => {
-            tell_guesses(file, &guesses, hint);
-            tell_unlike(file, &guesses, hint);
+            let guesses = guesses.as_slice();
+            let file = FileRows { guesses, ..file };
+            tell_guesses(file, hint);
+            tell_unlike(file, hint);
         }
         Err(_) => hint.give_up(),
     }
@@ -96,8 +95,8 @@ fn tell_twice(file: FileRows, column: ImportColumn, times: usize, hint: &HintTex
 }
 
 /// Says with which command the fields that are likely meant are read as the columns that the heading lacks.
-fn tell_guesses(file: FileRows, guesses: &[Guess], hint: &HintText) {
-    match guesses {
+fn tell_guesses(file: FileRows, hint: &HintText) {
+    match file.guesses {
         [] => return,
         [guess] => {
             hint.begin(": ");
@@ -109,9 +108,9 @@ fn tell_guesses(file: FileRows, guesses: &[Guess], hint: &HintText) {
         }
         _ => hint.begin(": columns have other names; rename them, or write "),
     }
-    say_command(file, guesses, hint);
+    say_command(file, hint);
     for column in IMPORT_COLUMNS.as_slice() {
-        if let Some(guess) = guess_for(guesses, *column) {
+        if let Some(guess) = guess_for(file.guesses, *column) {
             say_map(file.title(guess.place), guess.name, hint);
         }
     }
@@ -119,18 +118,16 @@ fn tell_guesses(file: FileRows, guesses: &[Guess], hint: &HintText) {
 }
 
 /// Names the columns that the heading lacks and that no field is like, and the fields of the heading.
-fn tell_unlike(file: FileRows, guesses: &[Guess], hint: &HintText) {
+fn tell_unlike(file: FileRows, hint: &HintText) {
     let columns = IMPORT_COLUMNS.as_slice();
-    let unlike = columns
-        .iter()
-        .filter(|column| is_missing(file, guesses, **column));
+    let unlike = columns.iter().filter(|column| is_missing(file, **column));
     hint.begin(match unlike.count() {
         0 => return,
         1 => ": this column is missing:",
         _ => ": these columns are missing:",
     });
     for column in columns {
-        if is_missing(file, guesses, *column) {
+        if is_missing(file, *column) {
             hint.say_one(" {}", column.name());
         }
     }
@@ -145,20 +142,4 @@ fn end_fields(titles: &CsvLine, hint: &HintText) {
     }
     say_more(titles.len(), hint);
     hint.end("");
-}
-
-/// The field of a heading that is nearest to a name. Fields that name a column are left out.
-fn nearest_field<'a>(alloc: Global, titles: &'a CsvLine, name: &'a str) -> Option<&'a str> {
-    let mut nearest = Nearest::to(name);
-    for place in 0..field_count(titles) {
-        let text = text_of(titles.field(place));
-        if is_column(titles.field(place)) {
-            continue;
-        }
-        if are_alike(text, name) {
-            return Some(text);
-        }
-        nearest = nearest.or(alloc, text);
-    }
-    nearest.name()
 }

@@ -5,8 +5,9 @@ use crate::file_rows::{FileField, FileRows, tell_field};
 use crate::hint::HintText;
 use a429_equipment::{GROUPS, LONGEST_INTERVAL, OUTPUTS, RECEIVERS, SOURCES};
 use a429_filter::FILTERS;
-use a429_import::{CsvLine, ImportColumn};
+use a429_import::ImportColumn;
 use a429_table::{FaultKind, TablePlace};
+use a429_text::CsvLine;
 
 /// Says which row has the fault for which the table is refused, and what is wrong with it.
 pub fn tell_imported(file: FileRows, kind: FaultKind, place: TablePlace, hint: &HintText) {

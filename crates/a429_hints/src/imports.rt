@@ -11,14 +11,14 @@ use a429_arguments::options::OptionName;
 use a429_arguments::requests::Asked;
 use a429_console::refusals::CommandRefusal;
 use a429_console::refusals::kinds::CsvKind;
-use a429_console::refusals::rows::{RowEvidence, RowsEvidence};
+use a429_console::refusals::rows::RowsEvidence;
 use a429_filter::Filter;
 use a429_import::{
-    CsvLine, Heading, IMPORT_COLUMNS, ImportColumn, column_in, form_fault, heading_texts,
-    is_column_named, keep_texts,
+    Heading, IMPORT_COLUMNS, ImportColumn, column_in, form_fault, heading_texts, is_column_named,
+    keep_texts,
 };
 use a429_table::FaultKind;
-use std::alloc::{AllocError, Global};
+use a429_text::CsvLine;
 
 /// How many faulty rows are shown.
 const FAULTY_ROWS: usize = 3;
@@ -68,56 +68,16 @@ fn other_rows(bytes: &[u8]) -> Option<&'static str> {
     other_file(bytes)
 }
 
-/// A row as a line. Error: an allocation failed.
-fn line_of(row: &RowEvidence) -> Result<CsvLine, AllocError> {
-    Ok(CsvLine {
-        number: row.number,
-        separator: row.separator,
-        fields: row.fields.clone()?,
-    })
-}
-
-/// Rows as lines. Error: an allocation failed.
-fn lines_of(alloc: Global, rows: &[RowEvidence]) -> Result<Vec<CsvLine>, AllocError> {
-    let mut lines = Vec::new(alloc);
-    for row in rows {
-        lines.push(line_of(row)?)?;
-    }
-    Ok(lines)
-}
-
 /// Says what is wrong with a sheet that has a heading, as it is written and by the names of its columns.
 fn tell_sheet(
     asked: &Asked,
-    titles: &RowEvidence,
-    heading: &RowEvidence,
-    refusal: &CommandRefusal,
-    evidence: &RowsEvidence,
-    hint: &HintText,
-) {
-    let (Ok(titles), Ok(heading)) = (line_of(titles), line_of(heading)) else {
-        return hint.give_up();
-    };
-    tell_lines(
-        asked,
-        &titles,
-        &Heading::of(heading),
-        refusal,
-        evidence,
-        hint,
-    );
-}
-
-/// Says what is wrong with a heading or with the rows below it.
-fn tell_lines(
-    asked: &Asked,
     titles: &CsvLine,
-    heading: &Heading,
+    heading: &CsvLine,
     refusal: &CommandRefusal,
     evidence: &RowsEvidence,
     hint: &HintText,
 ) {
-    let Ok(rows) = lines_of(hint.alloc, &evidence.rows) else {
+    let Ok(heading) = heading.copy() else {
         return hint.give_up();
     };
     let Ok(kept) = keep_texts(hint.alloc, asked.texts(OptionName::KeepColumns)) else {
@@ -127,12 +87,13 @@ fn tell_lines(
         return hint.give_up();
     };
     let file = FileRows {
-        heading,
+        heading: &Heading::of(heading),
         titles,
-        rows: &rows,
+        rows: &evidence.rows,
         fills: asked.has(OptionName::Fill),
         names: asked.has(OptionName::Names),
         texts: &texts,
+        guesses: &[],
     };
     tell_file(file, refusal, evidence, hint);
 }
@@ -166,7 +127,7 @@ fn tell_names(file: FileRows, reason: &str, hint: &HintText) {
 /// Says with which command empty fields are filled, if faulty rows have some below a field that is not empty.
 fn tell_fill<'a>(file: FileRows<'a>, faulty: &'a [CsvLine], hint: &HintText) {
     let fills = true;
-    if needs_fill(file, &[], faulty) {
+    if needs_fill(file, faulty) {
         let reason = "if the empty cells are merged with those above";
         tell_command(FileRows { fills, ..file }, reason, hint);
     }
@@ -175,23 +136,21 @@ fn tell_fill<'a>(file: FileRows<'a>, faulty: &'a [CsvLine], hint: &HintText) {
 /// Says with which command a file is read by these options.
 fn tell_command(file: FileRows, reason: &str, hint: &HintText) {
     hint.say_one("a429: {}, write ", reason);
-    say_command(file, &[], hint);
+    say_command(file, hint);
     hint.end("");
 }
 
 /// Says what is wrong with faulty rows, and which option may help.
 fn tell_faulty(file: FileRows, kind: CsvKind, evidence: &RowsEvidence, hint: &HintText) {
-    let Ok(faulty) = lines_of(hint.alloc, &evidence.faulty) else {
-        return hint.give_up();
-    };
+    let faulty = &evidence.faulty;
     let name = evidence.column.unwrap_or("");
     let mut columns = IMPORT_COLUMNS.iter().copied();
     let column = columns.find(|column| column.name() == name);
-    tell_faulty_rows(file, &faulty, kind, column, hint);
+    tell_faulty_rows(file, faulty, kind, column, hint);
     if evidence.count > FAULTY_ROWS {
         hint.end_one("a429: rows with such a fault: {}", evidence.count);
     }
-    tell_fill(file, &faulty, hint);
+    tell_fill(file, faulty, hint);
     let is_of_source = column.is_some_and(|column| owner_of(column) == ImportColumn::Source);
     if kind == CsvKind::Differs && is_of_source {
         tell_names(file, "if these are different sources", hint);

@@ -3,9 +3,8 @@
 use crate::hint::HintText;
 use crate::nearest::Nearest;
 use crate::rows::short_text;
-use a429_import::CsvLine;
 use a429_table::text_at;
-use a429_text::Row;
+use a429_text::{CsvLine, Row};
 use std::alloc::Global;
 use std::cmp::min;
 use toml::Value;

@@ -3,7 +3,7 @@
 use crate::hint::HintText;
 use crate::nearest::Nearest;
 use crate::rows::short_text;
-use a429_arguments::forms::{CommandForm, command_named, commands};
+use a429_arguments::command_forms::{CommandForm, command_named, commands};
 use a429_arguments::options::{OPTIONS, OptionName};
 
 /// Says which command or which option is nearest to an unknown one, or which commands have an option.

@@ -2,10 +2,9 @@
 
 use crate::column_forms::OF_NAMES;
 use crate::file_rows::{FileRows, becomes};
-use crate::guesses::{Guess, guess_for};
 use crate::hint::HintText;
-use crate::lists::text_of;
-use a429_import::{CsvLine, ImportColumn};
+use a429_import::ImportColumn;
+use a429_text::CsvLine;
 
 /// The columns whose empty fields are filled.
 const FILLED: [ImportColumn; 3] = [
@@ -14,66 +13,42 @@ const FILLED: [ImportColumn; 3] = [
     ImportColumn::Receiver,
 ];
 
-/// The field of a row in a column of the heading, or in the one that is likely meant by it.
-fn field_of<'a>(
-    file: FileRows<'a>,
-    guesses: &[Guess],
-    row: &'a CsvLine,
-    column: ImportColumn,
-) -> &'a [u8] {
-    match guess_for(guesses, column) {
-        Some(guess) => row.field(guess.place),
-        None => file.field(row, column),
-    }
-}
-
 /// Whether a field is empty below one that is not, in a row with an interval.
-fn is_merged<'a>(
-    file: FileRows<'a>,
-    guesses: &[Guess],
-    row: &'a CsvLine,
-    column: ImportColumn,
-) -> bool {
-    !field_of(file, guesses, row, ImportColumn::MinUs).is_empty()
-        && field_of(file, guesses, row, column).is_empty()
+fn is_merged<'a>(file: FileRows<'a>, row: &'a CsvLine, column: ImportColumn) -> bool {
+    !file.field(row, ImportColumn::MinUs).is_empty()
+        && file.field(row, column).is_empty()
         && file.rows.iter().any(|earlier| {
-            earlier.number < row.number && !field_of(file, guesses, earlier, column).is_empty()
+            earlier.number < row.number && !file.field(earlier, column).is_empty()
         })
 }
 
 /// Whether a row has an empty field in a column that `--fill` fills, below one that is not empty.
-fn has_merged<'a>(file: FileRows<'a>, guesses: &[Guess], row: &'a CsvLine) -> bool {
-    let mut columns = FILLED.iter();
-    columns.any(|column| is_merged(file, guesses, row, *column))
+fn has_merged<'a>(file: FileRows<'a>, row: &'a CsvLine) -> bool {
+    FILLED.iter().any(|column| is_merged(file, row, *column))
 }
 
 /// Whether one of these rows has such a field, and none was filled.
-pub fn needs_fill<'a>(file: FileRows<'a>, guesses: &[Guess], rows: &'a [CsvLine]) -> bool {
-    !file.fills && rows.iter().any(|row| has_merged(file, guesses, row))
+pub fn needs_fill<'a>(file: FileRows<'a>, rows: &'a [CsvLine]) -> bool {
+    !file.fills && rows.iter().any(|row| has_merged(file, row))
 }
 
 /// Whether a row has a text that is no name.
-fn has_no_name<'a>(
-    file: FileRows<'a>,
-    guesses: &[Guess],
-    row: &'a CsvLine,
-    hint: &HintText,
-) -> bool {
+fn has_no_name<'a>(file: FileRows<'a>, row: &'a CsvLine, hint: &HintText) -> bool {
     OF_NAMES.iter().any(|column| {
-        let text = text_of(field_of(file, guesses, row, *column));
+        let text = file.text(row, *column);
         !becomes(text, text, hint)
     })
 }
 
 /// Says the command with the options that it had, and with those that the rows need.
-pub fn say_command(file: FileRows, guesses: &[Guess], hint: &HintText) {
+pub fn say_command(file: FileRows, hint: &HintText) {
     let mut rows = file.rows.iter();
     hint.say("a429 import ");
     hint.say_file("{}");
-    if file.fills || needs_fill(file, guesses, file.rows) {
+    if file.fills || needs_fill(file, file.rows) {
         hint.say(" --fill");
     }
-    if file.names || rows.any(|row| has_no_name(file, guesses, row, hint)) {
+    if file.names || rows.any(|row| has_no_name(file, row, hint)) {
         hint.say(" --names");
     }
     for text in file.texts {

@@ -18,7 +18,8 @@ use crate::whole_logs::{tell_close_words, tell_passed, tell_too_long};
 use crate::words::{
     tell_data_text, tell_even_word, tell_filter, tell_label_text, tell_line_byte, tell_word_text,
 };
-use a429_arguments::forms::{CommandForm, Verb};
+use a429_arguments::command_forms::CommandForm;
+use a429_arguments::forms::Verb;
 use a429_arguments::options::OptionName;
 use a429_arguments::requests::Asked;
 use a429_console::answered::{Answered, Found};

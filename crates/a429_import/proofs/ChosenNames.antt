@@ -4,12 +4,12 @@ use Rattle.std.specs.Prelude.{slice_get}
 use Rattle.std.proofs.lemmas.List.{drop_all, length-map}
 use Rattle.a429_word.proofs.Lists.{drop_at}
 use Rattle.a429_import.specs.declared.firsts.Part.{Part}
-use Rattle.a429_import.specs.declared.known.Known.{Known}
-use Rattle.a429_import.specs.declared.known.NamedRows.{NamedRows}
+use Rattle.a429_import.specs.declared.indexed_rows.IndexedRows.{IndexedRows}
+use Rattle.a429_import.specs.declared.indexed_rows.NamedRows.{NamedRows}
 use Rattle.a429_import.specs.declared.rows.ImportRow.{ImportRow}
 use Rattle.a429_import.specs.declared.rows.RowTexts.{RowTexts}
 use Rattle.a429_import.specs.ImportTables.{firsts, name_in}
-use Rattle.a429_import.specs.Known.{Knows, KnowsFirsts, named_of, names_of}
+use Rattle.a429_import.specs.IndexedRows.{IsIndexed, IndexesFirsts, named_of, names_of}
 use Rattle.a429_import.specs.MadeNames.{numbered_name}
 use Rattle.a429_import.proofs.Knowing.{knows_part}
 use Rattle.a429_import.specs.NumberRanges.{HaveRanges}
@@ -52,10 +52,10 @@ names_more plains part rows k row old new whole there so now =
     ap (λ (xs : List (List ℕ)). names_after plains part xs (drop (k + 1) rows)) now ∙ sym (ap (λ (rs : List ImportRow). names_after plains part old rs) (drop_at rows k row there)) ∙ so
 
 -- as many names are known as there are first rows
-pub firsts_count : (part : Part) (named : NamedRows) (rows : List ImportRow) → KnowsFirsts part named rows → length (names_of named) ≡ length (firsts part rows)
+pub firsts_count : (part : Part) (named : NamedRows) (rows : List ImportRow) → IndexesFirsts part named rows → length (names_of named) ≡ length (firsts part rows)
 firsts_count part named rows known = ap length known.names ∙ length-map (firsts part rows) (name_in part)
 
-pub no_more : (part : Part) (known : Known) (place : ℕ) → Knows known → length (names_of (named_of part known)) ≤ place → drop place (firsts part known.rows.items) ≡ []
+pub no_more : (part : Part) (known : IndexedRows) (place : ℕ) → IsIndexed known → length (names_of (named_of part known)) ≤ place → drop place (firsts part known.rows.items) ≡ []
 no_more part known place knows past =
     let many = firsts_count part (named_of part known) known.rows.items (knows_part part known knows) in
     drop_all place (firsts part known.rows.items) (omega (arith, many, past))

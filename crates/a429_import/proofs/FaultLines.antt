@@ -1,5 +1,6 @@
 -- On which line the fault is that comes before those of rows.
 use Rattle.std.proofs.Common.{◌≡◌, ◌∙◌, ◌+◌, ◌<◌, ◌≤◌, ℕ, zero, suc, Bool, true, false, cond, List, [], ◌∷◌, ◌++◌, Option, None, Some, ap, ap₂, arith, drop, get_or, length, map, refl, sym}
+use Rattle.std.specs.Bool.{then_some}
 use Rattle.std.specs.Prelude.{◌||◌, is_some}
 use Rattle.std.specs.List.{list_any}
 use Rattle.std.specs.Option.{option_map, option_or}
@@ -10,11 +11,11 @@ use Rattle.csv.specs.Records.{fields_of}
 use Rattle.csv.specs.declared.parser.Config.{Config}
 use Rattle.csv.specs.declared.parser.State.{State}
 use Rattle.csv.specs.declared.parser.State.TheVariants as st
-use Rattle.a429_import.specs.declared.lines.CsvLine.{CsvLine}
+use Rattle.a429_text.specs.declared.csv_line.CsvLine.{CsvLine}
 use Rattle.a429_import.specs.FaultLines.{data_line, data_line_above, fault_line, first_row, has_data, has_data_above, is_data, number_of, quotes_line, wrong_from, wrong_in, wrong_line}
 use Rattle.a429_import.specs.ImportMaps.{names_by}
 use Rattle.a429_import.specs.ImportQuotes.{breaks_quotes, has_wrong_quotes, is_inside_quotes, is_misquoted, is_misquoted_from, text_before}
-use Rattle.a429_import.specs.ImportSteps.{ended_by, ends_field}
+use Rattle.a429_import.specs.ImportSteps.{begins_field}
 use Rattle.a429_import.specs.RowLines.{and_next, from_row, line_of, lines_from, row_lines}
 use Rattle.a429_import.specs.ImportWords.{trimmed}
 
@@ -22,14 +23,14 @@ use Rattle.a429_import.specs.ImportWords.{trimmed}
 
 module _ (of_rows : Bool) (cfg : Config) where
   wrong_next : (s : State) (field : List ℕ) (b : ℕ) (rest : List ℕ) → wrong_from of_rows cfg s field (b ∷ rest)
-      ≡ cond (breaks_quotes of_rows s (step cfg s b).0) (Some field) (wrong_from of_rows cfg (step cfg s b).0 (cond (ends_field (ended_by (step cfg s b).1)) rest field) rest)
+      ≡ cond (breaks_quotes of_rows s (step cfg s b).0) (Some field) (wrong_from of_rows cfg (step cfg s b).0 (cond (begins_field (step cfg s b).0) rest field) rest)
   unfolding wrong_from
   wrong_next s field b rest = refl
 
   -- one more byte
   pub wrong_passed : (s : State) (field text : List ℕ) (i : ℕ) → i < length text → wrong_from of_rows cfg s field (drop i text)
       ≡ cond (breaks_quotes of_rows s (step cfg s (get_or text i 0)).0) (Some field)
-      (wrong_from of_rows cfg (step cfg s (get_or text i 0)).0 (cond (ends_field (ended_by (step cfg s (get_or text i 0)).1)) (drop (i + 1) text) field) (drop (i + 1) text))
+      (wrong_from of_rows cfg (step cfg s (get_or text i 0)).0 (cond (begins_field (step cfg s (get_or text i 0)).0) (drop (i + 1) text) field) (drop (i + 1) text))
   wrong_passed s field text i below = ap (wrong_from of_rows cfg s field) (drop_more text i 0 below) ∙ wrong_next s field (get_or text i 0) (drop (i + 1) text)
 
   pub wrong_at_end : (s : State) (field text : List ℕ) (i : ℕ) → length text ≤ i → wrong_from of_rows cfg s field (drop i text) ≡ cond (is_inside_quotes s) (Some field) None
@@ -52,6 +53,10 @@ drop_cond true a b text = refl
 drop_cond false a b text = refl
 
 -- ---- rows of data
+
+pub some_if : (b : Bool) (n : ℕ) → then_some b n ≡ cond b (Some n) None
+some_if true n = refl
+some_if false n = refl
 
 -- one more row
 number_more : (passes : List (List ℕ) → Bool) (rows : List (List (List ℕ))) (numbers : List ℕ) (row : List (List ℕ)) (number : ℕ) → length rows ≡ length numbers
@@ -113,7 +118,7 @@ unfolding wrong_from is_misquoted_from
 some_wrong of_rows cfg s field [] = is_some_cond (is_inside_quotes s) field None ∙ or_none (is_inside_quotes s)
 some_wrong of_rows cfg s field (b ∷ rest) =
     is_some_cond (breaks_quotes of_rows s (step cfg s b).0) field _
-    ∙ ap (λ t. breaks_quotes of_rows s (step cfg s b).0 || t) (some_wrong of_rows cfg (step cfg s b).0 (cond (ends_field (ended_by (step cfg s b).1)) rest field) rest)
+    ∙ ap (λ t. breaks_quotes of_rows s (step cfg s b).0 || t) (some_wrong of_rows cfg (step cfg s b).0 (cond (begins_field (step cfg s b).0) rest field) rest)
 
 some_line : (of_rows : Bool) (cfg : Config) (text end : List ℕ) → is_some (wrong_line of_rows cfg text end) ≡ is_misquoted of_rows cfg end
 some_line of_rows cfg text end = is_some_map (λ field. line_of text (from_row field)) (wrong_in of_rows cfg (strip_bom end)) ∙ some_wrong of_rows cfg st.StartRecord (strip_bom end) (strip_bom end)

@@ -1,7 +1,7 @@
 -- Lines whose empty fields are filled from above, with one more field or one more line.
 use Rattle.std.proofs.Common.{◌≡◌, ◌∙◌, ◌+◌, ◌<◌, ℕ, zero, suc, Bool, false, true, List, [], ◌∷◌, ◌++◌, get_or, length, take, ap, ap₂, arith, refl, subst, sym}
 use Rattle.csv.specs.Records.{fields_of}
-use Rattle.a429_import.specs.declared.lines.CsvLine.{CsvLine}
+use Rattle.a429_text.specs.declared.csv_line.CsvLine.{CsvLine}
 use Rattle.a429_import.specs.FilledLines.{AreFilled, IsFilledLine, filled_below, filled_from}
 use Rattle.a429_import.specs.ImportFields.{field_in}
 use Rattle.a429_import.specs.SheetReading.{AreFilledIf, IsFilledIf, last_fields}

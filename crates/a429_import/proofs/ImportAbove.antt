@@ -13,7 +13,7 @@ use Rattle.csv.specs.declared.parser.State.{State}
 use Rattle.csv.specs.declared.parser.State.TheVariants as st
 use Rattle.csv.specs.declared.reader.Reader.{Reader}
 use Rattle.csv.proofs.ReadFacts.{rows-end}
-use Rattle.a429_import.specs.declared.lines.CsvLine.{CsvLine}
+use Rattle.a429_text.specs.declared.csv_line.CsvLine.{CsvLine}
 use Rattle.a429_import.specs.declared.lines.LineCount.{LineCount}
 use Rattle.a429_import.specs.FaultLines.{data_line, first_row, is_data, number_of}
 use Rattle.a429_import.specs.ImportReading.{HasRead}

@@ -13,9 +13,9 @@ use Rattle.a429_import.specs.declared.fault.ImportColumn.{ImportColumn}
 use Rattle.a429_import.specs.declared.fault.ImportColumn.TheVariants.{Filters, Label, Rate, Receiver, Sdi}
 use Rattle.a429_import.specs.declared.firsts.Part.{Part}
 use Rattle.a429_import.specs.declared.firsts.Part.TheVariants.{Receivers, Sources, Groups}
-use Rattle.a429_import.specs.declared.lines.CsvLine.{CsvLine}
+use Rattle.a429_text.specs.declared.csv_line.CsvLine.{CsvLine}
 use Rattle.a429_import.specs.declared.rows.ImportRow.{ImportRow}
-use Rattle.a429_import.specs.Known.{first_from}
+use Rattle.a429_import.specs.IndexedRows.{first_from}
 use Rattle.a429_import.specs.ImportClashes.{Agree, clash_at, earlier_clash, first_part_clash, numbered, part_clash}
 use Rattle.a429_import.specs.ImportRows.{agreed, clash, first_clash, next_row, row_of, with_row}
 use Rattle.a429_import.specs.ImportTables.{name_in}

@@ -14,7 +14,7 @@ use Rattle.csv.specs.declared.parser.State.TheVariants as st
 use Rattle.csv.specs.declared.reader.Reader.{Reader}
 use Rattle.csv.proofs.ReadFacts.{rows-end, rows-more}
 use Rattle.a429_import.specs.declared.forms.Form.{Form}
-use Rattle.a429_import.specs.declared.lines.CsvLine.{CsvLine}
+use Rattle.a429_text.specs.declared.csv_line.CsvLine.{CsvLine}
 use Rattle.a429_import.specs.declared.lines.LineCount.{LineCount}
 use Rattle.a429_import.specs.ImportForms.{after_separator, ends_line, field_len, from_heading, heading_among, is_heading, later_lines, len_before, names_column, names_in_row, quotes_end, separator_in, separators}
 use Rattle.a429_import.specs.ImportReading.{HasRead}

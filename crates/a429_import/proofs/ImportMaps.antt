@@ -4,7 +4,7 @@ use Rattle.std.specs.Prelude.{◌==◌}
 use Rattle.std.proofs.lemmas.Bool.{eqb-true}
 use Rattle.std.proofs.lemmas.List.{map-id}
 use Rattle.csv.specs.Records.{fields_of}
-use Rattle.a429_import.specs.declared.lines.CsvLine.{CsvLine}
+use Rattle.a429_text.specs.declared.csv_line.CsvLine.{CsvLine}
 use Rattle.a429_import.specs.ImportMaps.{IsNamedBy, given_texts}
 
 no_text : (maps : List (Bor (List ℕ))) → (length maps == 0) ≡ true → maps ≡ []

@@ -12,9 +12,9 @@ use Rattle.a429_import.specs.declared.fault.ImportColumn.{ImportColumn}
 use Rattle.a429_import.specs.declared.fault.ImportColumn.TheVariants.{Hold, Label, MaxUs, MinUs, Rate, Sdi}
 use Rattle.a429_import.specs.declared.fault.ImportFault.{ImportFault}
 use Rattle.a429_import.specs.declared.fault.ImportFault.TheVariants.{NoMemory, Csv, Table}
-use Rattle.a429_import.specs.declared.lines.CsvLine.{CsvLine}
+use Rattle.a429_text.specs.declared.csv_line.CsvLine.{CsvLine}
 use Rattle.a429_import.specs.declared.notes.Notes.{Notes}
-use Rattle.a429_import.specs.declared.known.Known.{Known}
+use Rattle.a429_import.specs.declared.indexed_rows.IndexedRows.{IndexedRows}
 use Rattle.a429_import.specs.declared.rows.ImportRow.{ImportRow}
 use Rattle.a429_import.specs.declared.rows.RowNumbers.{RowNumbers}
 use Rattle.a429_import.specs.declared.rows.RowTexts.{RowTexts}
@@ -145,7 +145,7 @@ module _ (heading : List (List ℕ)) (below : List CsvLine) (line : CsvLine) whe
   one_longer : length all ≡ length below + 1
   one_longer = length-append below (line ∷ [])
 
-  module _ (read : Known) (old : Notes) (known : AreBelow heading below read old) where
+  module _ (read : IndexedRows) (old : Notes) (known : AreBelow heading below read old) where
     -- a row that may be a note
     pub note_taken : (new : Notes) → vec_len new.rows ≡ vec_len old.rows + 1 → new.is_labelled ≡ old.is_labelled → HoldsFirst old.held new.held (row_of heading line)
         → old.is_labelled ≡ true → has_label heading line ≡ false → AreBelow heading all read new
@@ -170,12 +170,12 @@ module _ (heading : List (List ℕ)) (below : List CsvLine) (line : CsvLine) whe
     is_stated : (old.is_labelled && not (has_label heading line)) ≡ false → without_notes heading all ≡ all
     is_stated h = stated_by (has_label heading line) refl h
 
-    pub held_taken : (e : ImportFault) (new : Known) (notes : Notes) → old.held ≡ Some e → (old.is_labelled && not (has_label heading line)) ≡ false → AreTaken (Err e) heading all new notes
+    pub held_taken : (e : ImportFault) (new : IndexedRows) (notes : Notes) → old.held ≡ Some e → (old.is_labelled && not (has_label heading line)) ≡ false → AreTaken (Err e) heading all new notes
     held_taken e new notes is none =
         let held = subst (λ o. IsHeld o read.rows.items (rows_after heading [] below)) is known.held in
         subst (λ ls. IsFault e (rows_after heading [] ls)) (sym (is_stated none)) (refused_after e held)
 
-    pub row_taken : (result : Result (Unit {0}) ImportFault) (new : Known) (notes : Notes) → old.held ≡ None → (old.is_labelled && not (has_label heading line)) ≡ false
+    pub row_taken : (result : Result (Unit {0}) ImportFault) (new : IndexedRows) (notes : Notes) → old.held ≡ None → (old.is_labelled && not (has_label heading line)) ≡ false
         → notes.held ≡ None → vec_len notes.rows ≡ 0 → notes.is_labelled ≡ (old.is_labelled || has_label heading line) → IsTaken result new (with_line heading read.rows.items line) → AreTaken result heading all new notes
     row_taken (Ok u) new notes is none held count labelled (stated, agree, knows) =
         let was = subst (λ o. IsHeld o read.rows.items (rows_after heading [] below)) is known.held in

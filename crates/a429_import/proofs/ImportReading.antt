@@ -1,5 +1,5 @@
 -- What is known of lines, after one more line.
-use Rattle.std.proofs.Common.{◌≡◌, ◌∙◌, ◌+◌, ℕ, List, [], ◌∷◌, ◌++◌, Option, None, Some, option_map, Result, Ok, Err, Bool, true, false, ap, append-nil, arith, refl, subst, sym}
+use Rattle.std.proofs.Common.{◌≡◌, ◌∙◌, ◌+◌, ℕ, List, [], ◌∷◌, ◌++◌, Option, None, Some, option_map, Result, Ok, Err, Bool, true, false, ap, append-nil, arith, cond, refl, subst, sym}
 use Rattle.std.specs.Prelude.{OnOk, filter, is_some, unwrap_or, vec_len}
 use Rattle.std.specs.Result.{result_err}
 use Rattle.csv.specs.Records.{fields_of}
@@ -7,17 +7,15 @@ use Rattle.a429_import.specs.declared.fault.CsvFaultKind.TheVariants.{Column}
 use Rattle.a429_import.specs.declared.fault.ImportColumn.{ImportColumn}
 use Rattle.a429_import.specs.declared.fault.ImportFault.{ImportFault}
 use Rattle.a429_import.specs.declared.fault.ImportFault.TheVariants.{NoMemory, Csv, Table}
-use Rattle.a429_import.specs.declared.known.Known.{Known}
-use Rattle.a429_import.specs.declared.lines.CsvLine.{CsvLine}
+use Rattle.a429_text.specs.declared.csv_line.CsvLine.{CsvLine}
 use Rattle.a429_import.specs.declared.reading.LinesRead.{LinesRead}
 use Rattle.a429_import.specs.declared.rows.ImportRow.{ImportRow}
 use Rattle.a429_import.specs.ImportClashes.{Agree}
-use Rattle.a429_import.specs.ImportReading.{AreBelow, AreRead, AreTaken, IsAdded, IsHeld, IsReadRow, KnowsNothing, SayRows, heading_fault}
-use Rattle.a429_import.specs.ImportRows.{CsvFault, limited, note_count, rows_after, rows_stated, unless_wrong, without_notes, wrong_column}
+use Rattle.a429_import.specs.ImportReading.{AreBelow, AreRead, AreTaken, IsHeld, IsReadRow, KnowsNothing, SayRows, heading_fault}
+use Rattle.a429_import.specs.ImportRows.{CsvFault, limited, note_count, rows_after, rows_stated, says_nothing, unless_wrong, with_row, without_notes, wrong_column}
 use Rattle.a429_import.specs.ImportLimits.{too_many}
 use Rattle.a429_import.specs.Imports.{States, has_text}
 use Rattle.a429_import.specs.KeptFields.{KeepsTexts, kept_of, lines_kept}
-use Rattle.a429_import.specs.Known.{Knows}
 use Rattle.a429_import.proofs.ImportNotes.{still_refused}
 
 -- a result that succeeds
@@ -118,8 +116,9 @@ not_filled lines line is = rw is (append-nil lines)
 
 -- ---- one more row
 
--- rows that were taken, unless they have one too many of something
-pub added : (column : Option ImportColumn) (known : Known) (row : ImportRow) (stated : ℕ → Result (List ImportRow) CsvFault) → column ≡ too_many known.rows.items row → Knows known
-    → ((line : ℕ) → stated line ≡ limited line known.rows.items (too_many known.rows.items row)) → IsAdded column known stated
-added None known row stated is knows are = ((λ line. are line ∙ ap (limited line known.rows.items) (sym is)), knows)
-added (Some column) known row stated is knows are = λ line. are line ∙ ap (limited line known.rows.items) (sym is)
+-- a row that says something new is taken, unless there is one too many of something
+pub row_added : (line : ℕ) (rows all : List ImportRow) (row : ImportRow) (column : Option ImportColumn) → says_nothing rows row ≡ false → all ≡ rows ++ row ∷ [] → column ≡ too_many all row
+    → with_row line rows row ≡ limited line all column
+row_added line rows all row column new are is =
+    ap (λ (b : Bool). cond b (Ok rows) (limited line (rows ++ row ∷ []) (too_many (rows ++ row ∷ []) row))) new
+    ∙ ap (λ (rs : List ImportRow). limited line rs (too_many rs row)) (sym are) ∙ ap (limited line all) (sym is)

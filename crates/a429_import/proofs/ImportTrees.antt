@@ -93,21 +93,6 @@ put_next key value old new rest same before put = put (rw same before) ∙ ap (m
 
 -- ---- words
 
-if_word : (b : Bool) (word : List ℕ) (words : List (List ℕ)) → map (λ w. string w) (cond b (word ∷ words) words) ≡ (if b then string word ∷ [] else []) ++ map (λ w. string w) words
-if_word true word words = refl
-if_word false word words = refl
-
--- one more part of a text, which may be no word
-pub words_more : {X : Type 0} (xs : List X) (text : X → List ℕ) (k : ℕ) (x : X) (old new whole : List Data) → slice_get xs k ≡ Some x
-    → old ++ map (λ w. string w) (filter is_word (map text (drop k xs))) ≡ whole → new ≡ old ++ (if is_word (text x) then string (text x) ∷ [] else [])
-    → new ++ map (λ w. string w) (filter is_word (map text (drop (k + 1) xs))) ≡ whole
-words_more {X} xs text k x old new whole there so now =
-    let others : List (List ℕ) = filter is_word (map text (drop (k + 1) xs)) in
-    let first : List Data = if is_word (text x) then string (text x) ∷ [] else [] in
-    let left : map (λ w. string w) (filter is_word (map text (drop k xs))) ≡ first ++ map (λ w. string w) others =
-    ap (λ (ys : List X). map (λ w. string w) (filter is_word (map text ys))) (drop_at xs k x there) ∙ if_word (is_word (text x)) (text x) others in
-    ap (λ (ds : List Data). ds ++ map (λ w. string w) others) now ∙ append_assoc old first (map (λ w. string w) others) ∙ ap (λ (ds : List Data). old ++ ds) (sym left) ∙ so
-
 -- the filters of a receiver that has at least one
 pub filters_put : (ws : List (List ℕ)) (values : List Value) (old new : Members) → map view values ≡ map (λ w. string w) ws → (length values == 0) ≡ false
     → new ≡ member (codes "filters") (listed (map view values)) old → new ≡ with_filters ws old

@@ -11,7 +11,7 @@ use Rattle.std.proofs.lemmas.Slice.Eq.{bytes_eq-Decides}
 use Rattle.csv.specs.Records.{fields_of}
 use Rattle.a429_import.specs.declared.kept.KeptText.{KeptText}
 use Rattle.a429_import.specs.declared.kept.KeptTexts.{KeptTexts}
-use Rattle.a429_import.specs.declared.lines.CsvLine.{CsvLine}
+use Rattle.a429_text.specs.declared.csv_line.CsvLine.{CsvLine}
 use Rattle.a429_import.specs.declared.fault.ImportColumn.TheVariants.{Source}
 use Rattle.a429_import.specs.ImportRows.{column_field, has_label}
 use Rattle.a429_import.specs.ImportTables.{is_word}

@@ -18,11 +18,11 @@ use Rattle.std.proofs.Math.Seq.{get_or-append_seam}
 use Rattle.a429_word.proofs.Lists.{get_within}
 use Rattle.a429_import.specs.declared.firsts.Part.{Part}
 use Rattle.a429_import.specs.declared.firsts.Part.TheVariants.{Receivers, Sources, Groups}
-use Rattle.a429_import.specs.declared.known.Known.{Known}
-use Rattle.a429_import.specs.declared.known.NamedRows.{NamedRows}
+use Rattle.a429_import.specs.declared.indexed_rows.IndexedRows.{IndexedRows}
+use Rattle.a429_import.specs.declared.indexed_rows.NamedRows.{NamedRows}
 use Rattle.a429_import.specs.declared.rows.ImportRow.{ImportRow}
 use Rattle.a429_import.specs.ImportTables.{firsts, firsts_after, is_known, name_in, unless_known}
-use Rattle.a429_import.specs.Known.{Knows, KnowsFirsts, KnowsMore, first_from, named_of, names_of, numbers_of, place_of}
+use Rattle.a429_import.specs.IndexedRows.{IsIndexed, IndexesFirsts, IndexesMore, first_from, named_of, names_of, numbers_of, place_of}
 use Rattle.a429_import.proofs.FirstRows.{bytes_eq-flip, position_from-push}
 
 -- ---- the first rows, with one more row
@@ -120,7 +120,7 @@ found_here {X} p n (x ∷ xs) m h = by (p x) refl h (found_here p (n + 1) xs m)
     by false e k rest = let later = rest k in record { at = suc later.at; counted = omega (arith, later.counted); element = later.element; there = later.there; passes = later.passes }
 
 -- the first row at a place
-pub first_there : (part : Part) (named : NamedRows) (rows : List ImportRow) (place : ℕ) → KnowsFirsts part named rows → place < length (names_of named)
+pub first_there : (part : Part) (named : NamedRows) (rows : List ImportRow) (place : ℕ) → IndexesFirsts part named rows → place < length (names_of named)
     → (row : ImportRow) × (slice_get (firsts part rows) place ≡ Some row) × (slice_get rows (get_or (numbers_of named) place 0) ≡ Some row)
 first_there part named rows place known within =
     let many : length (names_of named) ≡ length (firsts part rows) = ap length known.names ∙ length-map (firsts part rows) (name_in part) in
@@ -136,7 +136,7 @@ pub record IsKnownAt (part : Part) (named : NamedRows) (rows : List ImportRow) (
   pub is_named : name_in part row ≡ name
   pub number : first_from part name 0 rows ≡ Some (get_or (numbers_of named) place 0)
 
-pub known_at : (part : Part) (named : NamedRows) (rows : List ImportRow) (name : List ℕ) (place : ℕ) → KnowsFirsts part named rows → position_from (bytes_eq name) 0 (names_of named) ≡ Some place → IsKnownAt part named rows name place
+pub known_at : (part : Part) (named : NamedRows) (rows : List ImportRow) (name : List ℕ) (place : ℕ) → IndexesFirsts part named rows → position_from (bytes_eq name) 0 (names_of named) ≡ Some place → IsKnownAt part named rows name place
 known_at part named rows name place known h =
     let f = found_here (bytes_eq name) 0 (names_of named) place h in
     let at : f.at ≡ place = let k = f.counted in omega (arith, k) in
@@ -152,7 +152,7 @@ known_at part named rows name place known h =
       number = sym (known.first name) ∙ ap (option_map (λ p. get_or (numbers_of named) p 0)) h;
     }
 
-pub unknown : (part : Part) (named : NamedRows) (rows : List ImportRow) (name : List ℕ) → KnowsFirsts part named rows → position_from (bytes_eq name) 0 (names_of named) ≡ None → first_from part name 0 rows ≡ None
+pub unknown : (part : Part) (named : NamedRows) (rows : List ImportRow) (name : List ℕ) → IndexesFirsts part named rows → position_from (bytes_eq name) 0 (names_of named) ≡ None → first_from part name 0 rows ≡ None
 unknown part named rows name known h = sym (known.first name) ∙ ap (option_map (λ p. get_or (numbers_of named) p 0)) h
 
 some_place : (numbers : List ℕ) (o : Option ℕ) → is_some o ≡ is_some (option_map (λ p. get_or numbers p 0) o)
@@ -160,7 +160,7 @@ some_place numbers None = refl
 some_place numbers (Some place) = refl
 
 -- a name that is found is that of an earlier row
-pub found_is_known : (part : Part) (named : NamedRows) (rows : List ImportRow) (row : ImportRow) → KnowsFirsts part named rows → is_some (place_of named (name_in part row)) ≡ is_known part rows row
+pub found_is_known : (part : Part) (named : NamedRows) (rows : List ImportRow) (row : ImportRow) → IndexesFirsts part named rows → is_some (place_of named (name_in part row)) ≡ is_known part rows row
 found_is_known part named rows row known =
     some_place (numbers_of named) (place_of named (name_in part row)) ∙ ap is_some (known.first (name_in part row)) ∙ sym (known_if part rows row)
 
@@ -175,7 +175,7 @@ never_more true n o h = let some = h refl in or_kept o some.0 (Some n) some.1
 never_more false n None h = refl
 never_more false n (Some k) h = refl
 
-pub known_kept : (part : Part) (named : NamedRows) (rows : List ImportRow) (row : ImportRow) (k : ℕ) → KnowsFirsts part named rows → first_from part (name_in part row) 0 rows ≡ Some k → KnowsFirsts part named (rows ++ row ∷ [])
+pub known_kept : (part : Part) (named : NamedRows) (rows : List ImportRow) (row : ImportRow) (k : ℕ) → IndexesFirsts part named rows → first_from part (name_in part row) 0 rows ≡ Some k → IndexesFirsts part named (rows ++ row ∷ [])
 known_kept part named rows row k known there =
     let same : firsts part (rows ++ row ∷ []) ≡ firsts part rows = firsts_old part rows row k there in
     record {
@@ -195,8 +195,8 @@ some_or_last numbers n many None true long low = ap (λ (m : ℕ). Some (get_or 
 some_or_last numbers n many None false long low = refl
 some_or_last numbers n many (Some p) b long low = let few : p < many = low p refl in ap (λ (m : ℕ). Some m) (get_or-append numbers (n ∷ []) 0 p (omega (arith, few, long)))
 
-pub known_added : (part : Part) (old new : NamedRows) (rows : List ImportRow) (row : ImportRow) → KnowsFirsts part old rows → names_of new ≡ names_of old ++ name_in part row ∷ []
-    → numbers_of new ≡ numbers_of old ++ length rows ∷ [] → first_from part (name_in part row) 0 rows ≡ None → position_from (bytes_eq (name_in part row)) 0 (names_of old) ≡ None → KnowsFirsts part new (rows ++ row ∷ [])
+pub known_added : (part : Part) (old new : NamedRows) (rows : List ImportRow) (row : ImportRow) → IndexesFirsts part old rows → names_of new ≡ names_of old ++ name_in part row ∷ []
+    → numbers_of new ≡ numbers_of old ++ length rows ∷ [] → first_from part (name_in part row) 0 rows ≡ None → position_from (bytes_eq (name_in part row)) 0 (names_of old) ≡ None → IndexesFirsts part new (rows ++ row ∷ [])
 known_added part old new rows row known named numbered none nowhere =
     let names = names_of old in
     let numbers = numbers_of old in
@@ -247,14 +247,14 @@ some_place_of : (o : Option ℕ) → is_some o ≡ true → (place : ℕ) × (o 
 some_place_of None some = cc some
 some_place_of (Some place) some = (place, refl)
 
-pub known_again : (named : NamedRows) (name : List ℕ) (number : ℕ) → is_some (place_of named name) ≡ true → KnowsMore named named name number
+pub known_again : (named : NamedRows) (name : List ℕ) (number : ℕ) → is_some (place_of named name) ≡ true → IndexesMore named named name number
 known_again named name number some = λ part rows row own same known.
     let (place, there) = some_place_of (place_of named name) some in
     let at : place_of named (name_in part row) ≡ Some place = ap (place_of named) (sym own) ∙ there in
     known_kept part named rows row _ known (known_at part named rows (name_in part row) place known at).number
 
 pub known_more : (old new : NamedRows) (key : String Global) (name : List ℕ) (number : ℕ) → is_some (place_of old name) ≡ false → is_some (get_by_text old.firsts name) ≡ false → string_bytes key ≡ name
-    → new.firsts.entries ≡ insert_entry string_eq old.firsts.entries key number → KnowsMore old new name number
+    → new.firsts.entries ≡ insert_entry string_eq old.firsts.entries key number → IndexesMore old new name number
 known_more old new key name number none absent is inserted = λ part rows row own same known.
     let nowhere = no_place (place_of old name) none in
     let at : place_of old (name_in part row) ≡ None = ap (place_of old) (sym own) ∙ nowhere in
@@ -275,7 +275,7 @@ place_within named name place found =
 
 -- ---- all parts
 
-pub knows_part : (part : Part) (known : Known) → Knows known → KnowsFirsts part (named_of part known) known.rows.items
+pub knows_part : (part : Part) (known : IndexedRows) → IsIndexed known → IndexesFirsts part (named_of part known) known.rows.items
 knows_part Receivers known knows = knows.receivers
 knows_part Sources known knows = knows.sources
 knows_part Groups known knows = knows.groups

@@ -7,23 +7,23 @@ use Rattle.std.specs.Str.{bytes_eq}
 use Rattle.std.proofs.lemmas.Option.{get_or_from_slice_get, same_Some, slice_get-map}
 use Rattle.a429_import.specs.declared.firsts.Part.{Part}
 use Rattle.a429_import.specs.declared.firsts.Part.TheVariants.{Groups}
-use Rattle.a429_import.specs.declared.known.Known.{Known}
-use Rattle.a429_import.specs.declared.known.NamedRows.{NamedRows}
+use Rattle.a429_import.specs.declared.indexed_rows.IndexedRows.{IndexedRows}
+use Rattle.a429_import.specs.declared.indexed_rows.NamedRows.{NamedRows}
 use Rattle.a429_import.specs.declared.rows.ImportRow.{ImportRow}
 use Rattle.a429_import.specs.ImportClashes.{Agree, clash_at, first_part_clash, numbered, part_clash}
 use Rattle.a429_import.specs.ImportLimits.{has_too_many_outputs}
 use Rattle.a429_import.specs.ImportTables.{firsts, has_group, name_in, same_name}
-use Rattle.a429_import.specs.Known.{Knows, KnowsFirsts, numbers_of, outputs_of, place_of}
+use Rattle.a429_import.specs.IndexedRows.{IsIndexed, IndexesFirsts, numbers_of, outputs_of, place_of}
 use Rattle.a429_import.proofs.ImportClashes.{first_named_decides, none_named}
 use Rattle.a429_import.proofs.Knowing.{known_at, unknown}
 use Rattle.a429_import.proofs.KnownRows.{above, none_counted}
 
 -- ---- the first row of a name decides
 
-pub undecided : (part : Part) (named : NamedRows) (rows : List ImportRow) (row : ImportRow) → KnowsFirsts part named rows → place_of named (name_in part row) ≡ None → first_part_clash part 0 rows row ≡ None
+pub undecided : (part : Part) (named : NamedRows) (rows : List ImportRow) (row : ImportRow) → IndexesFirsts part named rows → place_of named (name_in part row) ≡ None → first_part_clash part 0 rows row ≡ None
 undecided part named rows row known h = none_named part 0 rows row (unknown part named rows (name_in part row) known h)
 
-pub decided : (part : Part) (named : NamedRows) (rows : List ImportRow) (row first : ImportRow) (place number : ℕ) → Agree rows → KnowsFirsts part named rows → place_of named (name_in part row) ≡ Some place
+pub decided : (part : Part) (named : NamedRows) (rows : List ImportRow) (row first : ImportRow) (place number : ℕ) → Agree rows → IndexesFirsts part named rows → place_of named (name_in part row) ≡ Some place
     → slice_get (firsts part rows) place ≡ Some first → number ≡ get_or (numbers_of named) place 0 → numbered number (part_clash part first row) ≡ first_part_clash part 0 rows row
 decided part named rows row first place number agree known found there is =
     let k = known_at part named rows (name_in part row) place known found in
@@ -36,7 +36,7 @@ decided part named rows row first place number agree known found there is =
 -- ---- outputs
 
 -- whether a group that is known has too many outputs
-pub outputs_known : (known : Known) (row : ImportRow) (place : ℕ) → Knows known → place_of known.groups row.texts.group ≡ Some place
+pub outputs_known : (known : IndexedRows) (row : ImportRow) (place : ℕ) → IsIndexed known → place_of known.groups row.texts.group ≡ Some place
     → nat_lt 128 (get_or known.outputs.items place 0) ≡ nat_lt 128 (count_by (same_name Groups row) known.rows.items)
 outputs_known known row place knows found =
     let rows : List ImportRow = known.rows.items in
@@ -51,7 +51,7 @@ none_above true = refl
 none_above false = refl
 
 -- one that is not known has none
-pub no_outputs : (known : Known) (row : ImportRow) → Knows known → place_of known.groups row.texts.group ≡ None → has_too_many_outputs known.rows.items row ≡ false
+pub no_outputs : (known : IndexedRows) (row : ImportRow) → IsIndexed known → place_of known.groups row.texts.group ≡ None → has_too_many_outputs known.rows.items row ≡ false
 no_outputs known row knows nowhere =
     let none = unknown Groups known.groups known.rows.items row.texts.group knows.groups nowhere in
     ap (λ (n : ℕ). has_group row && nat_lt 128 n) (none_counted (same_name Groups row) 0 known.rows.items none) ∙ none_above (has_group row)

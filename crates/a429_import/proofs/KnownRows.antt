@@ -11,10 +11,10 @@ use Rattle.std.proofs.lemmas.Option.{none-some, same_Some, slice_get-map, slice_
 use Rattle.std.proofs.lemmas.Slice.Eq.{bytes_eq-Decides}
 use Rattle.a429_word.proofs.Lists.{false_unless, take_next}
 use Rattle.a429_import.specs.declared.firsts.Part.TheVariants.{Groups}
-use Rattle.a429_import.specs.declared.known.NamedRows.{NamedRows}
+use Rattle.a429_import.specs.declared.indexed_rows.NamedRows.{NamedRows}
 use Rattle.a429_import.specs.declared.rows.ImportRow.{ImportRow}
 use Rattle.a429_import.specs.ImportTables.{firsts, name_in, same_name}
-use Rattle.a429_import.specs.Known.{KnowsFirsts, first_from, names_of, one_output, outputs_of, place_of, with_output}
+use Rattle.a429_import.specs.IndexedRows.{IndexesFirsts, first_from, names_of, one_output, outputs_of, place_of, with_output}
 use Rattle.a429_import.proofs.Knowing.{firsts_new, firsts_old, known_at, unknown}
 
 count_push : (p : ImportRow → Bool) (rows : List ImportRow) (row : ImportRow) → count_by p (rows ++ row ∷ []) ≡ count_by p rows + cond (p row) 1 0
@@ -69,7 +69,7 @@ set_map f g h (y ∷ xs) (suc i) x there own others =
     ap₂ (λ a rest. a ∷ rest) (sym (others 0 y refl (λ e. absurd (omega (arith, e))))) (set_map f g h xs i x there own (λ j z at apart. others (suc j) z at (λ e. let same : j ≡ i = omega (arith, e) in apart same)))
 
 -- the groups that are known have one name each
-other_group : (named : NamedRows) (rows : List ImportRow) (row group : ImportRow) (j : ℕ) → KnowsFirsts Groups named rows → slice_get (firsts Groups rows) j ≡ Some group
+other_group : (named : NamedRows) (rows : List ImportRow) (row group : ImportRow) (j : ℕ) → IndexesFirsts Groups named rows → slice_get (firsts Groups rows) j ≡ Some group
     → (place_of named row.texts.group ≡ Some j → ⊥) → outputs_of (rows ++ row ∷ []) group ≡ outputs_of rows group
 other_group named rows row group j known there apart =
     let named_so : slice_get (names_of named) j ≡ Some group.texts.group =
@@ -88,7 +88,7 @@ none_counted p n (r ∷ rows) e =
     sum_by-cons (λ x. cond (p x) 1 0) r rows ∙ ap₂ (λ b c. cond b 1 0 + c) t.0 (none_counted p (n + 1) rows t.1)
 
 -- the outputs of each group after one more row
-pub outputs_more : (named : NamedRows) (rows : List ImportRow) (row : ImportRow) (outputs : List ℕ) (place : Option ℕ) → KnowsFirsts Groups named rows → outputs ≡ map (outputs_of rows) (firsts Groups rows)
+pub outputs_more : (named : NamedRows) (rows : List ImportRow) (row : ImportRow) (outputs : List ℕ) (place : Option ℕ) → IndexesFirsts Groups named rows → outputs ≡ map (outputs_of rows) (firsts Groups rows)
     → place ≡ place_of named row.texts.group → with_output outputs place ≡ map (outputs_of (rows ++ row ∷ [])) (firsts Groups (rows ++ row ∷ []))
 outputs_more named rows row outputs (Some place) known are found =
     let k = known_at Groups named rows row.texts.group place known (sym found) in
@@ -112,7 +112,7 @@ outputs_more named rows row outputs None known are nowhere =
     ∙ ap (map (outputs_of all)) (sym (firsts_new Groups rows row none))
 
 -- a group that is known has its number of outputs
-pub group_within : (named : NamedRows) (rows : List ImportRow) (name : List ℕ) (place : ℕ) (outputs : List ℕ) → KnowsFirsts Groups named rows → outputs ≡ map (outputs_of rows) (firsts Groups rows)
+pub group_within : (named : NamedRows) (rows : List ImportRow) (name : List ℕ) (place : ℕ) (outputs : List ℕ) → IndexesFirsts Groups named rows → outputs ≡ map (outputs_of rows) (firsts Groups rows)
     → place_of named name ≡ Some place → place < length outputs
 group_within named rows name place outputs known are found =
     let k = known_at Groups named rows name place known found in

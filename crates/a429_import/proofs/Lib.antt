@@ -1,4 +1,3 @@
-pub mod RowFields
 pub mod ImportTrees
 pub mod ImportRanges
 pub mod ImportRecords
@@ -24,7 +23,6 @@ pub mod ImportAbove
 pub mod HeadingFirst
 pub mod WrittenQuotes
 mod ImportMaps
-mod Headings
 pub mod Trimmed
 pub mod SameLetters
 pub mod KeyedLines

@@ -22,8 +22,8 @@ use Rattle.a429_import.specs.declared.firsts.Part.{Part}
 use Rattle.a429_import.specs.declared.firsts.Part.TheVariants.{Receivers, Sources, Groups}
 use Rattle.a429_import.specs.declared.rows.ImportRow.{ImportRow}
 use Rattle.a429_import.specs.ImportTables.{firsts, group_tree, groups_of, is_stated, listed, name_in, number, output_tree, part_tree, part_trees, receiver_tree, root_members, rows_of_group, sdi_data, source_tree, with_filters, with_hold, words}
-use Rattle.a429_import.specs.declared.known.Known.{Known}
-use Rattle.a429_import.specs.Known.{Knows, names_of}
+use Rattle.a429_import.specs.declared.indexed_rows.IndexedRows.{IndexedRows}
+use Rattle.a429_import.specs.IndexedRows.{IsIndexed, names_of}
 use Rattle.a429_import.specs.PrintedTables.{IsSkipped, IsWithTables, PrintsTables, alone, head_members, with_empty}
 use Rattle.a429_import.specs.TableTexts.{IsTableText, is_placed, piece_of, pieces}
 use Rattle.a429_import.proofs.ImportTrees.{group_depth, output_depth, receiver_depth, source_depth, trees_are}
@@ -439,7 +439,7 @@ version_alone = member (codes "version") (number 2) no_members
 count_of : {X Y : Type 0} (f : X → Y) (g : X → Data) (names : List Y) (xs : List X) (count : ℕ) → count ≡ length names → names ≡ map f xs → count ≡ length (map g xs)
 count_of f g names xs count counted same = counted ∙ ap length same ∙ length-map xs f ∙ sym (length-map xs g)
 
-pub head_is : (known : Known) (a b c d : Members) (sources receivers groups : ℕ) → Knows known → a ≡ version_alone
+pub head_is : (known : IndexedRows) (a b c d : Members) (sources receivers groups : ℕ) → IsIndexed known → a ≡ version_alone
     → sources ≡ length (names_of known.sources) → receivers ≡ length (names_of known.receivers) → groups ≡ length (groups_of known.rows.items)
     → (is_before (codes "source") a ≡ true → (xs : List Data) → sources ≡ length xs → b ≡ with_empty (codes "source") xs a)
     → (is_before (codes "receiver") b ≡ true → (xs : List Data) → receivers ≡ length xs → c ≡ with_empty (codes "receiver") xs b)

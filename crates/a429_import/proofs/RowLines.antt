@@ -7,7 +7,7 @@ use Rattle.std.specs.Option.{option_map, option_map_or, option_or}
 use Rattle.std.proofs.lemmas.Bool.{cases_lt}
 use Rattle.std.proofs.lemmas.List.{drop_all, drop_more, length-drop}
 use Rattle.std.proofs.lemmas.Option.{none-some, same_Some}
-use Rattle.csv.specs.Machine.{Read, ends_at_end, field_after, fields_after, is_end, next_record, start_field, start_record, step}
+use Rattle.csv.specs.Machine.{Read, ends_at_end, field_after, fields_after, in_field, is_end, next_record, start_field, start_record, step}
 use Rattle.csv.specs.Reading.{Reached}
 use Rattle.csv.specs.declared.parser.Config.{Config}
 use Rattle.csv.specs.declared.parser.Action.{Action}
@@ -17,8 +17,9 @@ use Rattle.csv.specs.declared.parser.State.TheVariants as st
 use Rattle.a429_text.specs.CutText.{without_byte_order_mark}
 use Rattle.a429_import.specs.declared.lines.LineCount.{LineCount}
 use Rattle.a429_import.specs.declared.lines.Part.{Part}
+use Rattle.a429_import.specs.declared.lines.Part.TheVariants as part
 use Rattle.a429_import.specs.ImportForms.{count_before, ends_line, from_heading, from_line, heading_among, heading_of, is_heading, later_lines, quoted_len, separators}
-use Rattle.a429_import.specs.ImportSteps.{ended_by, ends_row}
+use Rattle.a429_import.specs.ImportSteps.{state_of}
 use Rattle.a429_import.specs.Imports.{separated}
 use Rattle.a429_import.specs.LineCounts.{HasCounted, IsEnd, after_return, begins_with_end, is_between, row_end}
 use Rattle.a429_import.specs.RowLines.{and_next, ends_from, ends_here, from_row, line_of, lines_from}
@@ -137,12 +138,69 @@ row_at_end separator s text i past =
     let none : drop i text ≡ [] = drop_all i text past in
     rw none refl
 
--- what ended is a row
-pub ended_row : (a : Action) → ends_row (ended_by a) ≡ is_end a
-ended_row act.Skip = refl
-ended_row act.Copy = refl
-ended_row act.EndField = refl
-ended_row act.EndRecord = refl
+-- outside line ends before a row, a byte ends a row exactly if no byte of the next one was passed then
+abbrev field_step : Bool → Bool → Bool → State × Action
+field_step x y z = cond x (st.StartField, act.EndField) (cond (y || z) (cond y st.AfterCr st.StartRecord, act.EndRecord) (st.InField, act.Copy))
+
+field_ends : (separator b : ℕ) → is_end (in_field (separated separator) b).1 ≡ is_between (in_field (separated separator) b).0
+field_ends separator b = by (b == separator) (b == 13) (b == 10)
+  where
+    by : (x y z : Bool) → is_end (field_step x y z).1 ≡ is_between (field_step x y z).0
+    by true y z = refl
+    by false true z = refl
+    by false false true = refl
+    by false false false = refl
+
+or_field : (t : Bool) (p q : State × Action) → is_end p.1 ≡ is_between p.0 → is_end q.1 ≡ is_between q.0 → is_end (cond t p q).1 ≡ is_between (cond t p q).0
+or_field true p q first second = first
+or_field false p q first second = second
+
+first_ends : (separator b : ℕ) → is_end (start_field (separated separator) b).1 ≡ is_between (start_field (separated separator) b).0
+first_ends separator b = or_field (b == 34) (st.InQuoted, act.Skip) (in_field (separated separator) b) refl (field_ends separator b)
+
+no_crlf : (b : ℕ) → ends_line b ≡ false → ((b == 13) || (b == 10)) ≡ false
+no_crlf b is = swapped (b == 10) (b == 13) is
+  where
+    swapped : (s t : Bool) → (s || t) ≡ false → (t || s) ≡ false
+    swapped true true is = is
+    swapped true false is = is
+    swapped false true is = is
+    swapped false false is = refl
+
+no_feed : (b : ℕ) → ends_line b ≡ false → (b == 10) ≡ false
+no_feed b is = first (b == 10) (b == 13) is
+  where
+    first : (s t : Bool) → (s || t) ≡ false → s ≡ false
+    first true t is = is
+    first false t is = refl
+
+row_starts : (separator b : ℕ) → ends_line b ≡ false → is_end (start_record (separated separator) b).1 ≡ is_between (start_record (separated separator) b).0
+row_starts separator b is =
+    let q = start_field (separated separator) b in
+    ap (λ (t : Bool). is_end (cond t (st.StartRecord, act.Skip) q).1) (no_crlf b is) ∙ first_ends separator b
+    ∙ sym (ap (λ (t : Bool). is_between (cond t (st.StartRecord, act.Skip) q).0) (no_crlf b is))
+
+pub row_ended : (separator : ℕ) (at : Part) (b : ℕ) → (is_between (state_of at) && ends_line b) ≡ false
+    → is_end (step (separated separator) (state_of at) b).1 ≡ is_between (step (separated separator) (state_of at) b).0
+row_ended separator part.Row b none = row_starts separator b none
+row_ended separator part.Return b none =
+    let q = start_record (separated separator) b in
+    ap (λ (t : Bool). is_end (cond t (st.StartRecord, act.Skip) q).1) (no_feed b none) ∙ row_starts separator b none
+    ∙ sym (ap (λ (t : Bool). is_between (cond t (st.StartRecord, act.Skip) q).0) (no_feed b none))
+row_ended separator part.Field b none = first_ends separator b
+row_ended separator part.Text b none = field_ends separator b
+row_ended separator part.Quoted b none = or_field (b == 34) (st.AfterQuote, act.Skip) (st.InQuoted, act.Copy) refl refl
+row_ended separator part.Quote b none = or_field (b == 34) (st.InQuoted, act.Copy) (in_field (separated separator) b) refl (field_ends separator b)
+
+pub not_begun : (b : Bool) {t : Bool} → t ≡ false → (b && t) ≡ false
+not_begun true is = is
+not_begun false is = refl
+
+-- the same for a byte of a text
+pub row_ended_at : (separator : ℕ) (at : Part) (text : List ℕ) (i : ℕ) → i < length text → (is_between (state_of at) && begins_with_end (drop i text)) ≡ false
+    → is_end (step (separated separator) (state_of at) (get_or text i 0)).1 ≡ is_between (step (separated separator) (state_of at) (get_or text i 0)).0
+row_ended_at separator at text i below none =
+    row_ended separator at (get_or text i 0) (ap (λ (bytes : List ℕ). is_between (state_of at) && begins_with_end bytes) (sym (drop_more text i 0 below)) ∙ none)
 
 -- ---- the record that is read
 

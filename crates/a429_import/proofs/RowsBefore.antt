@@ -3,14 +3,14 @@ use Rattle.std.proofs.Common.{◌≡◌, ◌∙◌, ◌<◌, ◌≤◌, ℕ, Non
 use Rattle.std.specs.Prelude.{slice_get}
 use Rattle.std.proofs.lemmas.Option.{get_or_from_slice_get, slice_get_past, slice_get_within}
 use Rattle.a429_import.specs.declared.firsts.Part.{Part}
-use Rattle.a429_import.specs.declared.known.Known.{Known}
+use Rattle.a429_import.specs.declared.indexed_rows.IndexedRows.{IndexedRows}
 use Rattle.a429_import.specs.declared.rows.ImportRow.{ImportRow}
 use Rattle.a429_import.specs.ImportTables.{firsts}
-use Rattle.a429_import.specs.Known.{Knows, named_of, names_of, numbers_of}
+use Rattle.a429_import.specs.IndexedRows.{IsIndexed, named_of, names_of, numbers_of}
 use Rattle.a429_import.proofs.ChosenNames.{firsts_count}
 use Rattle.a429_import.proofs.Knowing.{first_there, knows_part}
 
-module _ (part : Part) (known : Known) (place : ℕ) (knows : Knows known) where
+module _ (part : Part) (known : IndexedRows) (place : ℕ) (knows : IsIndexed known) where
   abbrev number : ℕ
   number = get_or (numbers_of (named_of part known)) place 0
 

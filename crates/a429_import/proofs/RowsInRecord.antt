@@ -17,7 +17,7 @@ use Rattle.a429_import.specs.declared.fault.ImportColumn.{ImportColumn}
 use Rattle.a429_import.specs.declared.fault.ImportColumn.TheVariants.{Receiver, Label, Sdi, Filters, Rate}
 use Rattle.a429_import.specs.declared.firsts.Part.{Part}
 use Rattle.a429_import.specs.declared.firsts.Part.TheVariants.{Receivers, Sources, Groups}
-use Rattle.a429_import.specs.declared.lines.CsvLine.{CsvLine}
+use Rattle.a429_text.specs.declared.csv_line.CsvLine.{CsvLine}
 use Rattle.a429_import.specs.declared.rows.ImportRow.{ImportRow}
 use Rattle.a429_import.specs.ImportRows.{agreed, clash, first_clash, next_row, other_clash, row_of, rows_after, rows_stated, source_clash, unless_wrong, without_notes, wrong_column}
 use Rattle.a429_import.specs.ImportTables.{filters_stated, firsts, firsts_after, group_stated, groups_of, has_group, is_known, name_in, number_of, output_stated, outputs_stated, receiver_stated, record_stated, rows_of_group, same_name, source_stated, words}

@@ -5,7 +5,7 @@ use Rattle.a429_import.specs.declared.columns.Heading.{Heading}
 use Rattle.a429_import.specs.declared.fault.ImportFault.{ImportFault}
 use Rattle.a429_import.specs.declared.import.Imported.{Imported}
 use Rattle.a429_import.specs.declared.import.ImportOptions.{ImportOptions}
-use Rattle.a429_import.specs.declared.lines.CsvLine.{CsvLine}
+use Rattle.a429_text.specs.declared.csv_line.CsvLine.{CsvLine}
 use Rattle.a429_import.specs.declared.reading.LinesRead.{LinesRead}
 use Rattle.a429_import.specs.declared.sheet_reading.BelowRead.{BelowRead}
 use Rattle.a429_import.specs.ImportMaps.{IsNamedBy}
@@ -13,8 +13,8 @@ use Rattle.a429_import.specs.Imports.{IsFilledImport, IsImportBy, IsImportFrom, 
 use Rattle.a429_import.specs.ImportReading.{HasNoRow, KnowsNothing, SayRows, StandsFor, heading_fault}
 use Rattle.a429_import.specs.KeptFields.{KeepsTexts, kept_of, lines_kept}
 use Rattle.a429_import.specs.KeyedLines.{IsKeyedLine}
-use Rattle.a429_import.specs.Known.{Knows}
-use Rattle.a429_import.specs.declared.known.Known.{Known}
+use Rattle.a429_import.specs.IndexedRows.{IsIndexed}
+use Rattle.a429_import.specs.declared.indexed_rows.IndexedRows.{IndexedRows}
 use Rattle.a429_import.specs.SheetReading.{AreFilledIf, IsFilledIf, ReadsBelow, ReadsHeaded, ReadsKeyed, ReadsNothing}
 use Rattle.a429_import.proofs.FilledLines.{more_filled, none_filled}
 use Rattle.std.specs.Prelude.{IfOk, vec_len}
@@ -81,8 +81,8 @@ pub heading_taken : (options : ImportOptions) (heading named : CsvLine) (old new
     → new.lines.kept ≡ old.lines.kept → new.above ≡ old.above → ReadsNothing old → ReadsBelow options heading new []
 heading_taken options heading named old new same fault known notes kept above nothing =
     let none : KnowsNothing new.lines = record {
-      knows = subst Knows (sym known) nothing.0.knows;
-      rows = ap (λ (k : Known). k.rows.items) known ∙ nothing.0.rows;
+      knows = subst IsIndexed (sym known) nothing.0.knows;
+      rows = ap (λ (k : IndexedRows). k.rows.items) known ∙ nothing.0.rows;
       notes = subst HasNoRow (sym notes) nothing.0.notes;
       kept = λ h. subst (λ k. KeepsTexts k h []) (sym kept) (nothing.0.kept h);
     } in

@@ -8,7 +8,7 @@ use Rattle.csv.specs.declared.parser.State.{State}
 use Rattle.csv.specs.declared.parser.State.TheVariants as st
 use Rattle.a429_import.specs.ImportMaps.{names_by}
 use Rattle.a429_import.specs.ImportQuotes.{breaks_quotes, is_inside_quotes, text_before}
-use Rattle.a429_import.specs.ImportSteps.{ended_by, ends_field}
+use Rattle.a429_import.specs.ImportSteps.{begins_field}
 use Rattle.a429_import.specs.ImportWords.{trimmed}
 use Rattle.a429_import.specs.RowLines.{from_row, line_of, row_lines}
 use Rattle.std.specs.List.{list_any}
@@ -38,7 +38,7 @@ unfoldable pub wrong_from : Bool → Config → State → List ℕ → List ℕ 
 wrong_from of_rows cfg s field [] = if is_inside_quotes s then Some field else None
 wrong_from of_rows cfg s field (c ∷ rest) =
     if breaks_quotes of_rows s (step cfg s c).0 then Some field
-    else wrong_from of_rows cfg (step cfg s c).0 (if ends_field (ended_by (step cfg s c).1) then rest else field) rest
+    else wrong_from of_rows cfg (step cfg s c).0 (if begins_field (step cfg s c).0 then rest else field) rest
 
 -- the same from the beginning of a text
 abbrev pub wrong_in : Bool → Config → List ℕ → Option (List ℕ)

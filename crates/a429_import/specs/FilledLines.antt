@@ -2,7 +2,7 @@
 use Rattle.std.specs.Prelude.{◌≡◌, ℕ, suc, ◌==◌, ◌&&◌, ◌||◌, Bool, List, [], ◌∷◌, if◌then◌else◌, length}
 use Rattle.csv.specs.Records.{fields_of}
 use Rattle.a429_import.specs.declared.fault.ImportColumn.TheVariants.{Group, Rate, Receiver}
-use Rattle.a429_import.specs.declared.lines.CsvLine.{CsvLine}
+use Rattle.a429_text.specs.declared.csv_line.CsvLine.{CsvLine}
 use Rattle.a429_import.specs.ImportFields.{field_in}
 use Rattle.a429_import.specs.ImportRows.{is_named}
 

@@ -1,9 +1,6 @@
--- A table of TOML that is built key by key, from the last key to the first, and an array of values that grows (TOML).
-use Rattle.std.specs.Prelude.{◌≡◌, ◌++◌, ℕ, List, codes, map, Option, Result, OnOk, Vec, true}
-use Rattle.std.specs.declared.alloc.Global.{Global}
+-- A table of TOML that is built key by key, from the last key to the first (TOML).
+use Rattle.std.specs.Prelude.{◌≡◌, ℕ, List, codes, Option, Result, OnOk, true}
 use Rattle.toml.specs.Data.{Data, Members, is_before, member}
-use Rattle.toml.specs.View.{view}
-use Rattle.toml.specs.declared.value.Value.{Value}
 use Rattle.a429_import.specs.ImportTables.{with_filters, with_hold}
 
 -- if the call succeeds and the key comes before the others, the table has this key added at its front
@@ -17,7 +14,3 @@ PutsFilters result old new words = OnOk result (is_before (codes "filters") old 
 -- the same for a hold, if there is one
 abbrev pub PutsHold : {T E : Type 0} → Result T E → Members → Members → Option ℕ → Type 0
 PutsHold result old new hold = OnOk result (is_before (codes "hold") old ≡ true → new ≡ with_hold hold old)
-
--- if the call succeeds, the values have these added at their end
-abbrev pub GainsTables : {T E : Type 0} → Result T E → Vec Value Global → Vec Value Global → List Data → Type 0
-GainsTables result old new ds = OnOk result (map view new.items ≡ map view old.items ++ ds)

@@ -7,7 +7,8 @@ use Rattle.a429_import.specs.declared.intervals.IntervalForm.{IntervalForm}
 use Rattle.a429_import.specs.declared.intervals.IntervalUnit.{IntervalUnit}
 use Rattle.a429_import.specs.declared.intervals.IntervalUnit.TheVariants.{Micros, Millis, Hertz}
 use Rattle.a429_import.specs.ImportFields.{millis_in, number_in}
-use Rattle.a429_import.specs.ImportWords.{same_heading, trimmed}
+use Rattle.a429_import.specs.ImportWords.{trimmed}
+use Rattle.a429_import.specs.Letters.{same_heading}
 
 -- ---- names
 

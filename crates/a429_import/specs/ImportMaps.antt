@@ -6,9 +6,9 @@ use Rattle.std.specs.Option.{option_map_or}
 use Rattle.std.specs.Str.{bytes_eq}
 use Rattle.csv.specs.Records.{fields_of}
 use Rattle.a429_text.specs.Renames.{halves}
-use Rattle.a429_import.specs.declared.lines.CsvLine.{CsvLine}
+use Rattle.a429_text.specs.declared.csv_line.CsvLine.{CsvLine}
 use Rattle.a429_import.specs.ImportRows.{is_column}
-use Rattle.a429_import.specs.Letters.{same_letters}
+use Rattle.a429_import.specs.Letters.{same_heading}
 
 -- the bytes of texts
 abbrev pub given_texts : List (Bor (List ℕ)) → List (List ℕ)
@@ -18,7 +18,7 @@ given_texts maps = map (λ text. text.now) maps
 
 abbrev pub is_for : List ℕ → Option (List ℕ × List ℕ) → Bool
 is_for field None = false
-is_for field (Some p) = same_letters p.0 field
+is_for field (Some p) = same_heading p.0 field
 
 -- the HEADING of a text is this field
 abbrev pub is_about : List ℕ → List ℕ → Bool

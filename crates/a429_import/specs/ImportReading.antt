@@ -7,12 +7,12 @@ use Rattle.csv.specs.Records.{fields_of}
 use Rattle.csv.specs.declared.parser.State.TheVariants as st
 use Rattle.csv.specs.declared.reader.Reader.{Reader}
 use Rattle.csv.specs.declared.reader.Trim.TheVariants as trim
-use Rattle.a429_import.specs.declared.fault.CsvFaultKind.TheVariants.{Column, TooMany}
+use Rattle.a429_import.specs.declared.fault.CsvFaultKind.TheVariants.{Column}
 use Rattle.a429_import.specs.declared.fault.ImportColumn.{ImportColumn}
 use Rattle.a429_import.specs.declared.fault.ImportFault.{ImportFault}
 use Rattle.a429_import.specs.declared.fault.ImportFault.TheVariants.{Csv}
-use Rattle.a429_import.specs.declared.known.Known.{Known}
-use Rattle.a429_import.specs.declared.lines.CsvLine.{CsvLine}
+use Rattle.a429_import.specs.declared.indexed_rows.IndexedRows.{IndexedRows}
+use Rattle.a429_text.specs.declared.csv_line.CsvLine.{CsvLine}
 use Rattle.a429_import.specs.declared.lines.LineCount.{LineCount}
 use Rattle.a429_import.specs.declared.notes.Notes.{Notes}
 use Rattle.a429_import.specs.declared.reading.LinesRead.{LinesRead}
@@ -23,7 +23,7 @@ use Rattle.a429_import.specs.Imports.{States, separated}
 use Rattle.a429_import.specs.ImportSteps.{state_of}
 use Rattle.a429_import.specs.ImportWords.{trimmed}
 use Rattle.a429_import.specs.KeptFields.{KeepsTexts}
-use Rattle.a429_import.specs.Known.{Knows}
+use Rattle.a429_import.specs.IndexedRows.{IsIndexed}
 use Rattle.a429_import.specs.LineCounts.{HasCounted, IsBefore, is_between}
 use Rattle.a429_import.specs.RowLines.{row_lines}
 
@@ -57,14 +57,9 @@ IsReadRow P (Err e) = ⊥
 abbrev pub heading_fault : CsvLine → Option ImportFault
 heading_fault heading = option_map {T = ImportColumn} {U = ImportFault} (λ column. Csv heading.number Column (Some column)) (wrong_column (fields_of heading.fields))
 
--- one more row is taken: what is known is then that of these rows; or they have one too many of what this column names
-abbrev pub IsAdded : Option ImportColumn → Known → (ℕ → Result (List ImportRow) CsvFault) → Type 0
-IsAdded None known stated = ((line : ℕ) → stated line ≡ Ok known.rows.items) × Knows known
-IsAdded (Some column) known stated = (line : ℕ) → stated line ≡ Err (line, TooMany, Some column)
-
 -- one more row is read, or refused
-abbrev pub IsTaken : Result (Unit {0}) ImportFault → Known → Result (List ImportRow) CsvFault → Type 0
-IsTaken (Ok u) known stated = (stated ≡ Ok known.rows.items) × Agree known.rows.items × Knows known
+abbrev pub IsTaken : Result (Unit {0}) ImportFault → IndexedRows → Result (List ImportRow) CsvFault → Type 0
+IsTaken (Ok u) known stated = (stated ≡ Ok known.rows.items) × Agree known.rows.items × IsIndexed known
 IsTaken (Err fault) known stated = States {X = List ImportRow} (λ rows. rows) (Err fault) stated
 
 -- no row was read, so none may be a note
@@ -89,16 +84,16 @@ IsHeld None rows stated = stated ≡ Ok rows
 IsHeld (Some fault) rows stated = States {X = List ImportRow} (λ rows. rows) (Err fault) stated
 
 -- the rows that lines below a heading say, if those below the last one with a label are notes
-pub record AreBelow (heading : List (List ℕ)) (below : List CsvLine) (known : Known) (notes : Notes) : Type 0 where
+pub record AreBelow (heading : List (List ℕ)) (below : List CsvLine) (known : IndexedRows) (notes : Notes) : Type 0 where
   pub stated : rows_after heading [] (without_notes heading below) ≡ Ok known.rows.items
   pub held : IsHeld notes.held known.rows.items (rows_after heading [] below)
   pub labelled : notes.is_labelled ≡ list_any (has_label heading) below
   pub count : length (without_notes heading below) + vec_len notes.rows ≡ length below
   pub agree : Agree known.rows.items
-  pub knows : Knows known
+  pub knows : IsIndexed known
 
 -- lines below a heading are read, or refused
-abbrev pub AreTaken : Result (Unit {0}) ImportFault → List (List ℕ) → List CsvLine → Known → Notes → Type 0
+abbrev pub AreTaken : Result (Unit {0}) ImportFault → List (List ℕ) → List CsvLine → IndexedRows → Notes → Type 0
 AreTaken (Ok u) heading below known notes = AreBelow heading below known notes
 AreTaken (Err fault) heading below known notes = States {X = List ImportRow} (λ rows. rows) (Err fault) (rows_after heading [] (without_notes heading below))
 
@@ -110,7 +105,7 @@ pub record SayRows (heading : CsvLine) (below : List CsvLine) (read : LinesRead)
 
 -- no line was read
 pub record KnowsNothing (read : LinesRead) : Type 0 where
-  pub knows : Knows read.known
+  pub knows : IsIndexed read.known
   pub rows : read.known.rows.items ≡ []
   pub notes : HasNoRow read.notes
   pub kept : (heading : List (List ℕ)) → KeepsTexts read.kept heading []

@@ -1,5 +1,5 @@
 -- What rows of comma-separated values say, or the first row with a fault (profile: import).
-use Rattle.std.specs.Prelude.{ℕ, ◌-◌, ◌==◌, ◌&&◌, ◌||◌, Bool, true, false, not, List, [], ◌∷◌, ◌++◌, Option, None, Some, Result, Ok, Err, codes, if◌then◌else◌, length, nat_lt, position}
+use Rattle.std.specs.Prelude.{ℕ, ◌-◌, ◌==◌, ◌&&◌, ◌||◌, Bool, true, false, not, List, [], ◌∷◌, ◌++◌, Option, None, Some, Result, Ok, Err, codes, if◌then◌else◌, length, map, nat_lt, position}
 use Rattle.std.specs.List.{count_by, find, list_any}
 use Rattle.std.specs.Option.{ok_or, option_map_or, option_or}
 use Rattle.std.specs.Str.{bytes_eq}
@@ -9,7 +9,7 @@ use Rattle.a429_import.specs.declared.fault.ImportColumn.{ImportColumn}
 use Rattle.a429_import.specs.declared.fault.ImportColumn.TheVariants.{Group, Rate, Source, Receiver, Label, Sdi, MinUs, MaxUs, Hold, Filters}
 use Rattle.a429_import.specs.declared.fault.CsvFaultKind.{CsvFaultKind}
 use Rattle.a429_import.specs.declared.fault.CsvFaultKind.TheVariants.{Form, Column, Differs, TooMany}
-use Rattle.a429_import.specs.declared.lines.CsvLine.{CsvLine}
+use Rattle.a429_text.specs.declared.csv_line.CsvLine.{CsvLine}
 use Rattle.a429_import.specs.declared.rows.ImportRow.{ImportRow}
 use Rattle.a429_import.specs.declared.rows.RowNumbers.{RowNumbers}
 use Rattle.a429_import.specs.declared.rows.RowTexts.{RowTexts}
@@ -19,10 +19,9 @@ use Rattle.a429_import.specs.ImportIntervals.{form_named, in_micros, interval_in
 use Rattle.a429_import.specs.declared.firsts.Part.TheVariants.{Sources}
 use Rattle.a429_import.specs.ImportLimits.{too_many}
 use Rattle.a429_import.specs.ImportTables.{has_group, is_known}
-use Rattle.a429_import.specs.ImportWords.{same_heading}
+use Rattle.a429_import.specs.Letters.{same_heading}
 use Rattle.a429_import.specs.declared.rows.RowFields.{RowFields}
 use Rattle.a429_import.specs.declared.rows.TextFields.{TextFields}
-use Rattle.a429_import.specs.declared.columns.Places.{Places}
 
 -- ---- columns
 
@@ -69,18 +68,9 @@ is_wrong heading column = nat_lt 1 (times heading column) || (is_needed column &
 unfoldable pub wrong_column : List (List ℕ) → Option ImportColumn
 wrong_column heading = find (is_wrong heading) import_columns
 
--- the place of a column, if the heading has it
-abbrev pub place_in : Places → ImportColumn → Option ℕ
-place_in p Group = p.group
-place_in p Rate = p.rate
-place_in p Source = p.source
-place_in p Receiver = p.receiver
-place_in p Label = p.label
-place_in p Sdi = p.sdi
-place_in p MinUs = p.min_us
-place_in p MaxUs = p.max_us
-place_in p Hold = p.hold
-place_in p Filters = p.filters
+-- the places of all columns, if the heading has them
+abbrev pub places_in : List (List ℕ) → List (Option ℕ)
+places_in heading = map (λ column. position (is_named column) heading) import_columns
 
 -- the field of a row in a column; empty if the heading has no such column
 unfoldable pub column_field : List (List ℕ) → List (List ℕ) → ImportColumn → List ℕ

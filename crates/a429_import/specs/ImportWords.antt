@@ -74,25 +74,11 @@ abbrev pub is_extra : List ℕ → Bool
 is_extra (a ∷ b ∷ rest) = (plain a == 32) && (plain b == 32)
 is_extra _ = false
 
--- a heading with one blank for several
-abbrev pub words_of : List ℕ → List ℕ
-words_of [] = []
-words_of (b ∷ rest) = if is_extra (b ∷ rest) then words_of rest else plain b ∷ words_of rest
-
 -- two lists have the same bytes
 abbrev pub are_same : List ℕ → List ℕ → Bool
 are_same [] [] = true
 are_same (a ∷ left) (b ∷ right) = (a == b) && are_same left right
 are_same _ _ = false
-
--- two texts begin with the same byte of headings
-abbrev pub begin_alike : List ℕ → List ℕ → Bool
-begin_alike (a ∷ left) (b ∷ right) = plain a == plain b
-begin_alike _ _ = false
-
--- two headings are the same
-abbrev pub same_heading : List ℕ → List ℕ → Bool
-same_heading a b = are_same (words_of a) (words_of b)
 
 -- a field is this text, in any case
 abbrev pub is_text : List ℕ → List ℕ → Bool

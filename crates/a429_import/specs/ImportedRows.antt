@@ -4,7 +4,7 @@ use Rattle.std.specs.List.{AllByRecursion}
 use Rattle.a429_equipment.specs.declared.rows.OutputRow.{OutputRow}
 use Rattle.a429_equipment.specs.declared.rows.SourceRow.{SourceRow}
 use Rattle.a429_equipment.specs.TableRecord.{TableRecord}
-use Rattle.a429_import.specs.declared.lines.CsvLine.{CsvLine}
+use Rattle.a429_text.specs.declared.csv_line.CsvLine.{CsvLine}
 use Rattle.a429_import.specs.declared.rows.ImportRow.{ImportRow}
 use Rattle.a429_import.specs.ImportRows.{rows_stated}
 use Rattle.a429_import.specs.ImportTables.{group_stated, has_group, receiver_stated, record_stated}

@@ -8,7 +8,7 @@ use Rattle.toml_parser.specs.Lexical.{is_non_eol}
 use Rattle.a429_text.specs.CutText.{lines_of}
 use Rattle.a429_import.specs.declared.fault.ImportColumn.TheVariants.{Source}
 use Rattle.a429_import.specs.declared.kept.KeptTexts.{KeptTexts}
-use Rattle.a429_import.specs.declared.lines.CsvLine.{CsvLine}
+use Rattle.a429_text.specs.declared.csv_line.CsvLine.{CsvLine}
 use Rattle.a429_import.specs.ImportFields.{utf8_in}
 use Rattle.a429_import.specs.ImportRows.{column_field, has_label}
 use Rattle.a429_import.specs.ImportTables.{is_word}

@@ -3,7 +3,7 @@ use Rattle.std.specs.Prelude.{◌≡◌, ◌==◌, ℕ, Bool, false, List, [], �
 use Rattle.std.specs.List.{AllZip}
 use Rattle.csv.specs.Records.{fields_of}
 use Rattle.a429_import.specs.declared.fault.ImportColumn.TheVariants.{Source, Receiver, Label, Sdi}
-use Rattle.a429_import.specs.declared.lines.CsvLine.{CsvLine}
+use Rattle.a429_text.specs.declared.csv_line.CsvLine.{CsvLine}
 use Rattle.a429_import.specs.ImportFields.{label_in, sdi_in, text_in}
 use Rattle.a429_import.specs.ImportRows.{column_field, is_named}
 use Rattle.a429_import.specs.ImportTables.{is_word}

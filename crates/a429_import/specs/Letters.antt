@@ -42,6 +42,6 @@ abbrev pub letters_of : ℕ → List ℕ → List ℕ
 letters_of before [] = []
 letters_of before (b ∷ rest) = if is_extra (b ∷ rest) then letters_of before rest else lower_byte before b (first_byte rest) ∷ letters_of b rest
 
--- two headings have the same letters
-abbrev pub same_letters : List ℕ → List ℕ → Bool
-same_letters a b = are_same (letters_of 0 a) (letters_of 0 b)
+-- two headings are the same
+abbrev pub same_heading : List ℕ → List ℕ → Bool
+same_heading a b = are_same (letters_of 0 a) (letters_of 0 b)

@@ -26,6 +26,6 @@ pub mod ImportClashes
 pub mod ImportLimits
 pub mod ImportReading
 pub mod SheetReading
-pub mod Known
+pub mod IndexedRows
 pub mod KeptFields
 pub mod TableTexts

@@ -3,6 +3,7 @@ use Rattle.std.specs.Prelude.{◌≡◌, ◌++◌, ℕ, false, List, [], ◌∷�
 use Rattle.toml_parser.specs.Lexical.{skip_blank}
 use Rattle.toml.specs.Data.{Data, Members, no_members, member, is_before}
 use Rattle.toml.specs.Text.{IsDocumentText}
+use Rattle.a429_import.specs.declared.firsts.Part.{Part}
 use Rattle.a429_import.specs.declared.firsts.Part.TheVariants.{Receivers, Sources, Groups}
 use Rattle.a429_import.specs.declared.rows.ImportRow.{ImportRow}
 use Rattle.a429_import.specs.ImportTables.{listed, number, part_trees}
@@ -10,6 +11,12 @@ use Rattle.a429_import.specs.ImportTables.{listed, number, part_trees}
 -- a reader skips the text: it is an empty line and comments
 abbrev pub IsSkipped : List ℕ → Type 0
 IsSkipped text = (rest : List ℕ) → skip_blank (text ++ rest) ≡ skip_blank rest
+
+-- the key of receivers, sources or groups
+abbrev pub part_key : Part → List ℕ
+part_key Receivers = codes "receiver"
+part_key Sources = codes "source"
+part_key Groups = codes "group"
 
 -- a document with this table alone, at a key
 abbrev pub alone : List ℕ → Data → Members

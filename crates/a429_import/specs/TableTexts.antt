@@ -8,11 +8,11 @@ use Rattle.toml.specs.Text.{IsDocumentText}
 use Rattle.a429_import.specs.declared.comments.Comments.{Comments}
 use Rattle.a429_import.specs.declared.firsts.Part.{Part}
 use Rattle.a429_import.specs.declared.firsts.Part.TheVariants.{Receivers, Sources, Groups}
-use Rattle.a429_import.specs.declared.known.Known.{Known}
+use Rattle.a429_import.specs.declared.indexed_rows.IndexedRows.{IndexedRows}
 use Rattle.a429_import.specs.declared.rows.ImportRow.{ImportRow}
 use Rattle.a429_import.specs.ImportTables.{firsts, is_stated, name_in, part_tree}
 use Rattle.a429_import.specs.KeptFields.{comment_line, kept_comments, shown}
-use Rattle.a429_import.specs.Known.{Knows}
+use Rattle.a429_import.specs.IndexedRows.{IsIndexed}
 use Rattle.a429_import.specs.PrintedTables.{PrintsTables, head_members}
 use Rattle.a429_import.specs.Renamed.{text_of}
 
@@ -72,10 +72,10 @@ pub record IsTableText (kept : List ℕ → List ℕ) (before : Option (List Imp
   pub sources_are : PrintsTables (codes "source") (pieces kept before Sources rows) sources
 
 -- the rows before names were made, as comments have them
-abbrev pub rows_before : Option (Bor Known) → Option (List ImportRow)
+abbrev pub rows_before : Option (Bor IndexedRows) → Option (List ImportRow)
 rows_before None = None
 rows_before (Some known) = Some known.now.rows.items
 
 -- these rows are known
 abbrev pub AreSound : Comments → Type 0
-AreSound comments = IfSome comments.made_of (λ known. Knows known.now)
+AreSound comments = IfSome comments.made_of (λ known. IsIndexed known.now)

@@ -1,6 +1,5 @@
 //! Rows of data above the heading: a sheet that was sorted with its heading has them. They would be passed over, as titles are.
-ghost use Rattle.std.specs.Prelude.{◌≡◌, ◌<◌, if◌then◌else◌, IfOk, None, Some};
-ghost use Rattle.std.specs.Option.{option_or};
+ghost use Rattle.std.specs.Prelude.{◌≡◌, ◌<◌, IfOk};
 ghost use Rattle.csv.specs.Reading.{owned_rows_left, owned_rows_reader};
 ghost use Rattle.csv.specs.Records.{fields_of};
 ghost use Rattle.a429_import.specs.FaultLines.{data_line, data_line_above, first_row, is_data};
@@ -13,9 +12,10 @@ use crate::columns::Heading;
 use crate::fault::ImportColumn;
 use crate::fields::label_in;
 use crate::forms::{Form, text_before};
-use crate::lines::{CsvLine, count_before, line_of, rows_of};
+use crate::lines::{count_before, line_of, rows_of};
 use crate::maps::named_by;
 use crate::refused::{RefusedRows, titled_rows};
+use a429_text::CsvLine;
 use csv::{ByteRecord, ByteRecordsIntoIter};
 use std::alloc::{AllocError, Global};
 
@@ -65,18 +65,6 @@ fn is_data(heading: &Heading, row: &CsvLine) -> bool
         && label_in(heading.field_of(row, ImportColumn::Label)).is_some()
 }
 
-/// The line that was found, otherwise that of a row of data.
-fn found_at(found: Option<u64>, heading: &Heading, row: &CsvLine) -> Option<u64>
-    ensures { result ≡ option_or found (if is_data (fields_of heading.now.line.fields) (fields_of row.now.fields)
-        then Some row.now.number else None) }
-{
-    match found {
-        Some(line) => Some(line),
-        None if is_data(heading, row) => Some(row.number),
-        None => None,
-    }
-}
-
 /// The line on which the first row of data of a text begins.
 fn data_line(alloc: Global, heading: &Heading, form: Form<'_>) -> Result<Option<u64>, AllocError>
     ensures { IfOk result (λ line. line
@@ -86,7 +74,7 @@ fn data_line(alloc: Global, heading: &Heading, form: Form<'_>) -> Result<Option<
     let mut found = None;
     for row in rows_of(alloc, form) {
         let line = line_of(alloc, form.text, form, &mut count, row)?;
-        found = found_at(found, heading, &line);
+        found = found.or(is_data(heading, &line).then_some(line.number));
     }
     Ok(found)
 }

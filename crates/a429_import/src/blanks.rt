@@ -4,8 +4,8 @@ ghost use Rattle.std.specs.List.{list_all};
 ghost use Rattle.csv.specs.Records.{fields_of};
 ghost use Rattle.a429_import.specs.ImportWords.{after_blank, before_blank, has_no_blank, trimmed, without_back, without_front};
 
-use crate::lines::field_at;
 use crate::plain::is_blank;
+use a429_text::field_at;
 use csv::ByteRecord;
 use std::alloc::{AllocError, Global};
 

@@ -1,14 +1,14 @@
 //! The contradictions between a row and earlier rows. The earlier rows agree, so a row is compared with only three of them:
 //! the first of its source, of its receiver and of its group.
 ghost use Rattle.std.specs.Prelude.{◌≡◌};
-ghost use Rattle.a429_import.specs.ImportClashes.{Agree, earlier_clash, first_part_clash, numbered, part_clash};
+ghost use Rattle.a429_import.specs.ImportClashes.{Agree, earlier_clash, first_part_clash, part_clash};
 ghost use Rattle.a429_import.specs.ImportRows.{first_clash, row_view, source_clash};
 ghost use Rattle.a429_import.specs.ImportTables.{name_in};
-ghost use Rattle.a429_import.specs.Known.{Knows};
+ghost use Rattle.a429_import.specs.IndexedRows.{IsIndexed};
 
 use crate::fault::ImportColumn;
 use crate::firsts::Part;
-use crate::known::Known;
+use crate::indexed_rows::IndexedRows;
 use crate::rows::{ImportRow, RowFields};
 use a429_equipment::same_sdi;
 
@@ -17,13 +17,6 @@ use a429_equipment::same_sdi;
 pub struct RowClash {
     pub number: usize,
     pub column: ImportColumn,
-}
-
-/// A clash with the row of a number in a column. `None` if there is no column.
-fn numbered(number: usize, column: Option<ImportColumn>) -> Option<RowClash>
-    ensures { result ≡ numbered number column }
-{
-    column.map(|column| RowClash { number, column })
 }
 
 /// The one of two clashes that has the earlier row.
@@ -84,34 +77,28 @@ fn name_in<'a>(part: Part, row: &RowFields<'a>) -> &'a str
 }
 
 /// The first row that a row contradicts about its receiver, source or group, with the column. `None` if it contradicts none.
-fn clash_about(known: &Known, part: Part, row: &RowFields<'_>) -> Option<RowClash>
-    requires { Knows known.now }
+fn clash_about(known: &IndexedRows, part: Part, row: &RowFields<'_>) -> Option<RowClash>
+    requires { IsIndexed known.now }
     ensures { Agree known.now.rows.items → result ≡ first_part_clash part 0 known.now.rows.items (row_view row.now) }
 {
     let named = known.named(part);
-    match named.find(name_in(part, row)) {
-        Some(place) => {
-            let column = part_clash(part, known.first_row(part, place), row);
-            numbered(named.first_at(place), column)
-        }
-        None => None,
-    }
+    let place = named.find(name_in(part, row))?;
+    let column = part_clash(part, known.first_row(part, place), row)?;
+    Some(RowClash {
+        number: named.first_at(place),
+        column,
+    })
 }
 
 /// The first column in which this row contradicts an earlier row, compared with the first such row. `None` if there is
 /// none.
-pub fn first_clash(known: &Known, row: &RowFields<'_>) -> Option<ImportColumn>
-    requires { Knows known.now }
+pub fn first_clash(known: &IndexedRows, row: &RowFields<'_>) -> Option<ImportColumn>
+    requires { IsIndexed known.now }
     ensures { Agree known.now.rows.items → result ≡ first_clash known.now.rows.items (row_view row.now) }
 {
+    let of_source = clash_about(known, Part::Sources, row);
     let of_receiver = clash_about(known, Part::Receivers, row);
     let of_group = clash_about(known, Part::Groups, row);
-    let first = earlier_clash(
-        clash_about(known, Part::Sources, row),
-        earlier_clash(of_receiver, of_group),
-    );
-    match first {
-        Some(clash) => Some(clash.column),
-        None => None,
-    }
+    let first = earlier_clash(of_source, earlier_clash(of_receiver, of_group))?;
+    Some(first.column)
 }

@@ -1,15 +1,14 @@
 //! The columns of rows, by the names in the heading.
 ghost use Rattle.std.specs.Prelude.{◌≡◌, ◌<◌, position};
-ghost use Rattle.std.specs.List.{find, list_any};
 ghost use Rattle.csv.specs.Records.{fields_of};
 ghost use Rattle.a429_import.specs.declared.fault.ImportColumn.{ImportColumn};
 ghost use Rattle.a429_import.specs.declared.fault.ImportColumn.TheVariants.{MaxUs, MinUs};
-ghost use Rattle.a429_import.specs.ImportRows.{column_field, column_form, is_column, is_named, is_wrong, place_in, times, wrong_column};
+ghost use Rattle.a429_import.specs.ImportRows.{column_field, column_form, is_column, is_named, is_wrong, places_in, times, wrong_column};
 
 use crate::fault::ImportColumn;
 use crate::intervals::{IntervalForm, IntervalUnit, form_named, states_interval};
-use crate::lines::CsvLine;
 use crate::plain::same_heading;
+use a429_text::CsvLine;
 
 /// All columns, in the order in which they are looked for.
 pub const COLUMNS: [ImportColumn; 10] = [
@@ -34,22 +33,11 @@ pub fn is_named(column: ImportColumn, name: &[u8]) -> bool
     same_heading(column.name().as_bytes(), name) || states_interval(column, name)
 }
 
-fn is_among(columns: &[ImportColumn], name: &[u8]) -> bool
-    ensures { result ≡ list_any (λ column. is_named column name.now) columns.now }
-{
-    for column in columns {
-        if is_named(*column, name) {
-            return true;
-        }
-    }
-    false
-}
-
 /// Whether a name is that of a column.
 pub fn is_column(name: &[u8]) -> bool
     ensures { result ≡ is_column name.now }
 {
-    is_among(&COLUMNS, name)
+    COLUMNS.iter().any(|column| is_named(*column, name))
 }
 
 /// The number of fields of the heading that are the name of a column.
@@ -72,23 +60,15 @@ fn is_wrong(heading: &CsvLine, column: ImportColumn) -> bool
     1 < count || column.is_needed() && count == 0
 }
 
-fn first_wrong(heading: &CsvLine, columns: &[ImportColumn]) -> Option<ImportColumn>
-    ensures { result ≡ find (is_wrong (fields_of heading.now.fields)) columns.now }
-{
-    for column in columns {
-        if is_wrong(heading, *column) {
-            return Some(*column);
-        }
-    }
-    None
-}
-
 /// The first column that is wrong: the heading lacks it, although it is needed, or has it twice. `None` if none is.
 #[tactic(auto, unfolding(crate::specs::ImportRows::wrong_column))]
 pub fn wrong_column(heading: &CsvLine) -> Option<ImportColumn>
     ensures { result ≡ wrong_column (fields_of heading.now.fields) }
 {
-    first_wrong(heading, &COLUMNS)
+    COLUMNS
+        .iter()
+        .find(|column| is_wrong(heading, **column))
+        .copied()
 }
 
 /// The place of a column, counted from 0: that of the first field of the heading with its name.
@@ -118,65 +98,33 @@ fn column_form(heading: &CsvLine, column: ImportColumn, place: Option<usize>) ->
     }
 }
 
-/// The places of columns, counted from 0.
-#[derive(Clone, Copy)]
-pub struct Places {
-    group: Option<usize>,
-    rate: Option<usize>,
-    source: Option<usize>,
-    receiver: Option<usize>,
-    label: Option<usize>,
-    sdi: Option<usize>,
-    min_us: Option<usize>,
-    max_us: Option<usize>,
-    hold: Option<usize>,
-    filters: Option<usize>,
-}
-
-impl Places {
-    fn of(&self, column: ImportColumn) -> Option<usize>
-        ensures { result ≡ place_in self.now column }
-    {
-        match column {
-            ImportColumn::Group => self.group,
-            ImportColumn::Rate => self.rate,
-            ImportColumn::Source => self.source,
-            ImportColumn::Receiver => self.receiver,
-            ImportColumn::Label => self.label,
-            ImportColumn::Sdi => self.sdi,
-            ImportColumn::MinUs => self.min_us,
-            ImportColumn::MaxUs => self.max_us,
-            ImportColumn::Hold => self.hold,
-            ImportColumn::Filters => self.filters,
-        }
-    }
-}
-
-fn places_of(heading: &CsvLine) -> Places
-    ensures { (column : ImportColumn) → place_in result column ≡ position (is_named column) (fields_of heading.now.fields) }
+/// The places of all columns, in the order of `COLUMNS`.
+fn places_of(heading: &CsvLine) -> [Option<usize>; 10]
+    ensures { result ≡ places_in (fields_of heading.now.fields) }
 {
-    Places {
-        group: place_of(heading, ImportColumn::Group),
-        rate: place_of(heading, ImportColumn::Rate),
-        source: place_of(heading, ImportColumn::Source),
-        receiver: place_of(heading, ImportColumn::Receiver),
-        label: place_of(heading, ImportColumn::Label),
-        sdi: place_of(heading, ImportColumn::Sdi),
-        min_us: place_of(heading, ImportColumn::MinUs),
-        max_us: place_of(heading, ImportColumn::MaxUs),
-        hold: place_of(heading, ImportColumn::Hold),
-        filters: place_of(heading, ImportColumn::Filters),
-    }
+    [
+        place_of(heading, ImportColumn::Group),
+        place_of(heading, ImportColumn::Rate),
+        place_of(heading, ImportColumn::Source),
+        place_of(heading, ImportColumn::Receiver),
+        place_of(heading, ImportColumn::Label),
+        place_of(heading, ImportColumn::Sdi),
+        place_of(heading, ImportColumn::MinUs),
+        place_of(heading, ImportColumn::MaxUs),
+        place_of(heading, ImportColumn::Hold),
+        place_of(heading, ImportColumn::Filters),
+    ]
 }
 
 /// A heading with the places of its columns.
 #[derive(Drop)]
 pub struct Heading {
     pub line: CsvLine,
-    places: Places,
+    /// In the order of `COLUMNS`.
+    places: [Option<usize>; 10],
     pub min_form: IntervalForm,
     pub max_form: IntervalForm,
-    ghost of_places: { (column : ImportColumn) → place_in places column ≡ position (is_named column) (fields_of line.fields) },
+    ghost of_places: { places ≡ places_in (fields_of line.fields) },
     ghost of_min: { min_form ≡ column_form (fields_of line.fields) MinUs },
     ghost of_max: { max_form ≡ column_form (fields_of line.fields) MaxUs },
 }
@@ -187,8 +135,16 @@ impl Heading {
         ensures { result.line ≡ line }
     {
         let places = places_of(&line);
-        let min_form = column_form(&line, ImportColumn::MinUs, places.min_us);
-        let max_form = column_form(&line, ImportColumn::MaxUs, places.max_us);
+        let min_form = column_form(
+            &line,
+            ImportColumn::MinUs,
+            places[ImportColumn::MinUs as usize],
+        );
+        let max_form = column_form(
+            &line,
+            ImportColumn::MaxUs,
+            places[ImportColumn::MaxUs as usize],
+        );
         Heading {
             line,
             places,
@@ -201,7 +157,7 @@ impl Heading {
     pub fn place(&self, column: ImportColumn) -> Option<usize>
         ensures { result ≡ position (is_named column) (fields_of self.now.line.fields) }
     {
-        self.places.of(column)
+        self.places[column as usize]
     }
 
     /// The field of a row in a column; an empty one if the heading has no such column.
@@ -209,7 +165,7 @@ impl Heading {
     pub fn field_of<'a>(&self, line: &'a CsvLine, column: ImportColumn) -> &'a [u8]
         ensures { result.now ≡ column_field (fields_of self.now.line.fields) (fields_of line.now.fields) column }
     {
-        match self.places.of(column) {
+        match self.place(column) {
             Some(place) => line.field(place),
             None => &[],
         }

@@ -5,13 +5,13 @@ ghost use Rattle.std.specs.Option.{option_copied};
 ghost use Rattle.std.specs.List.{list_all};
 ghost use Rattle.toml_parser.specs.Lexical.{is_non_eol};
 ghost use Rattle.a429_import.specs.KeptFields.{comment_line, kept_comments, lines_kept};
-ghost use Rattle.a429_import.specs.Known.{Knows};
-ghost use Rattle.a429_import.specs.TableTexts.{above_of, before_at, made_comment, name_comment, rows_before};
+ghost use Rattle.a429_import.specs.IndexedRows.{IsIndexed};
+ghost use Rattle.a429_import.specs.TableTexts.{above_of, before_at, made_comment, rows_before};
 
 use crate::fields::utf8_in;
 use crate::firsts::Part;
+use crate::indexed_rows::IndexedRows;
 use crate::kept::{KeptTexts, put_shown};
-use crate::known::Known;
 use crate::renamed::{name_in, text_of};
 use crate::rows::ImportRow;
 use a429_text::Text;
@@ -22,15 +22,19 @@ use std::alloc::{AllocError, Global};
 #[derive(Clone, Copy)]
 pub struct Comments<'a> {
     /// The rows before names are made. `None` if no names are made.
-    pub made_of: Option<&'a Known>,
+    pub made_of: Option<&'a IndexedRows>,
     /// What sources say in the columns that go along.
     pub kept: &'a KeptTexts,
 }
 
 /// The first row of the receiver, the source or the group at a place before names are made. `None` if no names are made, or
 /// if there are fewer.
-pub fn row_before<'a>(made_of: Option<&'a Known>, part: Part, place: usize) -> Option<&'a ImportRow>
-    requires { IfSome made_of (λ known. Knows known.now) }
+pub fn row_before<'a>(
+    made_of: Option<&'a IndexedRows>,
+    part: Part,
+    place: usize,
+) -> Option<&'a ImportRow>
+    requires { IfSome made_of (λ known. IsIndexed known.now) }
     ensures { option_copied result ≡ before_at (rows_before made_of.entry) part place }
 {
     match made_of {
@@ -62,20 +66,6 @@ fn put_comment(shown: &mut String, line: &[u8]) -> Result<(), AllocError>
     }
 }
 
-/// Writes a comment with the text of a name, if it differs from the name.
-fn put_text(alloc: Global, shown: &mut String, text: &[u8], name: &[u8]) -> Result<(), AllocError>
-    ensures { OnOk result (string_bytes shown.new ≡ string_bytes shown.old ++ name_comment text.now name.now) }
-{
-    if text == name {
-        return Ok(());
-    }
-    let mut line = Text::new(alloc);
-    line.put(" ");
-    put_shown(&mut line, false, text);
-    let bytes = line.into_bytes()?;
-    put_comment(shown, &bytes)
-}
-
 /// Writes a comment with the text that the name of a row is made of, if they differ.
 fn put_made_of(
     alloc: Global,
@@ -87,13 +77,17 @@ fn put_made_of(
     ensures { OnOk result (string_bytes shown.new ≡ string_bytes shown.old
         ++ made_comment part (option_copied before.entry) row.now) }
 {
-    match before {
-        Some(before) => {
-            let text = text_of(part, before);
-            put_text(alloc, shown, text, name_in(part, row).as_bytes())
-        }
-        None => Ok(()),
+    let Some(before) = before else {
+        return Ok(());
+    };
+    let text = text_of(part, before);
+    if text == name_in(part, row).as_bytes() {
+        return Ok(());
     }
+    let mut line = Text::new(alloc);
+    line.put(" ");
+    put_shown(&mut line, false, text);
+    put_comment(shown, &line.into_bytes()?)
 }
 
 /// Writes a comment `#: NAME | LINE`, if it can be one.
@@ -106,8 +100,7 @@ fn put_line(alloc: Global, shown: &mut String, name: &str, line: &[u8]) -> Resul
     comment.put(name);
     comment.put(" | ");
     comment.put_bytes(line);
-    let bytes = comment.into_bytes()?;
-    put_comment(shown, &bytes)
+    put_comment(shown, &comment.into_bytes()?)
 }
 
 /// Writes a comment `#: NAME | LINE` for each of these lines.
@@ -137,13 +130,12 @@ pub fn put_above(
 {
     shown.push_str("\n")?;
     put_made_of(alloc, shown, part, before, row)?;
-    let name = row.texts.source.as_str();
-    match (part, before) {
-        (Part::Sources, Some(before)) => {
-            let source = before.texts.source.as_str().as_bytes();
-            put_lines(alloc, shown, name, kept.text_of(source))
+    match part {
+        Part::Sources => {
+            let source = before.unwrap_or(row).texts.source.as_str();
+            let lines = kept.text_of(source.as_bytes());
+            put_lines(alloc, shown, row.texts.source.as_str(), lines)
         }
-        (Part::Sources, None) => put_lines(alloc, shown, name, kept.text_of(name.as_bytes())),
-        _ => Ok(()),
+        Part::Receivers | Part::Groups => Ok(()),
     }
 }

@@ -77,24 +77,16 @@ pub enum CsvFaultKind {
     TooMany,
 }
 
-impl CsvFaultKind {
-    fn text(self) -> &'static str
-        ensures { result.now ≡ kind_text self }
-    {
-        match self {
-            CsvFaultKind::Form => "form",
-            CsvFaultKind::Column => "column",
-            CsvFaultKind::Differs => "differs",
-            CsvFaultKind::TooMany => "too-many",
-        }
-    }
-}
-
 impl fmt::Display for CsvFaultKind {
     ghost output = { λ kind. Some (kind_text kind) };
 
     fn fmt<W: fmt::Write>(&self, f: &mut fmt::Formatter<W>) -> fmt::Result {
-        f.write_str(self.text())
+        match self {
+            CsvFaultKind::Form => f.write_str("form"),
+            CsvFaultKind::Column => f.write_str("column"),
+            CsvFaultKind::Differs => f.write_str("differs"),
+            CsvFaultKind::TooMany => f.write_str("too-many"),
+        }
     }
 }
 

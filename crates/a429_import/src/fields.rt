@@ -1,7 +1,6 @@
 //! The values of fields.
-ghost use Rattle.std.specs.Prelude.{◌≡◌, ◌<◌, ◌==◌, is_some, option_map, position, slice_get};
+ghost use Rattle.std.specs.Prelude.{◌≡◌, ◌<◌, ◌==◌, option_map, position, slice_get};
 ghost use Rattle.std.specs.List.{list_all};
-ghost use Rattle.a429_filter.specs.FilterTexts.{filter_read};
 ghost use Rattle.a429_import.specs.ImportFields.{are_filters, are_micros, digit_of, filters_in, has_thousands, hold_in, if_group, is_any, is_mark, label_in, may_be_thousands, micros_in, millis_in, number_in, sdi_digits, sdi_in, text_in, together, utf8_in};
 
 use crate::plain::{is_text, unwrapped};
@@ -201,18 +200,12 @@ pub fn text_in(field: &[u8]) -> Option<&str>
     }
 }
 
-fn is_filter(text: &str) -> bool
-    ensures { result ≡ is_some (filter_read text.now) }
-{
-    Filter::parse(text).is_ok()
-}
-
 /// Whether each part between spaces is a filter or empty.
 fn are_filters(text: &str) -> bool
     ensures { result ≡ are_filters text.now }
 {
     text.split(' ')
-        .all(|part| part.is_empty() || is_filter(part))
+        .all(|part| part.is_empty() || Filter::parse(part).is_ok())
 }
 
 /// The filters in a field, separated by spaces, as they are written. `None` if one has not the form `LLL/MMM`.

@@ -220,11 +220,7 @@ fn heading_among<'a>(maps: &[&str], lines: usize, text: &'a [u8]) -> Option<Form
 pub fn text_before<'a>(end: &[u8], text: &'a [u8]) -> &'a [u8]
     ensures { result.now ≡ text_before end.now text.now }
 {
-    if end.len() <= text.len() {
-        &text[..text.len() - end.len()]
-    } else {
-        &[]
-    }
+    &text[..text.len().saturating_sub(end.len())]
 }
 
 /// A text from its heading on, and what separates its fields. All of it, and a comma, if it has no heading.

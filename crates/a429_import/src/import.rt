@@ -1,13 +1,13 @@
 //! An equipment table from rows of comma-separated values.
 ghost use Rattle.std.specs.Prelude.{◌≡◌, [], ◌∷◌, false, IfOk, List, None, Some};
-ghost use Rattle.a429_import.specs.declared.lines.CsvLine.{CsvLine};
+ghost use Rattle.a429_text.specs.declared.csv_line.CsvLine.{CsvLine};
 ghost use Rattle.a429_import.specs.FaultLines.{fault_line};
 ghost use Rattle.a429_import.specs.ImportForms.{from_heading, separator_in};
 ghost use Rattle.a429_import.specs.ImportMaps.{given_texts};
 ghost use Rattle.a429_import.specs.ImportReading.{StandsFor};
-ghost use Rattle.a429_import.specs.Imports.{IsImport, IsImportFrom, IsSheetImport, IsTableOf, is_unfit, separated};
+ghost use Rattle.a429_import.specs.Imports.{IsImport, IsImportFrom, IsTableOf, is_unfit, separated};
 ghost use Rattle.a429_import.specs.KeptFields.{lines_kept};
-ghost use Rattle.a429_import.specs.Known.{Knows};
+ghost use Rattle.a429_import.specs.IndexedRows.{IsIndexed};
 ghost use Rattle.a429_import.specs.LineCounts.{IsEnd};
 ghost use Rattle.a429_import.specs.NumberRanges.{HaveRanges};
 ghost use Rattle.a429_import.specs.Renamed.{all_renamed};
@@ -19,8 +19,8 @@ use crate::columns::Heading;
 use crate::comments::Comments;
 use crate::fault::{CsvFaultKind, ImportColumn, ImportFault, csv_fault};
 use crate::forms::{Form, form_of};
+use crate::indexed_rows::IndexedRows;
 use crate::kept::KeptTexts;
-use crate::known::Known;
 use crate::quotes::misquoted_line_of;
 use crate::reading::LinesRead;
 use crate::refused::{RefusedRows, misquoted_rows};
@@ -55,10 +55,10 @@ pub struct Imported {
 fn table_of_rows(
     alloc: Global,
     comments: Comments<'_>,
-    known: &Known,
+    known: &IndexedRows,
     notes: usize,
 ) -> Result<Imported, ImportFault>
-    requires known { Knows known.now }
+    requires known { IsIndexed known.now }
     requires comments { AreSound comments }
     ensures table { HaveRanges known.now.rows.items
         → IsTableOf (lines_kept comments.entry.kept.now) (rows_before comments.entry.made_of) known.now.rows.items result }
@@ -78,11 +78,11 @@ fn table_of_rows(
 /// The same with names.
 fn table_with_names(
     alloc: Global,
-    known: &Known,
+    known: &IndexedRows,
     kept: &KeptTexts,
     notes: usize,
 ) -> Result<Imported, ImportFault>
-    requires known { Knows known.now }
+    requires known { IsIndexed known.now }
     ensures table { HaveRanges known.now.rows.items
         → IsTableOf (lines_kept kept.now) (Some known.now.rows.items) (all_renamed known.now.rows.items) result }
     ensures notes { IfOk result (λ made. made.notes ≡ notes) }
@@ -122,23 +122,6 @@ fn table_below(
     table_of_rows(alloc, comments, &read.known, notes)
 }
 
-/// The table that the lines of a sheet describe.
-fn table_of_sheet(
-    alloc: Global,
-    maps: &[&str],
-    options: ImportOptions,
-    read: &mut SheetRead,
-) -> Result<Imported, ImportFault>
-    requires { (lines : List CsvLine) × ReadsSheet options (given_texts maps.now) read.old lines }
-    ensures { (lines : List CsvLine) → ReadsSheet options (given_texts maps.now) read.old lines
-        → IsSheetImport (given_texts maps.now) options lines result }
-{
-    match &read.heading {
-        None => Err(csv_fault(1, CsvFaultKind::Column, Some(ImportColumn::Group))),
-        Some(heading) => { table_below(alloc, options.makes_names, heading, &mut read.below.lines) }
-    }
-}
-
 /// The table that a text of this form describes, by what is known before its first line.
 fn read_table<W: Watch>(
     alloc: Global,
@@ -156,7 +139,10 @@ fn read_table<W: Watch>(
 {
     read_lines(alloc, maps, options, text, form, watch, read)?;
     watch.show_done(text.len(), text.len());
-    table_of_sheet(alloc, maps, options, read)
+    match &read.heading {
+        None => Err(csv_fault(1, CsvFaultKind::Column, Some(ImportColumn::Group))),
+        Some(heading) => { table_below(alloc, options.makes_names, heading, &mut read.below.lines) }
+    }
 }
 
 /// The table that a text of this form describes, if no fault comes before those of its rows. If the rows are refused,

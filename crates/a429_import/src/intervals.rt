@@ -1,5 +1,5 @@
 //! Intervals in fields: microseconds, milliseconds or rates, and one limit or both in a field.
-ghost use Rattle.std.specs.Prelude.{◌≡◌, position};
+ghost use Rattle.std.specs.Prelude.{◌≡◌, if◌then◌else◌, position};
 ghost use Rattle.std.specs.Option.{option_and_then};
 ghost use Rattle.a429_import.specs.ImportIntervals.{both_in, both_unit, divider_len, form_named, interval_in, is_divider, limit_in, limit_of_both, limit_unit, states_interval, unit_among, value_in};
 
@@ -43,23 +43,14 @@ fn unit_among(micros: &str, millis: &str, hertz: &str, name: &[u8]) -> Option<In
     }
 }
 
-/// The unit in the name of a column with one limit of an interval: a rate is the reciprocal of the other limit. `None` if the
-/// name is none of these.
-fn limit_unit(column: ImportColumn, name: &[u8]) -> Option<IntervalUnit>
-    ensures { result ≡ limit_unit column name.now }
+/// The unit in the name of a column with both limits of an interval, or with one: a rate is the reciprocal of the other
+/// limit. `None` if the name is none of these.
+fn unit_in(column: ImportColumn, has_both: bool, name: &[u8]) -> Option<IntervalUnit>
+    ensures { result ≡ (if has_both then both_unit column name.now else limit_unit column name.now) }
 {
     match column {
-        ImportColumn::MinUs => unit_among("min_us", "min_ms", "max_hz", name),
-        ImportColumn::MaxUs => unit_among("max_us", "max_ms", "min_hz", name),
-        _ => None,
-    }
-}
-
-/// The unit in the name of a column with both limits of an interval. `None` if the name is none of these.
-fn both_unit(column: ImportColumn, name: &[u8]) -> Option<IntervalUnit>
-    ensures { result ≡ both_unit column name.now }
-{
-    match column {
+        ImportColumn::MinUs if !has_both => unit_among("min_us", "min_ms", "max_hz", name),
+        ImportColumn::MaxUs if !has_both => unit_among("max_us", "max_ms", "min_hz", name),
         ImportColumn::MinUs | ImportColumn::MaxUs => {
             unit_among("interval_us", "interval_ms", "rate_hz", name)
         }
@@ -71,15 +62,15 @@ fn both_unit(column: ImportColumn, name: &[u8]) -> Option<IntervalUnit>
 pub fn states_interval(column: ImportColumn, name: &[u8]) -> bool
     ensures { result ≡ states_interval column name.now }
 {
-    limit_unit(column, name).is_some() || both_unit(column, name).is_some()
+    unit_in(column, false, name).is_some() || unit_in(column, true, name).is_some()
 }
 
 /// How the column with this name states intervals; in microseconds if the name is that of no interval.
 pub fn form_named(column: ImportColumn, name: &[u8]) -> IntervalForm
     ensures { result ≡ form_named column name.now }
 {
-    let both = both_unit(column, name);
-    let unit = limit_unit(column, name).or(both);
+    let both = unit_in(column, true, name);
+    let unit = unit_in(column, false, name).or(both);
     IntervalForm {
         unit: unit.unwrap_or(IntervalUnit::Micros),
         has_both: both.is_some(),

@@ -1,15 +1,14 @@
 //! Columns of a sheet that go along as comments of the table.
 ghost use Rattle.std.specs.Prelude.{◌≡◌, ◌++◌, ◌∷◌, [], ℕ, IfOk, List, OnOk, option_map};
 ghost use Rattle.csv.specs.Records.{fields_of};
-ghost use Rattle.a429_import.specs.declared.lines.CsvLine.{CsvLine};
+ghost use Rattle.a429_text.specs.declared.csv_line.CsvLine.{CsvLine};
 ghost use Rattle.a429_import.specs.KeptFields.{KeepsTexts, TakesText, kept_at, kept_heading, kept_in, kept_line, lines_kept, shown, shown_byte};
 
 use crate::columns::Heading;
 use crate::fault::ImportColumn;
 use crate::fields::utf8_in;
-use crate::lines::CsvLine;
 use crate::notes::has_label;
-use a429_text::Text;
+use a429_text::{CsvLine, Text};
 use std::alloc::{AllocError, Global};
 
 /// The heading of a column that goes along: what follows `#:` in its name.

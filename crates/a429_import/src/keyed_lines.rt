@@ -9,17 +9,24 @@ ghost use Rattle.a429_import.specs.KeyedLines.{IsKeyedLine, end_in, is_place, ke
 use crate::columns::Heading;
 use crate::fault::ImportColumn;
 use crate::fields::{label_in, sdi_in, text_in};
-use crate::lines::CsvLine;
 use crate::made_names::put_label_end;
+use a429_text::CsvLine;
 use csv::ByteRecord;
 use std::alloc::{AllocError, Global};
 
-/// Writes what comes after the text of a source in its key: its receiver, its label and its SDI. Nothing if the line does not
-/// state them.
+/// Writes the key of the source of a line: its text, and after it the receiver, the label and the SDI, if the line states
+/// them. Nothing if the line has no source.
 #[tactic(auto, unfolding(crate::specs::KeyedLines::end_in))]
-fn put_end(key: &mut Vec<u8>, heading: &Heading, line: &CsvLine) -> Result<(), AllocError>
-    ensures { OnOk result (key.new.items ≡ key.old.items ++ end_in (fields_of heading.now.line.fields) (fields_of line.now.fields)) }
+fn put_key(key: &mut Vec<u8>, heading: &Heading, line: &CsvLine) -> Result<(), AllocError>
+    requires { key.old.items ≡ [] }
+    ensures { OnOk result (key.new.items ≡ keyed_text (end_in (fields_of heading.now.line.fields) (fields_of line.now.fields))
+        (column_field (fields_of heading.now.line.fields) (fields_of line.now.fields) Source)) }
 {
+    let source = heading.field_of(line, ImportColumn::Source);
+    if source.is_empty() {
+        return Ok(());
+    }
+    key.extend_from_slice(source)?;
     let receiver = text_in(heading.field_of(line, ImportColumn::Receiver));
     let label = label_in(heading.field_of(line, ImportColumn::Label));
     let sdi = sdi_in(heading.field_of(line, ImportColumn::Sdi));
@@ -31,20 +38,6 @@ fn put_end(key: &mut Vec<u8>, heading: &Heading, line: &CsvLine) -> Result<(), A
         }
         _ => Ok(()),
     }
-}
-
-/// Writes the key of the source of a line; nothing if the line has no source.
-fn put_key(key: &mut Vec<u8>, heading: &Heading, line: &CsvLine) -> Result<(), AllocError>
-    requires { key.old.items ≡ [] }
-    ensures { OnOk result (key.new.items ≡ keyed_text (end_in (fields_of heading.now.line.fields) (fields_of line.now.fields))
-        (column_field (fields_of heading.now.line.fields) (fields_of line.now.fields) Source)) }
-{
-    let source = heading.field_of(line, ImportColumn::Source);
-    if source.is_empty() {
-        return Ok(());
-    }
-    key.extend_from_slice(source)?;
-    put_end(key, heading, line)
 }
 
 /// The field of a line at a place, or the key of its source if the source is there.

@@ -1,68 +1,33 @@
 //! The rows of a text of comma-separated values.
-ghost use Rattle.std.specs.Prelude.{◌≡◌, ◌<◌, ◌≤◌, ◌+◌, [], IfOk, List, OnOk, drop, length, map, true, ℕ};
-ghost use Rattle.csv.specs.Machine.{in_field, start_field, step};
+ghost use Rattle.std.specs.Prelude.{◌≡◌, ◌<◌, ◌≤◌, ◌+◌, [], IfOk, List, OnOk, drop, false, length, map, true, ℕ};
+ghost use Rattle.csv.specs.Machine.{in_field, step};
 ghost use Rattle.csv.specs.Reading.{owned_rows_left, owned_rows_reader};
 ghost use Rattle.csv.specs.Records.{fields_of};
 ghost use Rattle.csv.specs.declared.parser.State.TheVariants as st;
-ghost use Rattle.a429_import.specs.ImportFields.{field_in};
 ghost use Rattle.a429_import.specs.ImportReading.{IsReadRow, IsUnread};
 ghost use Rattle.a429_import.specs.Imports.{has_text, separated};
-ghost use Rattle.a429_import.specs.ImportSteps.{ended_by, ends_row, state_of};
+ghost use Rattle.a429_import.specs.ImportSteps.{state_of};
 ghost use Rattle.a429_import.specs.ImportWords.{trimmed};
 ghost use Rattle.a429_import.specs.LineCounts.{HasCounted, IsBefore, IsEnd, begins_with_end, is_between, row_end};
 ghost use Rattle.a429_import.specs.RowLines.{ends_here, from_row, line_of};
 
 use crate::blanks::trimmed_row;
 use crate::forms::{Form, ends_line};
+use a429_text::CsvLine;
 use a429_text::cut::without_byte_order_mark;
 use csv::{ByteRecord, ByteRecordsIntoIter, Error, ReaderBuilder};
 use std::alloc::{AllocError, Global};
 
-/// A row with the line on which it begins, counted from 1.
-#[derive(Drop)]
-pub struct CsvLine {
-    pub number: u64,
-    /// What separates its fields.
-    pub separator: u8,
-    pub fields: ByteRecord,
-}
-
-/// The field of a row in a column, counted from 0; empty if there is no such field.
-pub fn field_at(fields: &ByteRecord, column: usize) -> &[u8]
-    ensures { result.now ≡ field_in column (fields_of fields.now) }
+/// Whether a line has a field that is not empty.
+pub fn has_text(line: &CsvLine) -> bool
+    ensures { result ≡ has_text (fields_of line.now.fields) }
 {
-    match fields.get(column) {
-        Some(field) => field,
-        None => &[],
-    }
-}
-
-impl CsvLine {
-    /// The number of fields.
-    pub fn len(&self) -> usize
-        ensures { result ≡ length (fields_of self.now.fields) }
-    {
-        self.fields.len()
-    }
-
-    /// Whether the line has a field that is not empty.
-    pub fn has_text(&self) -> bool
-        ensures { result ≡ has_text (fields_of self.now.fields) }
-    {
-        for place in 0..self.len() {
-            if !self.field(place).is_empty() {
-                return true;
-            }
+    for place in 0..line.len() {
+        if !line.field(place).is_empty() {
+            return true;
         }
-        false
     }
-
-    /// The field in a column, counted from 0; empty if there is no such field.
-    pub fn field(&self, column: usize) -> &[u8]
-        ensures { result.now ≡ field_in column (fields_of self.now.fields) }
-    {
-        field_at(&self.fields, column)
-    }
+    false
 }
 
 /// Where in a row a byte is.
@@ -82,74 +47,40 @@ pub enum Part {
     Quote,
 }
 
-/// What a byte ends.
-#[derive(Clone, Copy)]
-pub enum Ended {
-    Nothing,
-    /// A field that is not the last of its row.
-    Field,
-    /// A row.
-    Row,
-}
-
-/// Whether a row ended.
-fn ends_row(ended: Ended) -> bool
-    ensures { result ≡ ends_row ended }
+/// Whether no byte of a row was passed.
+fn is_between(part: Part) -> bool
+    ensures { result ≡ is_between (state_of part) }
 {
-    match ended {
-        Ended::Row => true,
-        _ => false,
-    }
+    matches!(part, Part::Row | Part::Return)
 }
 
 /// Passes a byte of a field outside quotes.
 #[inline(always)]
-fn pass_text(separator: u8, byte: u8) -> (Part, Ended)
-    ensures part { state_of result.0 ≡ (in_field (separated separator) byte).0 }
-    ensures ended { result.1 ≡ ended_by (in_field (separated separator) byte).1 }
-    ensures between { ends_row result.1 ≡ true → is_between (state_of result.0) ≡ true }
+fn pass_text(separator: u8, byte: u8) -> Part
+    ensures { state_of result ≡ (in_field (separated separator) byte).0 }
 {
-    if byte == separator {
-        (Part::Field, Ended::Field)
-    } else if byte == b'\r' {
-        (Part::Return, Ended::Row)
-    } else if byte == b'\n' {
-        (Part::Row, Ended::Row)
-    } else {
-        (Part::Text, Ended::Nothing)
-    }
-}
-
-/// Passes the first byte of a field.
-#[inline(always)]
-fn pass_first(separator: u8, byte: u8) -> (Part, Ended)
-    ensures part { state_of result.0 ≡ (start_field (separated separator) byte).0 }
-    ensures ended { result.1 ≡ ended_by (start_field (separated separator) byte).1 }
-    ensures between { ends_row result.1 ≡ true → is_between (state_of result.0) ≡ true }
-{
-    if byte == b'"' {
-        (Part::Quoted, Ended::Nothing)
-    } else {
-        pass_text(separator, byte)
+    match byte {
+        _ if byte == separator => Part::Field,
+        b'\r' => Part::Return,
+        b'\n' => Part::Row,
+        _ => Part::Text,
     }
 }
 
 /// Passes a byte as the library `csv` does.
 #[inline(always)]
-pub fn pass(separator: u8, part: Part, byte: u8) -> (Part, Ended)
-    ensures part { state_of result.0 ≡ (step (separated separator) (state_of part) byte).0 }
-    ensures ended { result.1 ≡ ended_by (step (separated separator) (state_of part) byte).1 }
-    ensures between { ends_row result.1 ≡ true → is_between (state_of result.0) ≡ true }
+pub fn pass(separator: u8, part: Part, byte: u8) -> Part
+    ensures { state_of result ≡ (step (separated separator) (state_of part) byte).0 }
 {
     match part {
         Part::Text => pass_text(separator, byte),
-        Part::Quoted if byte == b'"' => (Part::Quote, Ended::Nothing),
-        Part::Quoted => (Part::Quoted, Ended::Nothing),
-        Part::Quote if byte == b'"' => (Part::Quoted, Ended::Nothing),
+        Part::Quoted if byte == b'"' => Part::Quote,
+        Part::Quoted => Part::Quoted,
+        Part::Quote if byte == b'"' => Part::Quoted,
         Part::Quote => pass_text(separator, byte),
-        Part::Field => pass_first(separator, byte),
-        _ if ends_line(byte) => (Part::Row, Ended::Nothing),
-        _ => pass_first(separator, byte),
+        Part::Row | Part::Return if ends_line(byte) => Part::Row,
+        _ if byte == b'"' => Part::Quoted,
+        _ => pass_text(separator, byte),
     }
 }
 
@@ -163,8 +94,8 @@ fn ends_here(is_after_return: bool, byte: u8) -> bool
 /// Counts the lines of a text up to a place in it.
 #[derive(Clone, Copy)]
 pub struct LineCount {
-    /// The place of the next byte.
-    at: usize,
+    /// The place of the next byte: the number of bytes that are counted.
+    pub at: usize,
     /// How many lines end before that byte.
     ended: u64,
     is_after_return: bool,
@@ -220,6 +151,7 @@ impl LineCount {
         requires between { is_between (state_of self.old.part) ≡ true }
         ensures counted { HasCounted text.now self.new }
         ensures rest { drop self.new.at text.now ≡ from_row (drop self.old.at text.now) }
+        ensures none { begins_with_end (drop self.new.at text.now) ≡ false }
         ensures row { (separator : ℕ) → row_end (separated separator) (state_of self.new.part) (drop self.new.at text.now)
             ≡ row_end (separated separator) (state_of self.old.part) (drop self.old.at text.now) }
     {
@@ -227,25 +159,6 @@ impl LineCount {
             self.pass_byte(text);
             self.part = Part::Row;
         }
-    }
-
-    /// Counts the bytes of a row up to the one that ends it, or all bytes.
-    fn pass_row(&mut self, text: &[u8], separator: u8)
-        requires counted { HasCounted text.now self.old }
-        ensures counted { HasCounted text.now self.new }
-        ensures row { row_end (separated separator) (state_of self.old.part) (drop self.old.at text.now)
-            ≡ (state_of self.new.part, drop self.new.at text.now) }
-        ensures between { is_between (state_of self.new.part) ≡ true }
-    {
-        while self.at < text.len() {
-            let (part, ended) = pass(separator, self.part, text[self.at]);
-            self.pass_byte(text);
-            self.part = part;
-            if ends_row(ended) {
-                return;
-            }
-        }
-        self.part = Part::Row;
     }
 
     /// The line of the next byte, counted from 1.
@@ -268,13 +181,16 @@ impl LineCount {
     {
         self.pass_ends(text);
         let line = self.line(text);
-        self.pass_row(text, separator);
+        while self.at < text.len() {
+            let part = pass(separator, self.part, text[self.at]);
+            self.pass_byte(text);
+            self.part = part;
+            if is_between(part) {
+                return line;
+            }
+        }
+        self.part = Part::Row;
         line
-    }
-
-    /// How many bytes are counted.
-    pub fn bytes(&self) -> usize {
-        self.at
     }
 }
 
@@ -328,16 +244,14 @@ pub fn line_of(
         ≡ (state_of count.new.part, drop count.new.at text.now)) }
     ensures between { OnOk result (is_between (state_of count.new.part) ≡ true) }
 {
-    match row {
-        Ok(fields) => {
-            let number = count.row_line(text, form.separator);
-            let fields = trimmed_row(alloc, fields)?;
-            Ok(CsvLine {
-                number,
-                separator: form.separator,
-                fields,
-            })
-        }
-        Err(_) => Err(AllocError),
-    }
+    let Ok(fields) = row else {
+        return Err(AllocError);
+    };
+    let number = count.row_line(text, form.separator);
+    let fields = trimmed_row(alloc, fields)?;
+    Ok(CsvLine {
+        number,
+        separator: form.separator,
+        fields,
+    })
 }

@@ -1,5 +1,5 @@
 //! The names that are made of texts.
-ghost use Rattle.std.specs.Prelude.{◌≡◌, ℕ, ◌++◌, ◌∷◌, ◌≤◌, [], false, IfOk, List, OnOk, length, position, take};
+ghost use Rattle.std.specs.Prelude.{◌≡◌, ℕ, ◌++◌, ◌∷◌, ◌≤◌, IfOk, List, OnOk, length, position, take};
 ghost use Rattle.a429_equipment.specs.NameForm.{is_name, is_name_byte};
 ghost use Rattle.a429_import.specs.MadeNames.{dashed, from_kept, in_room, in_room_or, is_kept, joined_ends, label_end, made_name, number_end, numbered_name, plain_name, shortened, without_last_dash};
 
@@ -60,18 +60,6 @@ fn push_next(name: &mut Vec<u8>, is_apart: bool, byte: u8) -> Result<bool, Alloc
     Ok(false)
 }
 
-/// Adds what a name keeps of a text, with one `-` for all others between two kept bytes.
-fn push_dashed(name: &mut Vec<u8>, text: &[u8]) -> Result<(), AllocError>
-    requires { name.old.items ≡ [] }
-    ensures { OnOk result (name.new.items ≡ dashed false text.now) }
-{
-    let mut is_apart = false;
-    for byte in text {
-        is_apart = push_next(name, is_apart, *byte)?;
-    }
-    Ok(())
-}
-
 /// A name without a `-` at its end.
 fn cut_dash(name: &mut Vec<u8>)
     ensures { name.new.items ≡ without_last_dash name.old.items }
@@ -89,12 +77,16 @@ fn cut(name: &mut Vec<u8>, bytes: usize)
     cut_dash(name);
 }
 
-/// What is left of a text, in 16 bytes.
+/// What a name keeps of a text, with one `-` for all others between two kept bytes, in 16 bytes.
 fn shortened(alloc: Global, text: &[u8]) -> Result<Vec<u8>, AllocError>
     ensures { IfOk result (λ name. name.items ≡ shortened text.now) }
 {
     let mut name = Vec::new(alloc);
-    push_dashed(&mut name, from_kept(text))?;
+    let kept = from_kept(text);
+    let mut is_apart = false;
+    for byte in kept {
+        is_apart = push_next(&mut name, is_apart, *byte)?;
+    }
     cut(&mut name, 16);
     Ok(name)
 }

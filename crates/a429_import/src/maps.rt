@@ -2,15 +2,14 @@
 ghost use Rattle.std.specs.Prelude.{◌≡◌, ◌++◌, ◌∷◌, [], IfOk, List, OnOk, codes, map, option_map, string_bytes, true};
 ghost use Rattle.std.specs.List.{find, list_all, list_any};
 ghost use Rattle.csv.specs.Records.{fields_of, partial_of};
-ghost use Rattle.a429_import.specs.declared.lines.CsvLine.{CsvLine};
+ghost use Rattle.a429_text.specs.declared.csv_line.CsvLine.{CsvLine};
 ghost use Rattle.a429_import.specs.ImportRows.{is_column};
 ghost use Rattle.a429_import.specs.ImportMaps.{AreNamedBy, IsNamedBy, can_keep, column_in, counts, is_about, is_keep, is_met, is_once, keep_text, mapped, names_by, given_texts, titled};
 
 use crate::columns::is_column;
-use crate::letters::same_letters;
-use crate::lines::CsvLine;
-use a429_text::Text;
+use crate::plain::same_heading;
 use a429_text::renames::halves;
+use a429_text::{CsvLine, Text};
 use csv::ByteRecord;
 use std::alloc::{AllocError, Global};
 
@@ -19,7 +18,7 @@ pub fn is_about(field: &[u8], text: &str) -> bool
     ensures { result ≡ is_about field.now text.now }
 {
     match halves(text.as_bytes()) {
-        Some((heading, _)) => same_letters(heading, field),
+        Some((heading, _)) => same_heading(heading, field),
         None => false,
     }
 }
@@ -38,12 +37,7 @@ pub fn column_in(text: &str) -> &[u8]
 fn text_about<'a>(maps: &[&'a str], field: &[u8]) -> Option<&'a str>
     ensures { option_map (λ text. text.now) result ≡ find (is_about field.now) (given_texts maps.now) }
 {
-    for text in maps {
-        if is_about(field, *text) {
-            return Some(*text);
-        }
-    }
-    None
+    maps.iter().copied().find(|text| is_about(field, *text))
 }
 
 /// Whether the name of a field of a heading is that of a column: COLUMN of the first text that is about it, or its own.
@@ -142,12 +136,7 @@ pub fn is_met(maps: &[&str], heading: &CsvLine, text: &str) -> bool
 fn are_met(heading: &CsvLine, maps: &[&str]) -> bool
     ensures { result ≡ list_all (is_met (given_texts maps.now) (fields_of heading.now.fields)) (given_texts maps.now) }
 {
-    for text in maps {
-        if !is_met(maps, heading, *text) {
-            return false;
-        }
-    }
-    true
+    maps.iter().all(|text| is_met(maps, heading, *text))
 }
 
 /// The names of the fields of a heading; none if one of the texts is not met.
@@ -180,22 +169,13 @@ pub fn named_by(alloc: Global, maps: &[&str], heading: CsvLine) -> Result<CsvLin
     })
 }
 
-/// The text `HEADING=#:`, by which the column of a heading goes along as comments.
-fn keep_text(alloc: Global, heading: &str) -> Result<String, AllocError>
-    ensures { IfOk result (λ text. string_bytes text ≡ keep_text heading.now) }
-{
-    let mut text = String::from_str(alloc, heading)?;
-    text.push_str("=#:")?;
-    Ok(text)
-}
-
-/// The same for several headings. Error: an allocation failed.
+/// The texts `HEADING=#:`, by which the columns of headings go along as comments. Error: an allocation failed.
 pub fn keep_texts(alloc: Global, headings: &[&str]) -> Result<Vec<String>, AllocError>
     ensures { IfOk result (λ texts. map string_bytes texts.items ≡ map keep_text (given_texts headings.now)) }
 {
     let mut texts = Vec::new(alloc);
     for heading in headings {
-        texts.push(keep_text(alloc, *heading)?)?;
+        texts.push(format!(in alloc; "{heading}=#:")?)?;
     }
     Ok(texts)
 }

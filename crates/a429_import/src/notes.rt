@@ -6,8 +6,8 @@ ghost use Rattle.a429_import.specs.ImportRows.{has_label, row_of};
 
 use crate::columns::Heading;
 use crate::fault::{CsvFaultKind, ImportColumn, ImportFault, csv_fault};
-use crate::lines::CsvLine;
 use crate::rows::form_fault;
+use a429_text::CsvLine;
 use std::alloc::{AllocError, Global};
 
 /// What is known of rows that may be notes.
@@ -67,8 +67,7 @@ impl Notes {
     {
         self.rows.push(())?;
         if self.held.is_none() {
-            let held = fault_of(heading, line);
-            self.held = held;
+            self.held = fault_of(heading, line);
         }
         Ok(())
     }

@@ -1,7 +1,7 @@
 //! Words of headings and fields as spreadsheets write them.
-ghost use Rattle.std.specs.Prelude.{◌≡◌, ◌≤◌, false, length, ℕ};
-ghost use Rattle.a429_import.specs.ImportWords.{begin_alike, is_blank, is_extra, is_text, plain, same_heading, unquoted, unwrapped, words_of};
-ghost use Rattle.a429_import.specs.Letters.{letters_of};
+ghost use Rattle.std.specs.Prelude.{◌≡◌, ◌<◌, ◌≤◌, false, length, true, ℕ};
+ghost use Rattle.a429_import.specs.ImportWords.{is_blank, is_extra, is_text, plain, unquoted, unwrapped};
+ghost use Rattle.a429_import.specs.Letters.{begin_alike, first_byte, is_pair, letters_of, lower_byte, lower_code, pair_code, same_heading};
 
 use crate::forms::from_place;
 
@@ -35,7 +35,6 @@ fn is_extra(text: &[u8]) -> bool
 
 /// A text with one blank for several at its beginning.
 pub fn without_extra(text: &[u8]) -> &[u8]
-    ensures words { words_of result.now ≡ words_of text.now }
     ensures letters { (before : ℕ) → letters_of before result.now ≡ letters_of before text.now }
     ensures none { is_extra result.now ≡ false }
     ensures len { length result.now ≤ length text.now }
@@ -47,37 +46,86 @@ pub fn without_extra(text: &[u8]) -> &[u8]
     rest
 }
 
-/// Whether two texts begin with the same byte of headings.
-#[inline(always)]
-fn begin_alike(a: &[u8], b: &[u8]) -> bool
-    ensures { result ≡ begin_alike a.now b.now }
+/// Whether two bytes are a character of UTF-8.
+fn is_pair(lead: u8, tail: u8) -> bool
+    ensures { result ≡ is_pair lead tail }
 {
-    match (a, b) {
-        ([a, ..], [b, ..]) => plain(*a) == plain(*b),
+    194 <= lead && lead <= 223 && (128 <= tail && tail <= 191)
+}
+
+/// The character of two bytes.
+fn pair_code(lead: u8, tail: u8) -> u32
+    requires { is_pair lead tail ≡ true }
+    ensures code { result ≡ pair_code lead tail }
+    ensures small { result < 2048 }
+{
+    u32::from(lead - 192) * 64 + u32::from(tail - 128)
+}
+
+/// The code of a character in lower case, if that is one character that takes two bytes.
+#[tactic(auto, unfolding(crate::specs::Letters::lower_code))]
+fn lower_code(code: u32) -> u32
+    requires { code < 2048 }
+    ensures code { result ≡ lower_code code }
+    ensures small { result < 2048 }
+{
+    let Some(c) = char::from_u32(code) else {
+        return code;
+    };
+    let mut lower = c.to_lowercase();
+    let first = lower.next();
+    let second = lower.next();
+    match (first, second) {
+        (Some(lower), None) if 128 <= lower as u32 && lower as u32 <= 2047 => lower as u32,
+        _ => code,
+    }
+}
+
+/// A byte of a heading in lower case, between the byte before it and the one after it.
+fn lower_byte(before: u8, byte: u8, after: u8) -> u8
+    ensures { result ≡ lower_byte before byte after }
+{
+    if is_pair(byte, after) {
+        192 + (lower_code(pair_code(byte, after)) / 64) as u8
+    } else if is_pair(before, byte) {
+        128 + (lower_code(pair_code(before, byte)) % 64) as u8
+    } else {
+        plain(byte)
+    }
+}
+
+/// The first byte; 0 if there is none.
+fn first_byte(text: &[u8]) -> u8
+    ensures { result ≡ first_byte text.now }
+{
+    text.first().copied().unwrap_or(0)
+}
+
+/// Whether two headings, each after a byte, begin with the same byte in lower case.
+fn begin_alike(left_before: u8, left: &[u8], right_before: u8, right: &[u8]) -> bool
+    ensures { result ≡ begin_alike left_before left.now right_before right.now }
+{
+    match (left, right) {
+        ([a, left @ ..], [b, right @ ..]) => {
+            let a = lower_byte(left_before, *a, first_byte(left));
+            a == lower_byte(right_before, *b, first_byte(right))
+        }
         _ => false,
     }
 }
 
-/// Whether two headings are the same: in any case, with one blank for several blanks, underlines and line breaks.
-#[inline(always)]
+/// Whether two headings are the same: in any case, with one blank for several blanks, underlines and line breaks. Letters
+/// that take two bytes have a case too.
 pub fn same_heading(a: &[u8], b: &[u8]) -> bool
-    ensures { result ≡ same_heading a.now b.now }
-{
-    // most headings differ in their first byte
-    if a.is_empty() || begin_alike(a, b) {
-        have_same_words(a, b)
-    } else {
-        false
-    }
-}
-
-/// The same, byte by byte.
-fn have_same_words(a: &[u8], b: &[u8]) -> bool
     ensures { result ≡ same_heading a.now b.now }
 {
     let mut left = without_extra(a);
     let mut right = without_extra(b);
-    while begin_alike(left, right) {
+    let mut left_before = 0;
+    let mut right_before = 0;
+    while begin_alike(left_before, left, right_before, right) {
+        left_before = first_byte(left);
+        right_before = first_byte(right);
         left = without_extra(from_place(left, 1));
         right = without_extra(from_place(right, 1));
     }

@@ -3,12 +3,12 @@
 ghost use Rattle.std.specs.Prelude.{◌≡◌, if◌then◌else◌, drop, false, option_map, true};
 ghost use Rattle.a429_import.specs.ImportQuotes.{breaks_quotes, is_inside_quotes};
 ghost use Rattle.a429_import.specs.FaultLines.{quotes_line, wrong_in, wrong_line};
-ghost use Rattle.a429_import.specs.ImportSteps.{ends_field, state_of};
+ghost use Rattle.a429_import.specs.ImportSteps.{begins_field, state_of};
 ghost use Rattle.a429_import.specs.Imports.{separated};
 ghost use Rattle.a429_import.specs.LineCounts.{IsEnd};
 
 use crate::forms::{Form, from_place, text_before};
-use crate::lines::{Ended, Part, line_at, pass};
+use crate::lines::{Part, line_at, pass};
 use a429_text::cut::without_byte_order_mark;
 
 fn is_inside_quotes(part: Part) -> bool
@@ -26,13 +26,13 @@ fn breaks_quotes(of_rows: bool, before: Part, after: Part) -> bool
     of_rows && matches!(before, Part::Quote) && matches!(after, Part::Text)
 }
 
-/// The place at which a field begins: another place, if a field ended before it.
-fn field_after(ended: Ended, begin: usize, after: usize) -> usize
-    ensures { result ≡ (if ends_field ended then after else begin) }
+/// The place at which a field begins: the next place, unless a byte of the field was passed.
+fn field_after(part: Part, begin: usize, after: usize) -> usize
+    ensures { result ≡ (if begins_field (state_of part) then after else begin) }
 {
-    match ended {
-        Ended::Nothing => begin,
-        _ => after,
+    match part {
+        Part::Row | Part::Return | Part::Field => after,
+        _ => begin,
     }
 }
 
@@ -44,12 +44,12 @@ fn misquoted_place(of_rows: bool, separator: u8, text: &[u8]) -> Option<usize>
     let mut part = Part::Row;
     let mut begin = 0;
     for place in 0..text.len() {
-        let (next, ended) = pass(separator, part, text[place]);
+        let next = pass(separator, part, text[place]);
         if breaks_quotes(of_rows, part, next) {
             return Some(begin);
         }
         part = next;
-        begin = field_after(ended, begin, place + 1);
+        begin = field_after(next, begin, place + 1);
     }
     if is_inside_quotes(part) {
         Some(begin)

@@ -1,29 +1,29 @@
 //! What rows say, one line after the other. No line is kept.
-ghost use Rattle.std.specs.Prelude.{◌≡◌, ◌++◌, [], ◌∷◌, IfOk, List, OnOk};
+ghost use Rattle.std.specs.Prelude.{◌≡◌, ◌++◌, [], ◌∷◌, List, OnOk};
 ghost use Rattle.std.specs.Result.{result_map_both};
 ghost use Rattle.csv.specs.Records.{fields_of};
-ghost use Rattle.a429_import.specs.declared.lines.CsvLine.{CsvLine};
+ghost use Rattle.a429_text.specs.declared.csv_line.CsvLine.{CsvLine};
 ghost use Rattle.a429_import.specs.ImportClashes.{Agree};
-ghost use Rattle.a429_import.specs.ImportReading.{AreBelow, AreTaken, IsAdded, IsTaken, KnowsNothing, StandsFor, heading_fault};
-ghost use Rattle.a429_import.specs.ImportRows.{next_row, row_view, with_line, with_row};
+ghost use Rattle.a429_import.specs.ImportReading.{AreBelow, AreTaken, IsTaken, KnowsNothing, StandsFor, heading_fault};
+ghost use Rattle.a429_import.specs.ImportRows.{next_row, row_view, with_line};
 ghost use Rattle.a429_import.specs.KeptFields.{KeepsTexts};
-ghost use Rattle.a429_import.specs.Known.{Knows};
+ghost use Rattle.a429_import.specs.IndexedRows.{IsIndexed};
 
 use crate::clashes::first_clash;
 use crate::columns::{Heading, wrong_column};
 use crate::fault::{CsvFaultKind, ImportColumn, ImportFault, csv_fault};
+use crate::indexed_rows::IndexedRows;
 use crate::kept::KeptTexts;
-use crate::known::Known;
-use crate::lines::CsvLine;
 use crate::notes::{Notes, has_label};
 use crate::rows::{RowFields, row_of};
-use std::alloc::{AllocError, Global};
+use a429_text::CsvLine;
+use std::alloc::Global;
 
 /// What is known of lines below a heading.
 #[derive(Drop)]
 pub struct LinesRead {
     /// What they say.
-    pub known: Known,
+    pub known: IndexedRows,
     /// Those of them that may be notes.
     pub notes: Notes,
     /// What sources say in the columns that go along.
@@ -38,7 +38,7 @@ impl LinesRead {
         ensures { KnowsNothing result }
     {
         LinesRead {
-            known: Known::new(alloc),
+            known: IndexedRows::new(alloc),
             notes: Notes::new(alloc),
             kept: KeptTexts::new(alloc),
             fault: None,
@@ -48,11 +48,11 @@ impl LinesRead {
 
 /// What a row says, if it has its form and agrees with all earlier ones. Error: what is wrong with it, and the column.
 fn next_row<'a>(
-    known: &Known,
+    known: &IndexedRows,
     heading: &Heading,
     line: &'a CsvLine,
 ) -> Result<RowFields<'a>, (CsvFaultKind, Option<ImportColumn>)>
-    requires { Knows known.now }
+    requires { IsIndexed known.now }
     ensures { Agree known.now.rows.items → result_map_both row_view (λ f. (line.now.number, f.0, f.1)) result
         ≡ next_row (fields_of heading.now.line.fields) known.now.rows.items line.now }
 {
@@ -65,39 +65,28 @@ fn next_row<'a>(
     }
 }
 
-/// Takes a row, unless it says nothing new. The answer is the column of which there is then one too many.
-fn take_row(
-    alloc: Global,
-    known: &mut Known,
-    row: &RowFields<'_>,
-) -> Result<Option<ImportColumn>, AllocError>
-    requires { Knows known.old }
-    ensures { IfOk result (λ column. IsAdded column known.new (λ line. with_row line known.old.rows.items (row_view row.now))) }
-{
-    if known.has_all_of(row) {
-        return Ok(None);
-    }
-    known.push(alloc, row)?;
-    Ok(known.too_many(row))
-}
-
-/// Takes a row that is no note.
+/// Takes a row that is no note, unless it says nothing new.
 fn take_below(
     alloc: Global,
-    known: &mut Known,
+    known: &mut IndexedRows,
     heading: &Heading,
     line: &CsvLine,
 ) -> Result<(), ImportFault>
-    requires { Knows known.old }
+    requires { IsIndexed known.old }
     ensures { Agree known.old.rows.items
         → IsTaken result known.new (with_line (fields_of heading.now.line.fields) known.old.rows.items line.now) }
 {
-    match next_row(known, heading, line) {
-        Ok(row) => match take_row(alloc, known, &row)? {
-            None => Ok(()),
-            Some(column) => Err(csv_fault(line.number, CsvFaultKind::TooMany, Some(column))),
-        },
-        Err((kind, column)) => Err(csv_fault(line.number, kind, column)),
+    let row = match next_row(known, heading, line) {
+        Ok(row) => row,
+        Err((kind, column)) => return Err(csv_fault(line.number, kind, column)),
+    };
+    if known.has_all_of(&row) {
+        return Ok(());
+    }
+    known.push(alloc, &row)?;
+    match known.too_many(&row) {
+        None => Ok(()),
+        Some(column) => Err(csv_fault(line.number, CsvFaultKind::TooMany, Some(column))),
     }
 }
 

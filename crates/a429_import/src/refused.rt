@@ -1,11 +1,10 @@
 //! The rows of a refused sheet, for a person: those that say something new, and the first ones with a fault. No contract
 //! rests on them.
-ghost use Rattle.std.specs.Prelude.{◌≡◌, IfOk};
 
 use crate::columns::Heading;
-use crate::lines::CsvLine;
 use crate::notes::has_label;
 use crate::rows::form_fault;
+use a429_text::CsvLine;
 use std::alloc::{AllocError, Global};
 
 /// How many faulty rows are kept.
@@ -17,7 +16,7 @@ const ROWS_BELOW: usize = 2000;
 /// Rows that are refused.
 #[derive(Drop)]
 pub struct RefusedRows {
-    /// The heading as it is written. `None` if there is none, or if `heading` is as it is written.
+    /// The heading as it is written. `None` if there is none.
     titles: Option<CsvLine>,
     /// The heading by the names of its columns. `None` if no row was looked at.
     pub heading: Option<CsvLine>,
@@ -36,25 +35,6 @@ pub struct RefusedRows {
     settled_count: usize,
 }
 
-/// A copy of a line. Error: an allocation failed.
-pub fn copy_of_line(line: &CsvLine) -> Result<CsvLine, AllocError>
-    ensures { IfOk result (λ copy. copy ≡ line.now) }
-{
-    Ok(CsvLine {
-        number: line.number,
-        separator: line.separator,
-        fields: line.fields.clone()?,
-    })
-}
-
-/// Adds a row, unless there are as many as are kept.
-fn push_up_to(rows: &mut Vec<CsvLine>, most: usize, line: CsvLine) -> Result<(), AllocError> {
-    if rows.len() < most {
-        rows.push(line)?;
-    }
-    Ok(())
-}
-
 impl RefusedRows {
     /// No rows.
     pub fn new(alloc: Global) -> RefusedRows {
@@ -71,19 +51,14 @@ impl RefusedRows {
         }
     }
 
-    /// The heading as it is written. `None` if there is none. Error: an allocation failed.
+    /// Takes the heading as it is written. `None` if there is none.
     pub fn take_titles(&mut self) -> Result<Option<CsvLine>, AllocError> {
-        match (self.titles.take(), &self.heading) {
-            (None, Some(heading)) => Ok(Some(copy_of_line(heading)?)),
-            (titles, _) => Ok(titles),
-        }
+        Ok(self.titles.take())
     }
 
-    /// Notes a heading as it is written, unless it is known. Error: an allocation failed.
-    pub fn note_titles(&mut self, is_known: bool, line: &CsvLine) -> Result<(), AllocError> {
-        if !is_known {
-            self.titles = Some(copy_of_line(line)?);
-        }
+    /// Notes a heading as it is written. Error: an allocation failed.
+    pub fn note_titles(&mut self, line: &CsvLine) -> Result<(), AllocError> {
+        self.titles = Some(line.copy()?);
         Ok(())
     }
 
@@ -97,7 +72,10 @@ impl RefusedRows {
         line: CsvLine,
     ) -> Result<(), AllocError> {
         if self.is_heading_wrong {
-            return push_up_to(&mut self.rows, ROWS_BELOW, line);
+            if self.rows.len() < ROWS_BELOW {
+                self.rows.push(line)?;
+            }
+            return Ok(());
         }
         let has_label = has_label(heading, &line);
         let may_be_note = self.is_labelled && !has_label;
@@ -106,7 +84,9 @@ impl RefusedRows {
         let differs = is_refused && self.count == self.settled_count;
         if differs || form_fault(heading, &line).is_some() {
             self.count = self.count.saturating_add(1);
-            push_up_to(&mut self.faulty, FAULTY_ROWS, line)?;
+            if self.faulty.len() < FAULTY_ROWS {
+                self.faulty.push(line)?;
+            }
         } else if is_new {
             self.rows.push(line)?;
         }
@@ -117,15 +97,11 @@ impl RefusedRows {
     }
 
     /// The same with the heading by the names of its columns, and without notes.
-    pub fn ended(self, heading: Option<Heading>) -> RefusedRows {
-        let mut rows = self;
-        rows.count = rows.settled_count;
-        rows.faulty.truncate(rows.count);
-        rows.heading = match heading {
-            Some(Heading { line, .. }) => Some(line),
-            None => None,
-        };
-        rows
+    pub fn ended(mut self, heading: Option<Heading>) -> RefusedRows {
+        self.count = self.settled_count;
+        self.faulty.truncate(self.count);
+        self.heading = heading.map(|Heading { line, .. }| line);
+        self
     }
 }
 
@@ -139,6 +115,6 @@ pub fn misquoted_rows(alloc: Global) -> RefusedRows {
 /// A text with a row of data above its heading, which is given as it is written. Error: an allocation failed.
 pub fn titled_rows(alloc: Global, titles: &CsvLine) -> Result<RefusedRows, AllocError> {
     let mut rows = RefusedRows::new(alloc);
-    rows.note_titles(false, titles)?;
+    rows.note_titles(titles)?;
     Ok(rows)
 }

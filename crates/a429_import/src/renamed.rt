@@ -5,12 +5,12 @@ ghost use Rattle.std.specs.Str.{bytes_eq};
 ghost use Rattle.a429_import.specs.ImportFields.{field_in, utf8_in};
 ghost use Rattle.a429_import.specs.ImportTables.{name_in};
 ghost use Rattle.a429_import.specs.ImportRows.{texts_view};
-ghost use Rattle.a429_import.specs.Known.{Knows};
+ghost use Rattle.a429_import.specs.IndexedRows.{IsIndexed};
 ghost use Rattle.a429_import.specs.Renamed.{AreNames, all_renamed, base_of, chosen, end_of, is_alone, is_taken, long_name, name_for, names_in, names_of_row, plain_of, plains_of, source_text, text_of, texts_of};
 
 use crate::fields::utf8_in;
 use crate::firsts::Part;
-use crate::known::Known;
+use crate::indexed_rows::IndexedRows;
 use crate::made_names::{in_room_or, label_end_len, numbered_name, plain_name, put_label_end};
 use crate::rows::{ImportRow, RowFields, TextFields};
 use std::alloc::{AllocError, Global};
@@ -157,8 +157,8 @@ fn chosen(
 }
 
 /// The plain names of the receivers, the sources or the groups.
-fn plains_of(alloc: Global, part: Part, known: &Known) -> Result<Vec<Vec<u8>>, AllocError>
-    requires { Knows known.now }
+fn plains_of(alloc: Global, part: Part, known: &IndexedRows) -> Result<Vec<Vec<u8>>, AllocError>
+    requires { IsIndexed known.now }
     ensures { IfOk result (λ plains. texts_of plains.items ≡ plains_of part known.now.rows.items) }
 {
     let mut plains = Vec::new(alloc);
@@ -170,8 +170,8 @@ fn plains_of(alloc: Global, part: Part, known: &Known) -> Result<Vec<Vec<u8>>, A
 
 /// The names of the receivers, the sources or the groups, in the order of their first rows.
 #[tactic(auto, unfolding(crate::specs::Renamed::names_in))]
-fn names_in(alloc: Global, part: Part, known: &Known) -> Result<Vec<Vec<u8>>, AllocError>
-    requires { Knows known.now }
+fn names_in(alloc: Global, part: Part, known: &IndexedRows) -> Result<Vec<Vec<u8>>, AllocError>
+    requires { IsIndexed known.now }
     ensures { IfOk result (λ names. texts_of names.items ≡ names_in part known.now.rows.items) }
 {
     let plains = plains_of(alloc, part, known)?;
@@ -192,8 +192,8 @@ pub struct AllNames {
 }
 
 /// The names of all receivers, sources and groups of known rows. Error: an allocation failed.
-pub fn all_names(alloc: Global, known: &Known) -> Result<AllNames, AllocError>
-    requires { Knows known.now }
+pub fn all_names(alloc: Global, known: &IndexedRows) -> Result<AllNames, AllocError>
+    requires { IsIndexed known.now }
     ensures { IfOk result (λ names. AreNames names known.now.rows.items) }
 {
     let receivers = names_in(alloc, Part::Receivers, known)?;
@@ -215,8 +215,8 @@ fn name_at(names: &[Vec<u8>], place: usize) -> &str
 }
 
 /// The name of a row's receiver, source or group, of those of the known rows.
-fn name_for<'a>(part: Part, known: &Known, names: &'a [Vec<u8>], row: &ImportRow) -> &'a str
-    requires known { Knows known.now }
+fn name_for<'a>(part: Part, known: &IndexedRows, names: &'a [Vec<u8>], row: &ImportRow) -> &'a str
+    requires known { IsIndexed known.now }
     requires names { texts_of names.now ≡ names_in part known.now.rows.items }
     ensures { result.now ≡ name_for part known.now.rows.items row.now }
 {
@@ -225,8 +225,8 @@ fn name_for<'a>(part: Part, known: &Known, names: &'a [Vec<u8>], row: &ImportRow
 }
 
 /// The names of a row, and its filters.
-fn names_of<'a>(known: &Known, names: &'a AllNames, row: &'a ImportRow) -> TextFields<'a>
-    requires known { Knows known.now }
+fn names_of<'a>(known: &IndexedRows, names: &'a AllNames, row: &'a ImportRow) -> TextFields<'a>
+    requires known { IsIndexed known.now }
     requires names { AreNames names.now known.now.rows.items }
     ensures { texts_view result ≡ names_of_row known.now.rows.items row.now }
 {
@@ -239,13 +239,17 @@ fn names_of<'a>(known: &Known, names: &'a AllNames, row: &'a ImportRow) -> TextF
 }
 
 /// What known rows say with names. Error: an allocation failed.
-pub fn all_renamed(alloc: Global, known: &Known, names: &AllNames) -> Result<Known, AllocError>
-    requires known { Knows known.now }
+pub fn all_renamed(
+    alloc: Global,
+    known: &IndexedRows,
+    names: &AllNames,
+) -> Result<IndexedRows, AllocError>
+    requires known { IsIndexed known.now }
     requires names { AreNames names.now known.now.rows.items }
-    ensures known { IfOk result Knows }
+    ensures known { IfOk result IsIndexed }
     ensures rows { IfOk result (λ all. all.rows.items ≡ all_renamed known.now.rows.items) }
 {
-    let mut renamed = Known::new(alloc);
+    let mut renamed = IndexedRows::new(alloc);
     for row in &known.rows {
         let fields = RowFields {
             texts: names_of(known, names, row),

@@ -9,8 +9,8 @@ use crate::columns::Heading;
 use crate::fault::{CsvFaultKind, ImportColumn};
 use crate::fields::{filters_in, hold_in, if_group, label_in, sdi_in, text_in};
 use crate::intervals::interval_in;
-use crate::lines::CsvLine;
 use crate::rates::rate_in;
+use a429_text::CsvLine;
 use a429_word::{Label, Sdi};
 use std::alloc::{AllocError, Global};
 use std::marker::Model;
@@ -130,17 +130,15 @@ pub fn row_numbers(heading: &Heading, line: &CsvLine) -> Result<RowNumbers, Impo
 fn text_fields<'a>(heading: &Heading, line: &'a CsvLine) -> Result<TextFields<'a>, ImportColumn>
     ensures { result_map_both texts_view (λ c. c) result ≡ texts_of (fields_of heading.now.line.fields) (fields_of line.now.fields) }
 {
-    let group = text_in(heading.field_of(line, ImportColumn::Group)).ok_or(ImportColumn::Group)?;
-    let source = text_in(heading.field_of(line, ImportColumn::Source)).ok_or(ImportColumn::Source)?;
-    let receiver = heading.field_of(line, ImportColumn::Receiver);
-    let receiver = text_in(receiver).ok_or(ImportColumn::Receiver)?;
-    let filters = heading.field_of(line, ImportColumn::Filters);
-    let filters = filters_in(filters).ok_or(ImportColumn::Filters)?;
     Ok(TextFields {
-        group,
-        source,
-        receiver,
-        filters,
+        group: text_in(heading.field_of(line, ImportColumn::Group)).ok_or(ImportColumn::Group)?,
+        source: text_in(heading.field_of(line, ImportColumn::Source)).ok_or(ImportColumn::Source)?,
+        receiver: text_in(heading.field_of(line, ImportColumn::Receiver)).ok_or(
+            ImportColumn::Receiver,
+        )?,
+        filters: filters_in(heading.field_of(line, ImportColumn::Filters)).ok_or(
+            ImportColumn::Filters,
+        )?,
     })
 }
 

@@ -2,7 +2,7 @@
 ghost use Rattle.std.specs.Prelude.{◌≡◌, ◌++◌, ◌∷◌, ℕ, [], filter, IfOk, List, OnOk};
 ghost use Rattle.csv.specs.Records.{fields_of};
 ghost use Rattle.a429_import.specs.declared.import.ImportOptions.{ImportOptions};
-ghost use Rattle.a429_import.specs.declared.lines.CsvLine.{CsvLine};
+ghost use Rattle.a429_text.specs.declared.csv_line.CsvLine.{CsvLine};
 ghost use Rattle.a429_import.specs.FilledLines.{IsFilledLine, filled_below, is_filled_column};
 ghost use Rattle.a429_import.specs.ImportForms.{from_heading, separator_in};
 ghost use Rattle.a429_import.specs.ImportMaps.{IsNamedBy, given_texts};
@@ -14,10 +14,11 @@ use crate::fault::ImportColumn;
 use crate::forms::Form;
 use crate::import::ImportOptions;
 use crate::keyed_lines::{KeyedRoom, put_keyed};
-use crate::lines::{CsvLine, LineCount, count_before, field_at, line_of, rows_of};
+use crate::lines::{LineCount, count_before, has_text, line_of, rows_of};
 use crate::maps::named_by;
 use crate::reading::{LinesRead, heading_fault, take_line};
 use crate::refused::RefusedRows;
+use a429_text::{CsvLine, field_at};
 use csv::ByteRecord;
 use std::alloc::{AllocError, Global};
 
@@ -32,11 +33,11 @@ pub trait Watch {
 
 /// Shows how many bytes of a text are counted, now and then. The answer is how many were when it was shown last.
 fn show_count<W: Watch>(watch: &W, count: &LineCount, text: &[u8], shown: usize) -> usize {
-    if count.bytes().saturating_sub(shown) < STRIDE {
+    if count.at.saturating_sub(shown) < STRIDE {
         return shown;
     }
-    watch.show_done(count.bytes(), text.len());
-    count.bytes()
+    watch.show_done(count.at, text.len());
+    count.at
 }
 
 /// What is known of the lines below a heading.
@@ -201,8 +202,7 @@ fn take_heading(
     ensures read { IfOk result (λ heading. (options : ImportOptions) → ReadsNothing read.old
         → ReadsBelow options heading.line read.new []) }
 {
-    // without such texts the heading is as it is written
-    read.refused.note_titles(maps.is_empty(), &line)?;
+    read.refused.note_titles(&line)?;
     let named = named_by(alloc, maps, line)?;
     let fault = heading_fault(&named);
     read.refused.is_heading_wrong = fault.is_some();
@@ -222,7 +222,7 @@ fn take_row(
     ensures { OnOk result ((lines : List CsvLine) → ReadsSheet options (given_texts maps.now) read.old lines
         → ReadsSheet options (given_texts maps.now) read.new (lines ++ filter (λ l. has_text (fields_of l.fields)) (line ∷ []))) }
 {
-    if !line.has_text() {
+    if !has_text(&line) {
         return Ok(());
     }
     match &read.heading {

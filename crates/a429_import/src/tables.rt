@@ -1,45 +1,30 @@
 //! The equipment table that rows describe, as TOML.
 ghost use Rattle.std.specs.Prelude.{◌≡◌, ◌==◌, IfOk, OnOk, [], ◌∷◌, codes, filter, if◌then◌else◌, map, string_bytes};
-ghost use Rattle.std.specs.List.{slice_split};
 ghost use Rattle.toml.specs.Data.{string};
 ghost use Rattle.toml.specs.View.{table_view, view};
 ghost use Rattle.a429_word.specs.Texts.{octal};
-ghost use Rattle.a429_import.specs.ImportBuilding.{GainsTables, Puts, PutsFilters, PutsHold};
+ghost use Rattle.a429_import.specs.ImportBuilding.{Puts, PutsFilters, PutsHold};
 ghost use Rattle.a429_import.specs.declared.rows.ImportRow.{ImportRow};
 ghost use Rattle.a429_import.specs.KeptFields.{lines_kept};
-ghost use Rattle.a429_import.specs.PrintedTables.{GainsDocument, IsWithTables, PutsEmpty, alone, head_members};
-ghost use Rattle.a429_import.specs.ImportTables.{group_tree, is_stated, is_word, number, output_tree, part_tree, receiver_tree, rows_of_group, sdi_data, source_tree, words};
-ghost use Rattle.a429_import.specs.Known.{Knows};
+ghost use Rattle.a429_import.specs.PrintedTables.{GainsDocument, IsWithTables, PutsEmpty, alone, head_members, part_key};
+ghost use Rattle.a429_import.specs.ImportTables.{group_tree, is_stated, number, output_tree, part_tree, receiver_tree, rows_of_group, sdi_data, source_tree, words};
+ghost use Rattle.a429_import.specs.IndexedRows.{IsIndexed};
 ghost use Rattle.a429_import.specs.TableTexts.{AreSound, IsTableText, above_of, is_placed, piece_of, pieces, rows_before};
 
 use crate::comments::{Comments, put_above, row_before};
 use crate::firsts::Part;
-use crate::known::Known;
+use crate::indexed_rows::IndexedRows;
 use crate::rows::ImportRow;
 use std::alloc::{AllocError, Global};
 use toml::{Table, Value};
-
-/// Puts a value at a key that comes before those of the table.
-fn insert(table: &mut Table, key: String, value: Value) -> Result<(), AllocError>
-    ensures { Puts result (table_view table.old) (table_view table.new) (string_bytes key) (view value) }
-{
-    match table.insert(key, value) {
-        Ok(_) => Ok(()),
-        Err(_) => Err(AllocError),
-    }
-}
 
 /// Puts a value at a key that comes before those of the table. The key is copied.
 fn put(alloc: Global, table: &mut Table, key: &str, value: Value) -> Result<(), AllocError>
     ensures { Puts result (table_view table.old) (table_view table.new) key.now (view value) }
 {
-    match String::from_str(alloc, key) {
-        Ok(key) => insert(table, key, value),
-        Err(error) => {
-            // One call, instead of a drop of each of its parts.
-            std::mem::drop(value);
-            Err(error)
-        }
+    match table.insert(String::from_str(alloc, key)?, value) {
+        Ok(_) => Ok(()),
+        Err(_) => Err(AllocError),
     }
 }
 
@@ -56,42 +41,20 @@ fn put_number(alloc: Global, table: &mut Table, key: &str, value: u32) -> Result
     put(alloc, table, key, Value::Integer(i64::from(value)))
 }
 
-/// Adds a word, if it is not empty.
-fn push_word(alloc: Global, words: &mut Vec<Value>, word: &str) -> Result<(), AllocError>
-    ensures { GainsTables result words.old words.new (if is_word word.now then string word.now ∷ [] else []) }
-{
-    if word.is_empty() {
-        return Ok(());
-    }
-    words.push(Value::string(alloc, word)?)?;
-    Ok(())
-}
-
-/// Those of these parts that are not empty.
-fn words_of(alloc: Global, parts: &[&str]) -> Result<Vec<Value>, AllocError>
-    ensures { IfOk result (λ values. map view values.items ≡ map (λ word. string word) (filter is_word (map (λ p. p.now) parts.now))) }
-{
-    let mut values = Vec::new(alloc);
-    for part in parts {
-        push_word(alloc, &mut values, *part)?;
-    }
-    Ok(values)
-}
-
-/// The parts of a text between spaces, which may be empty.
-fn parts(alloc: Global, text: &str) -> Result<Vec<&str>, AllocError>
-    ensures { IfOk result (λ parts. map (λ part. part.now) parts.items ≡ slice_split (λ b. b == 32) text.now) }
-{
-    text.split(' ').collect(alloc)
-}
-
 /// The words of a text, which are separated by spaces.
 #[tactic(auto, unfolding(crate::specs::ImportTables::words))]
 fn words(alloc: Global, text: &str) -> Result<Vec<Value>, AllocError>
     ensures { IfOk result (λ values. map view values.items ≡ map (λ word. string word) (words text.now)) }
 {
-    let parts = parts(alloc, text)?;
-    words_of(alloc, &parts)
+    let words: Vec<&str> = text
+        .split(' ')
+        .filter(|part| !part.is_empty())
+        .collect(alloc)?;
+    let mut values = Vec::new(alloc);
+    for word in &words {
+        values.push(Value::string(alloc, *word)?)?;
+    }
+    Ok(values)
 }
 
 /// Puts the filters of a receiver, if it has any.
@@ -125,13 +88,6 @@ fn put_sdi(alloc: Global, table: &mut Table, row: &ImportRow) -> Result<(), Allo
     }
 }
 
-fn put_label(alloc: Global, table: &mut Table, row: &ImportRow) -> Result<(), AllocError>
-    ensures { Puts result (table_view table.old) (table_view table.new) (codes "label") (string (octal row.now.numbers.label)) }
-{
-    let label = row.numbers.label.to_string(alloc)?;
-    put_text(alloc, table, "label", label.as_str())
-}
-
 #[tactic(auto, unfolding(crate::specs::ImportTables::source_tree))]
 fn source_table(alloc: Global, row: &ImportRow) -> Result<Value, AllocError>
     ensures { IfOk result (λ value. view value ≡ source_tree row.now) }
@@ -140,7 +96,8 @@ fn source_table(alloc: Global, row: &ImportRow) -> Result<Value, AllocError>
     put_sdi(alloc, &mut table, row)?;
     put_text(alloc, &mut table, "receiver", row.texts.receiver.as_str())?;
     put_text(alloc, &mut table, "name", row.texts.source.as_str())?;
-    put_label(alloc, &mut table, row)?;
+    let label = row.numbers.label.to_string(alloc)?;
+    put_text(alloc, &mut table, "label", label.as_str())?;
     Ok(Value::Table(table))
 }
 
@@ -166,21 +123,6 @@ fn output_table(alloc: Global, row: &ImportRow) -> Result<Value, AllocError>
     Ok(Value::Table(table))
 }
 
-/// Adds the table of the output of a row, if the row has the same group as another one.
-fn push_output(
-    alloc: Global,
-    outputs: &mut Vec<Value>,
-    row: &ImportRow,
-    group: &ImportRow,
-) -> Result<(), AllocError>
-    ensures { GainsTables result outputs.old outputs.new (map output_tree (rows_of_group (row.now ∷ []) group.now)) }
-{
-    if group.texts.group.as_str() == row.texts.group.as_str() {
-        outputs.push(output_table(alloc, row)?)?;
-    }
-    Ok(())
-}
-
 /// The tables of the outputs of the group of a row. There are 8 groups and some 1,300 rows at most.
 fn output_tables(
     alloc: Global,
@@ -191,7 +133,9 @@ fn output_tables(
 {
     let mut outputs = Vec::new(alloc);
     for row in rows {
-        push_output(alloc, &mut outputs, row, group)?;
+        if group.texts.group.as_str() == row.texts.group.as_str() {
+            outputs.push(output_table(alloc, row)?)?;
+        }
     }
     Ok(outputs)
 }
@@ -234,6 +178,17 @@ fn is_stated(part: Part, row: &ImportRow) -> bool
     }
 }
 
+/// The key of the receivers, the sources or the groups in a table.
+fn key_of(part: Part) -> &'static str
+    ensures { result.now ≡ part_key part }
+{
+    match part {
+        Part::Receivers => "receiver",
+        Part::Sources => "source",
+        Part::Groups => "group",
+    }
+}
+
 /// A document with one table at a key.
 fn table_alone(alloc: Global, key: &str, value: Value) -> Result<Table, AllocError>
     ensures { IfOk result (λ table. table_view table ≡ alone key.now (view value)) }
@@ -260,31 +215,24 @@ fn put_table(
     alloc: Global,
     shown: &mut String,
     comments: Comments<'_>,
-    named: NamedPart<'_>,
+    part: Part,
+    rows: &[ImportRow],
     place: usize,
     row: &ImportRow,
 ) -> Result<(), AllocError>
     requires { AreSound comments }
-    ensures { OnOk result (IsWithTables (string_bytes shown.old) (string_bytes shown.new) named.entry.key.now
-        (map (piece_of (lines_kept comments.entry.kept.now) (rows_before comments.entry.made_of) named.entry.part named.entry.rows.now)
-        (filter (is_placed named.entry.part) ((place, row.now) ∷ [])))) }
+    ensures { OnOk result (IsWithTables (string_bytes shown.old) (string_bytes shown.new) (part_key part)
+        (map (piece_of (lines_kept comments.entry.kept.now) (rows_before comments.entry.made_of) part rows.now)
+        (filter (is_placed part) ((place, row.now) ∷ [])))) }
 {
-    if !is_stated(named.part, row) {
+    if !is_stated(part, row) {
         return Ok(());
     }
-    let before = row_before(comments.made_of, named.part, place);
-    let value = part_table(alloc, named.part, named.rows, row)?;
-    let table = table_alone(alloc, named.key, value)?;
-    put_above(alloc, shown, comments.kept, named.part, before, row)?;
+    let before = row_before(comments.made_of, part, place);
+    let value = part_table(alloc, part, rows, row)?;
+    let table = table_alone(alloc, key_of(part), value)?;
+    put_above(alloc, shown, comments.kept, part, before, row)?;
     put_document(alloc, shown, &table)
-}
-
-/// The receivers, the sources or the groups of rows, and their key in a table.
-#[derive(Clone, Copy)]
-struct NamedPart<'a> {
-    key: &'static str,
-    part: Part,
-    rows: &'a [ImportRow],
 }
 
 /// Writes the tables of the receivers, the sources or the groups, in the order of their first rows, each below its comments.
@@ -292,23 +240,17 @@ fn put_tables(
     alloc: Global,
     shown: &mut String,
     comments: Comments<'_>,
-    known: &Known,
-    key: &'static str,
+    known: &IndexedRows,
     part: Part,
 ) -> Result<(), AllocError>
-    requires known { Knows known.now }
+    requires known { IsIndexed known.now }
     requires comments { AreSound comments }
-    ensures { OnOk result (IsWithTables (string_bytes shown.old) (string_bytes shown.new) key.now
+    ensures { OnOk result (IsWithTables (string_bytes shown.old) (string_bytes shown.new) (part_key part)
         (pieces (lines_kept comments.entry.kept.now) (rows_before comments.entry.made_of) part known.now.rows.items)) }
 {
-    let named = NamedPart {
-        key,
-        part,
-        rows: &known.rows,
-    };
     for place in 0..known.count(part) {
         let row = known.first_row(part, place);
-        put_table(alloc, shown, comments, named, place, row)?;
+        put_table(alloc, shown, comments, part, &known.rows, place, row)?;
     }
     Ok(())
 }
@@ -325,8 +267,8 @@ fn put_empty(alloc: Global, table: &mut Table, key: &str, count: usize) -> Resul
 }
 
 /// The pairs above all tables: the arrays that have none, and the version.
-fn head_table(alloc: Global, known: &Known) -> Result<Table, AllocError>
-    requires { Knows known.now }
+fn head_table(alloc: Global, known: &IndexedRows) -> Result<Table, AllocError>
+    requires { IsIndexed known.now }
     ensures { IfOk result (λ table. table_view table ≡ head_members known.now.rows.items) }
 {
     let mut table = Table::new(alloc);
@@ -341,9 +283,9 @@ fn head_table(alloc: Global, known: &Known) -> Result<Table, AllocError>
 pub fn table_text(
     alloc: Global,
     comments: Comments<'_>,
-    known: &Known,
+    known: &IndexedRows,
 ) -> Result<String, AllocError>
-    requires known { Knows known.now }
+    requires known { IsIndexed known.now }
     requires comments { AreSound comments }
     ensures { IfOk result (λ text. IsTableText (lines_kept comments.entry.kept.now) (rows_before comments.entry.made_of)
         known.now.rows.items (string_bytes text)) }
@@ -351,15 +293,8 @@ pub fn table_text(
     let head = head_table(alloc, known)?;
     let mut shown = String::new(alloc);
     put_document(alloc, &mut shown, &head)?;
-    put_tables(alloc, &mut shown, comments, known, "group", Part::Groups)?;
-    put_tables(
-        alloc,
-        &mut shown,
-        comments,
-        known,
-        "receiver",
-        Part::Receivers,
-    )?;
-    put_tables(alloc, &mut shown, comments, known, "source", Part::Sources)?;
+    put_tables(alloc, &mut shown, comments, known, Part::Groups)?;
+    put_tables(alloc, &mut shown, comments, known, Part::Receivers)?;
+    put_tables(alloc, &mut shown, comments, known, Part::Sources)?;
     Ok(shown)
 }

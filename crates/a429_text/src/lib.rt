@@ -31,6 +31,7 @@
 
 mod aligned;
 mod cells;
+mod csv_line;
 mod csv_text;
 pub mod cut;
 mod fields;
@@ -45,6 +46,7 @@ mod sheets;
 mod text;
 
 pub use cells::{Cell, Row};
+pub use csv_line::{CsvLine, field_at};
 pub use gathered::Gathered;
 pub use rows::Rows;
 pub use sheets::{Sheet, SheetForm, render_rows};

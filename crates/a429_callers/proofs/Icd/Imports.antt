@@ -18,7 +18,7 @@ use Rattle.a429_import.specs.declared.fault.ImportColumn.{ImportColumn}
 use Rattle.a429_import.specs.declared.fault.ImportFault.{ImportFault}
 use Rattle.a429_import.specs.declared.fault.ImportFault.TheVariants.{Csv, NoMemory, Table}
 use Rattle.a429_import.specs.declared.import.Imported.{Imported}
-use Rattle.a429_import.specs.declared.lines.CsvLine.{CsvLine}
+use Rattle.a429_text.specs.declared.csv_line.CsvLine.{CsvLine}
 use Rattle.a429_import.specs.declared.rows.ImportRow.{ImportRow}
 use Rattle.a429_callers.specs.ImportedIcd.{HasPlanTextOf, ImportedIcdIsSamePlan, ImportsPlan, IsWholeInIcd, icd_csv, plainly}
 use Rattle.a429_import.specs.Imports.{AreNamedLines, IsImport, IsImportIf, IsImportOf, has_row_above, is_misquoted_text}

@@ -25,7 +25,7 @@ use Rattle.a429_table.proofs.Absence.{all_from}
 use Rattle.a429_import.specs.declared.fault.CsvFaultKind.TheVariants.{Form}
 use Rattle.a429_import.specs.declared.fault.ImportColumn.{ImportColumn}
 use Rattle.a429_import.specs.declared.fault.ImportColumn.TheVariants.{Filters, Label, Rate, Receiver, Sdi}
-use Rattle.a429_import.specs.declared.lines.CsvLine.{CsvLine}
+use Rattle.a429_text.specs.declared.csv_line.CsvLine.{CsvLine}
 use Rattle.a429_import.specs.declared.rows.ImportRow.{ImportRow}
 use Rattle.a429_documents.specs.Document.{icd_columns, icd_rows}
 use Rattle.a429_documents.proofs.IcdRows.{groups_rows, icd_rows_are, output_row, output_rows}

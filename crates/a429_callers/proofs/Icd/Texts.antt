@@ -11,7 +11,7 @@ use Rattle.csv.specs.Writing.{default_writer, escaped, fields_text, is_blank, re
 use Rattle.csv.specs.declared.parser.State.{State}
 use Rattle.csv.specs.declared.parser.State.TheVariants as st
 use Rattle.csv.proofs.RoundTrip.{read-write}
-use Rattle.a429_import.specs.declared.lines.CsvLine.{CsvLine}
+use Rattle.a429_text.specs.declared.csv_line.CsvLine.{CsvLine}
 use Rattle.a429_text.specs.CutText.{without_byte_order_mark}
 use Rattle.a429_text.specs.Sheets.{csv_text_of}
 use Rattle.a429_documents.specs.Document.{icd_columns}

@@ -2,10 +2,10 @@
 ghost use Rattle.std.specs.Prelude.{◌≡◌, ◌==◌, ◌<◌, ◌++◌, IfOk, OnOk, codes, length, string_bytes};
 ghost use Rattle.a429_documents.specs.Diff.{filter_change, filter_count, lists_rows, no_change, of_group, of_name, source_change, station_rows, with_label, with_receiver, with_sdi};
 
+use crate::cells::sdi_text;
 use crate::diff::names::{Named, add_list};
 use crate::diff::rows::{Subject, add_row};
 use crate::diff::texts::{put_change, put_counts};
-use crate::document::sdi_text;
 use a429_equipment::{
     Equipment, GroupRow, ReceiverRow, SourceRow, receiver_name, same_filters, same_sdi,
 };

@@ -4,7 +4,7 @@ ghost use Rattle.a429_text.specs.Sheets.{field_of};
 ghost use Rattle.a429_slots.specs.Planned.{HaveSources};
 ghost use Rattle.a429_documents.specs.Lint.{AreAsked, alike_row, alike_rows, are_alike, coarse_row, coarse_rows, crowded_row, crowded_rows, finding_row, full_rows, group_finding, group_findings, is_coarse, is_full, load_row, max_of, needed_row, needs_too_many, of_each, one_is_any, output_name, planned_buses, too_many_rows, unfit_rows};
 
-use crate::document::number;
+use crate::cells::number;
 use crate::lint::GroupFinding;
 use crate::lint::demands::{are_fit, bus_count, cells_of, filled_from, frame_of, planned_buses};
 use crate::lint::millis::add_millis;

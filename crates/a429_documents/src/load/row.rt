@@ -7,7 +7,7 @@ ghost use Rattle.a429_text.specs.Sheets.{field_of};
 ghost use Rattle.a429_slots.specs.Tables.{buses_of};
 ghost use Rattle.a429_documents.specs.Load.{bus_field, bus_rows, bus_rows_of, cells_on, listed_buses, load_row, loads_of, room_rows, room_within};
 
-use crate::document::number;
+use crate::cells::number;
 use crate::load::cells::{all_cells, all_room, room_on};
 use crate::planned::PlannedGroup;
 use a429_equipment::GroupRow;

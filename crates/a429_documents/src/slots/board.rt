@@ -2,7 +2,7 @@
 ghost use Rattle.std.specs.Prelude.{◌≡◌, ◌<◌, ◌++◌, ◌∷◌, [], unwrap_or};
 ghost use Rattle.a429_documents.specs.SlotBoard.{board_bus, board_cell, board_group, board_row, board_word};
 
-use crate::document::{number, sdi_cell};
+use crate::cells::{number, sdi_cell};
 use crate::planned::{PlannedGroup, PlannedOutput};
 use crate::slots::start_cell;
 use a429_text::{Cell, Rows};

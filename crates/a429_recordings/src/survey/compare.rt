@@ -53,7 +53,7 @@ fn compare_words<'a, F: FileReader>(
     warnings: &mut Vec<Warning>,
 ) -> Result<Reply, Refused>
     ensures silent { PassesNone form.entry.reading (logs_of logs.now) → warnings.new.items ≡ warnings.old.items }
-    ensures compared { Replies (AreCompared equipment.now form.entry (logs_of logs.now)) (IsWordFault form.entry (logs_of logs.now)) result }
+    ensures replied { Replies (AreCompared equipment.now form.entry (logs_of logs.now)) (IsWordFault form.entry (logs_of logs.now)) result }
 {
     let survey = survey_of(alloc, files, form, logs, warnings)?;
     Ok(sheet_of(alloc, &survey, equipment, form)?)

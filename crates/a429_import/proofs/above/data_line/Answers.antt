@@ -1,8 +1,9 @@
-use Rattle.std.proofs.Common.{ap, ◌∷◌, ◌++◌, ◌∙◌, [], refl, ◌≡◌, map}
+use Rattle.std.proofs.Common.{ap, ◌∷◌, ◌++◌, ◌∙◌, [], Bool, None, Some, cond, refl, ◌≡◌, map}
+use Rattle.std.specs.Option.{option_or}
 use Rattle.csv.specs.Records.{fields_of}
-use Rattle.a429_import.specs.declared.lines.CsvLine.{CsvLine}
+use Rattle.a429_text.specs.declared.csv_line.CsvLine.{CsvLine}
 use Rattle.a429_import.specs.FaultLines.{is_data}
-use Rattle.a429_import.proofs.FaultLines.{line_more, no_line}
+use Rattle.a429_import.proofs.FaultLines.{line_more, no_line, some_if}
 use Rattle.a429_import.proofs.ImportAbove.{line_read}
 use Rattle.a429_import.specs.ImportWords.{trimmed}
 use Rattle.a429_import.proofs.ImportForms.{read_more}
@@ -32,7 +33,7 @@ loop-row-preserved c =
       all = inv.all ++ line ∷ [];
       read = read_more c.args.form.separator c.args.form.text.now c.args.form.text.now c.loop-row.row-iterator.rdr c.next.new.self.rdr c.loop-row.count c.line_of.new.count inv.all line (fields_of is.0) inv.read s.0 s.1 c.in_ok-line.ensures.separator is.2
           (record { number = c.in_ok-line.ensures.number; counted = c.in_ok-line.ensures.counted; row = c.in_ok-line.ensures.row; between = c.in_ok-line.ensures.between });
-      line = line_more (is_data (fields_of c.args.heading.now.line.fields)) inv.all line c.loop-row.found c.found_at-found.result inv.line c.found_at-found.ensures;
+      line = line_more (is_data (fields_of c.args.heading.now.line.fields)) inv.all line c.loop-row.found c.or-found.result inv.line (c.or-found.ensures ∙ ap (λ o. option_or c.loop-row.found o) (c.then_some.ensures ∙ some_if c.is_data.result line.number ∙ ap (λ (b : Bool). cond b (Some line.number) None) c.is_data.ensures));
     }
 
 pub returns : goal.returns

@@ -1,6 +1,6 @@
 use Rattle.std.proofs.Common.{◌≡◌, ◌<◌, List}
 use Rattle.csv.specs.Records.{fields_of}
-use Rattle.a429_import.specs.declared.lines.CsvLine.{CsvLine}
+use Rattle.a429_text.specs.declared.csv_line.CsvLine.{CsvLine}
 use Rattle.a429_import.specs.ImportReading.{HasRead}
 use Rattle.a429_import.specs.FaultLines.{is_data}
 use Rattle.a429_import.proofs.FaultLines.{line_number}

@@ -1,6 +1,6 @@
 use Rattle.std.proofs.Common.{◌∙◌, [], ◌≡◌, map}
 use Rattle.csv.specs.Records.{fields_of}
-use Rattle.a429_import.specs.declared.lines.CsvLine.{CsvLine}
+use Rattle.a429_text.specs.declared.csv_line.CsvLine.{CsvLine}
 use Rattle.a429_import.proofs.ImportAbove.{first_is, no_first}
 use Rattle.a429_import.specs.ImportWords.{trimmed}
 use Rattle.a429_import.proofs.ImportForms.{read_more}

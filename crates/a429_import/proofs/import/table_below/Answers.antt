@@ -1,5 +1,5 @@
 use Rattle.std.proofs.Common.{◌∙◌, ◌∷◌, false, subst, sym, true}
-use Rattle.a429_import.specs.declared.lines.CsvLine.{CsvLine}
+use Rattle.a429_text.specs.declared.csv_line.CsvLine.{CsvLine}
 use Rattle.a429_import.specs.ImportReading.{AreRead, SayRows}
 use Rattle.a429_import.specs.Imports.{IsImportFrom}
 use Rattle.a429_import.proofs.Imports.{fault_import}

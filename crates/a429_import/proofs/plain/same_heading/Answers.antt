@@ -1,13 +1,13 @@
-use Rattle.std.proofs.Common.{◌≡◌, ◌∙◌, false, sym}
-use Rattle.a429_import.specs.ImportWords.{begin_alike}
-use Rattle.a429_import.proofs.Headings.{unlike_first}
+use Rattle.std.proofs.Common.{◌≡◌, ◌∙◌, ◌-◌, ◌<◌, ℕ, List, ap, arith, length, sym}
+use Rattle.std.proofs.lemmas.List.{length-drop}
+use Rattle.a429_import.proofs.SameLetters.{begins}
 use Rattle.a429_import.proofs.plain.same_heading.Goals as goal
-use Rattle.a429_import.proofs.plain.same_heading.Goals.{else-is_empty, then-is_empty}
 
-pub returns-else-begin_alike : goal.returns-else-begin_alike
-returns-else-begin_alike c = elim c.if-is_empty.branch [
-  | then-is_empty w ↦ cc c.if-begin_alike.false
-  | else-is_empty w ↦
-      let unlike : begin_alike c.args.a.now c.args.b.now ≡ false = cc (w.begin_alike.ensures, w.value-is, c.if-begin_alike.false) in
-      sym (unlike_first c.args.a.now c.args.b.now (sym c.is_empty.ensures ∙ w.if-is_empty.false) unlike)
-]
+pub loop-left_before-smaller : goal.loop-left_before-smaller
+loop-left_before-smaller c =
+    let at = c.loop-left_before in
+    let left : List ℕ = at.left.now in
+    let some : 0 < length left = begins at.left_before left at.right_before at.right.now (sym c.begin_alike.ensures ∙ c.loop-left_before-test.true) in
+    let len : length c.from_place.result.now ≡ length left - 1 = ap length c.from_place.ensures ∙ length-drop 1 left in
+    let few = c.without_extra-left-in-loop-left_before.ensures.len in
+    omega (arith, some, len, few)

@@ -1,11 +1,9 @@
 use Rattle.std.proofs.Common.{◌≡◌, ◌≤◌, ℕ, length}
-use Rattle.a429_import.specs.ImportWords.{words_of}
 use Rattle.a429_import.specs.Letters.{letters_of}
 use Rattle.a429_import.proofs.plain.without_extra.Given as goal
 
 abbrev pub invariant-loop-rest : goal.invariant-loop-rest
 invariant-loop-rest l = record {
-  words : words_of l.rest ≡ words_of l.text;
   letters : (before : ℕ) → letters_of before l.rest ≡ letters_of before l.text;
   len : length l.rest ≤ length l.text;
 }

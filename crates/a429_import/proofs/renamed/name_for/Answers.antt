@@ -5,7 +5,7 @@ use Rattle.std.specs.Str.{bytes_eq}
 use Rattle.a429_import.specs.declared.rows.ImportRow.{ImportRow}
 use Rattle.a429_import.specs.ImportFields.{field_in, utf8_in}
 use Rattle.a429_import.specs.ImportTables.{firsts, name_in}
-use Rattle.a429_import.specs.Known.{named_of, place_of}
+use Rattle.a429_import.specs.IndexedRows.{named_of, place_of}
 use Rattle.a429_import.specs.Renamed.{name_for, texts_of}
 use Rattle.a429_import.proofs.Knowing.{knows_part}
 use Rattle.a429_import.proofs.renamed.name_for.Goals as goal

@@ -1,7 +1,7 @@
 use Rattle.std.proofs.Common.{List, ℕ, ap, ◌∙◌, sym, refl, ◌∷◌, ◌++◌, [], filter, subst, ◌≡◌, map}
 use Rattle.std.proofs.lemmas.List.Elements.{filter-append}
 use Rattle.csv.specs.Records.{fields_of}
-use Rattle.a429_import.specs.declared.lines.CsvLine.{CsvLine}
+use Rattle.a429_text.specs.declared.csv_line.CsvLine.{CsvLine}
 use Rattle.a429_import.specs.SheetReading.{ReadsSheet}
 use Rattle.a429_import.specs.ImportMaps.{given_texts}
 use Rattle.a429_import.specs.Imports.{has_text}

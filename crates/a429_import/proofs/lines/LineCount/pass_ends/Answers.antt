@@ -47,5 +47,8 @@ returns-clause-rest c =
     let none : begins_with_end (drop c.loop-self.self.at c.args.text.now) ≡ false = sym c.is_at_end.ensures ∙ c.loop-self-test.false in
     row_here (drop c.loop-self.self.at c.args.text.now) none ∙ c.loop-self.invariant.rest
 
+pub returns-clause-none : goal.returns-clause-none
+returns-clause-none c = sym c.is_at_end.ensures ∙ c.loop-self-test.false
+
 pub returns-clause-row : goal.returns-clause-row
 returns-clause-row c = c.loop-self.invariant.row

@@ -26,4 +26,4 @@ returns-clause-compared g c =
     let t = c.in_ok-equipment.equipment in
     let is = c.in_ok-equipment.ensures in
     replies_weaker (AreCompared t f logs) (IsCompared table f logs) (IsWordFault f logs) (IsUncompared table f logs) c.compare_words.result
-    (λ status bytes one. (t, is, one)) (λ e one. inr (t, is, one)) c.compare_words.ensures.compared
+    (λ status bytes one. (t, is, one)) (λ e one. inr (t, is, one)) c.compare_words.ensures.replied
