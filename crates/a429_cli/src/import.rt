@@ -61,34 +61,6 @@ fn column_name(fault: &ImportFault) -> Option<&'static str> {
     }
 }
 
-/// Rows that are refused, for a hint. Error: an allocation failed.
-fn rows_evidence(
-    bytes: Vec<u8>,
-    column: Option<&'static str>,
-    refused: RefusedRows,
-) -> Result<RowsEvidence, AllocError> {
-    let mut refused = refused;
-    let titles = refused.take_titles()?;
-    let RefusedRows {
-        heading,
-        rows,
-        faulty,
-        count,
-        is_misquoted,
-        ..
-    } = refused;
-    Ok(RowsEvidence {
-        bytes,
-        column,
-        titles,
-        heading,
-        rows,
-        faulty,
-        count,
-        is_misquoted,
-    })
-}
-
 /// What a hint needs of a refused sheet.
 fn evidence_of(
     alloc: Global,
@@ -100,10 +72,25 @@ fn evidence_of(
         Some(refused) => refused,
         None => RefusedRows::new(alloc),
     };
-    match rows_evidence(bytes, column_name(fault), refused) {
-        Ok(rows) => Evidence::Rows(rows),
-        Err(_) => Evidence::Nothing,
-    }
+    let RefusedRows {
+        titles,
+        heading,
+        rows,
+        faulty,
+        count,
+        is_misquoted,
+        ..
+    } = refused;
+    Evidence::Rows(RowsEvidence {
+        bytes,
+        column: column_name(fault),
+        titles,
+        heading,
+        rows,
+        faulty,
+        count,
+        is_misquoted,
+    })
 }
 
 /// Files of which a person sees how much is read.

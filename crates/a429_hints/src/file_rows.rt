@@ -49,10 +49,7 @@ impl<'a> FileRows<'a> {
 
     /// The numbers of a row. `None` if one has a wrong form.
     pub fn numbers(self, row: &CsvLine) -> Option<RowNumbers> {
-        match row_numbers(self.heading, row) {
-            Ok(numbers) => Some(numbers),
-            Err(_) => None,
-        }
+        row_numbers(self.heading, row).ok()
     }
 
     /// Whether two rows have the same field in a column, and the same label and SDI. If SDIs may overlap, one of them can be any.

@@ -198,15 +198,12 @@ pub fn times_in(heading: &CsvLine, column: ImportColumn) -> usize {
 /// Whether a heading lacks a column, and no guess has it. A guess for the minimum has the maximum too if its column has both
 /// limits.
 pub fn is_missing(file: FileRows, column: ImportColumn) -> bool {
+    let least = guess_for(file.guesses, ImportColumn::MinUs);
     column.is_needed()
         && times_in(&file.heading.line, column) == 0
         && guess_for(file.guesses, column).is_none()
-        && !(column == ImportColumn::MaxUs && file.guesses.iter().any(|guess| has_limits(*guess)))
-}
-
-/// Whether a guess is for a column with both limits.
-fn has_limits(guess: Guess) -> bool {
-    matches!(guess.name, "interval_us" | "interval_ms" | "rate_hz")
+        && !(column == ImportColumn::MaxUs
+            && least.is_some_and(|guess| has_both(file, guess.place)))
 }
 
 /// The guess for a column. `None` if there is none.

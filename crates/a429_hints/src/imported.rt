@@ -101,11 +101,13 @@ fn tell_twin_output<'a>(file: FileRows<'a>, row: &'a CsvLine, hint: &HintText) {
 /// Says of what there is one too many with a row: the receivers, the sources or the groups, the outputs of its group, or the
 /// filters of its receiver.
 pub fn tell_too_many(field: FileField, hint: &HintText) {
-    let most = match field.column {
+    let FileField { file, row, column } = field;
+    let known = file.output_row(file.field(row, column), 0);
+    let most = match column {
         ImportColumn::Receiver => RECEIVERS,
         ImportColumn::Source => SOURCES,
         ImportColumn::Filters => return tell_filters(field, hint),
-        _ if is_known(field) => return tell_outputs(field.row, hint),
+        _ if known.is_some() => return tell_outputs(row, hint),
         _ => GROUPS,
     };
     field.begin(hint);
@@ -114,13 +116,6 @@ pub fn tell_too_many(field: FileField, hint: &HintText) {
         most.saturating_add(1),
         most,
     );
-}
-
-/// Whether an earlier row has the same field.
-fn is_known(field: FileField) -> bool {
-    let FileField { file, row, column } = field;
-    let mut rows = file.rows.iter();
-    rows.any(|earlier| file.field(earlier, column) == file.field(row, column))
 }
 
 /// Says that a row is one output too many for its group.

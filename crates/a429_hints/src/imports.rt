@@ -13,10 +13,7 @@ use a429_console::refusals::CommandRefusal;
 use a429_console::refusals::kinds::CsvKind;
 use a429_console::refusals::rows::RowsEvidence;
 use a429_filter::Filter;
-use a429_import::{
-    Heading, IMPORT_COLUMNS, ImportColumn, column_in, form_fault, heading_texts, is_column_named,
-    keep_texts,
-};
+use a429_import::{Heading, IMPORT_COLUMNS, ImportColumn, form_fault, heading_texts, keep_texts};
 use a429_table::FaultKind;
 use a429_text::CsvLine;
 
@@ -245,30 +242,4 @@ fn tell_difference(field: FileField, hint: &HintText) {
         hint.say_two("{?} on this line, but {?}", field.text(), other);
         hint.end_one(" on line {}", earlier.number);
     }
-}
-
-/// Says that the intervals of a group may be milliseconds, why, and which options read them so.
-pub fn tell_millis(group: &str, reason: &str, maps: &[&str], hint: &HintText) {
-    hint.begin(": ");
-    hint.say_two(
-        "the intervals of group {} are all below {}; if they are in ms, name the columns min_ms and max_ms, or give",
-        group,
-        reason,
-    );
-    hint.end_two(
-        " --map \"{..}=min_ms\" --map \"{..}=max_ms\"",
-        heading_for(maps, ImportColumn::MinUs),
-        heading_for(maps, ImportColumn::MaxUs),
-    );
-}
-
-/// The heading of a column of intervals, by texts HEADING=COLUMN; without such a text, the name of the column.
-fn heading_for<'a>(maps: &[&'a str], column: ImportColumn) -> &'a str {
-    for text in maps {
-        if is_column_named(column, column_in(*text)) {
-            let (heading, _) = text.rsplit_once('=').unwrap_or((*text, ""));
-            return heading;
-        }
-    }
-    column.name()
 }

@@ -1,8 +1,9 @@
-//! Hints about transmit intervals without a grid period.
+//! Hints about transmit intervals: without a grid period, or perhaps in milliseconds.
 
 use crate::hint::HintText;
 use a429_equipment::LONGEST_INTERVAL;
 use a429_grid::{SLOT_TIME, grid_period};
+use a429_import::{ImportColumn, column_in, is_column_named};
 
 /// The periods of the grid, in slots (profile).
 const PERIODS: [u64; 14] = [
@@ -43,12 +44,12 @@ pub fn tell_unfit(interval: Interval, is_first: bool, hint: &HintText) {
     if is_first {
         tell_period_below(interval, hint);
         tell_period_above(interval, hint);
-        tell_millis(interval, hint);
+        tell_period_of_millis(interval, hint);
     }
 }
 
 /// Says which period an interval has when read as milliseconds, if it has one.
-fn tell_millis(interval: Interval, hint: &HintText) {
+fn tell_period_of_millis(interval: Interval, hint: &HintText) {
     let Interval {
         min_us,
         max_us,
@@ -83,4 +84,30 @@ fn tell_period_above(interval: Interval, hint: &HintText) {
         let us = time.div_ceil(u64::from(interval.rate.max(1)));
         hint.line_two("max_us = {} would allow period {}", us, *slots);
     }
+}
+
+/// Says that the intervals of a group may be milliseconds, why, and which options read them so.
+pub fn tell_millis(group: &str, reason: &str, maps: &[&str], hint: &HintText) {
+    hint.begin(": ");
+    hint.say_two(
+        "the intervals of group {} are all below {}; if they are in ms, name the columns min_ms and max_ms, or give",
+        group,
+        reason,
+    );
+    hint.end_two(
+        " --map \"{..}=min_ms\" --map \"{..}=max_ms\"",
+        heading_for(maps, ImportColumn::MinUs),
+        heading_for(maps, ImportColumn::MaxUs),
+    );
+}
+
+/// The heading of a column of intervals, by texts HEADING=COLUMN; without such a text, the name of the column.
+fn heading_for<'a>(maps: &[&'a str], column: ImportColumn) -> &'a str {
+    for text in maps {
+        if is_column_named(column, column_in(*text)) {
+            let (heading, _) = text.rsplit_once('=').unwrap_or((*text, ""));
+            return heading;
+        }
+    }
+    column.name()
 }

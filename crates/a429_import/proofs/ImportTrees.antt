@@ -1,6 +1,6 @@
 -- The tree that rows state: how it is built, and how deep it is.
-use Rattle.std.proofs.Common.{codes, ◌≡◌, ◌==◌, ◌+◌, ◌++◌, append-nil, append_assoc, cond, drop, length, sym, ℕ, ◌≤◌, Bool, true, false, List, [], ◌∷◌, map, Option, None, Some, String, Global, string_bytes, Ordering, Less, Equal, Greater, arith, ap, refl, ◌∙◌}
-use Rattle.std.specs.Prelude.{filter, if◌then◌else◌, slice_get}
+use Rattle.std.proofs.Common.{codes, ◌≡◌, ◌==◌, ◌+◌, ◌++◌, append-nil, append_assoc, drop, length, sym, ℕ, ◌≤◌, Bool, true, false, List, [], ◌∷◌, map, Option, None, Some, String, Global, string_bytes, Ordering, Less, Equal, Greater, arith, ap, refl, ◌∙◌}
+use Rattle.std.specs.Prelude.{filter, slice_get}
 use Rattle.std.specs.Ordering.{is_lt, match_ordering}
 use Rattle.std.specs.BTreeMap.{insert_entry}
 use Rattle.std.specs.String.{string_cmp}
@@ -13,7 +13,7 @@ use Rattle.a429_word.proofs.Lists.{clash, drop_at}
 use Rattle.a429_import.specs.declared.rows.ImportRow.{ImportRow}
 use Rattle.a429_import.specs.declared.firsts.Part.{Part}
 use Rattle.a429_import.specs.declared.firsts.Part.TheVariants.{Receivers, Sources, Groups}
-use Rattle.a429_import.specs.ImportTables.{groups_of, is_stated, is_word, listed, part_tree, part_trees, with_filters, with_hold, sdi_data, number, words, firsts, rows_of_group, receiver_tree, source_tree, output_tree, group_tree, root_members}
+use Rattle.a429_import.specs.ImportTables.{groups_of, is_stated, listed, part_tree, part_trees, with_filters, with_hold, sdi_data, number, words, firsts, rows_of_group, receiver_tree, source_tree, output_tree, group_tree, root_members}
 
 abbrev Entry : Type 0
 Entry = String Global × Value

@@ -1,10 +1,8 @@
 //! Rows of data above the heading: a sheet that was sorted with its heading has them. They would be passed over, as titles are.
-ghost use Rattle.std.specs.Prelude.{◌≡◌, ◌<◌, IfOk};
-ghost use Rattle.csv.specs.Reading.{owned_rows_left, owned_rows_reader};
+ghost use Rattle.std.specs.Prelude.{◌≡◌, IfOk};
 ghost use Rattle.csv.specs.Records.{fields_of};
 ghost use Rattle.a429_import.specs.FaultLines.{data_line, data_line_above, first_row, is_data};
 ghost use Rattle.a429_import.specs.ImportMaps.{given_texts, names_by};
-ghost use Rattle.a429_import.specs.ImportReading.{IsUnread};
 ghost use Rattle.a429_import.specs.Imports.{separated};
 ghost use Rattle.a429_import.specs.LineCounts.{IsEnd};
 
@@ -16,23 +14,20 @@ use crate::lines::{count_before, line_of, rows_of};
 use crate::maps::named_by;
 use crate::refused::{RefusedRows, titled_rows};
 use a429_text::CsvLine;
-use csv::{ByteRecord, ByteRecordsIntoIter};
+use csv::ByteRecord;
 use std::alloc::{AllocError, Global};
 
-/// The first row of a text of this form; a row without fields if the text has none.
-fn first_line(
-    alloc: Global,
-    text: &[u8],
-    form: Form<'_>,
-    rows: &mut ByteRecordsIntoIter<&[u8]>,
-) -> Result<CsvLine, AllocError>
-    requires end { IsEnd text.now form.text.now }
-    requires before { IsUnread form.separator form.text.now (owned_rows_reader rows.old) }
-    requires left { 0 < owned_rows_left rows.old }
+/// The heading of a text, as it is written; a row without fields if the text has none. The form is that of the text.
+fn titles_of(alloc: Global, text: &[u8], form: Form<'_>) -> Result<CsvLine, AllocError>
+    requires { IsEnd text.now form.text.now }
     ensures { IfOk result (λ line. fields_of line.fields ≡ first_row (separated form.entry.separator) form.entry.text.now) }
 {
     let mut count = count_before(text, form.text);
-    match rows.next() {
+    let mut rows = rows_of(alloc, form);
+    let first = rows.next();
+    // One call, instead of a drop of each of its parts.
+    std::mem::drop(rows);
+    match first {
         Some(row) => {
             let line = line_of(alloc, text, form, &mut count, row)?;
             Ok(line)
@@ -43,18 +38,6 @@ fn first_line(
             fields: ByteRecord::new(alloc),
         }),
     }
-}
-
-/// The heading of a text, as it is written. The form is that of the text.
-fn titles_of(alloc: Global, text: &[u8], form: Form<'_>) -> Result<CsvLine, AllocError>
-    requires { IsEnd text.now form.text.now }
-    ensures { IfOk result (λ line. fields_of line.fields ≡ first_row (separated form.entry.separator) form.entry.text.now) }
-{
-    let mut rows = rows_of(alloc, form);
-    let first = first_line(alloc, text, form, &mut rows);
-    // One call, instead of a drop of each of its parts.
-    std::mem::drop(rows);
-    first
 }
 
 /// Whether a row is one of data: it has as many fields as the heading, and a label.

@@ -83,13 +83,12 @@ fn place_of(heading: &CsvLine, column: ImportColumn) -> Option<usize>
     None
 }
 
-/// How the column of an interval, which is at a place, states it; in microseconds if the heading lacks it.
+/// How the column of an interval states it; in microseconds if the heading lacks it.
 #[tactic(auto, unfolding(crate::specs::ImportRows::column_form))]
-fn column_form(heading: &CsvLine, column: ImportColumn, place: Option<usize>) -> IntervalForm
-    requires { place ≡ position (is_named column) (fields_of heading.now.fields) }
+fn column_form(heading: &CsvLine, column: ImportColumn) -> IntervalForm
     ensures { result ≡ column_form (fields_of heading.now.fields) column }
 {
-    match place {
+    match place_of(heading, column) {
         Some(place) => form_named(column, heading.field(place)),
         None => IntervalForm {
             unit: IntervalUnit::Micros,
@@ -135,16 +134,8 @@ impl Heading {
         ensures { result.line ≡ line }
     {
         let places = places_of(&line);
-        let min_form = column_form(
-            &line,
-            ImportColumn::MinUs,
-            places[ImportColumn::MinUs as usize],
-        );
-        let max_form = column_form(
-            &line,
-            ImportColumn::MaxUs,
-            places[ImportColumn::MaxUs as usize],
-        );
+        let min_form = column_form(&line, ImportColumn::MinUs);
+        let max_form = column_form(&line, ImportColumn::MaxUs);
         Heading {
             line,
             places,

@@ -1,14 +1,12 @@
 //! An equipment table from rows of comma-separated values.
 ghost use Rattle.std.specs.Prelude.{◌≡◌, [], ◌∷◌, false, IfOk, List, None, Some};
 ghost use Rattle.a429_text.specs.declared.csv_line.CsvLine.{CsvLine};
-ghost use Rattle.a429_import.specs.FaultLines.{fault_line};
 ghost use Rattle.a429_import.specs.ImportForms.{from_heading, separator_in};
 ghost use Rattle.a429_import.specs.ImportMaps.{given_texts};
 ghost use Rattle.a429_import.specs.ImportReading.{StandsFor};
-ghost use Rattle.a429_import.specs.Imports.{IsImport, IsImportFrom, IsTableOf, is_unfit, separated};
+ghost use Rattle.a429_import.specs.Imports.{IsImport, IsImportFrom, IsTableOf, is_unfit};
 ghost use Rattle.a429_import.specs.KeptFields.{lines_kept};
 ghost use Rattle.a429_import.specs.IndexedRows.{IsIndexed};
-ghost use Rattle.a429_import.specs.LineCounts.{IsEnd};
 ghost use Rattle.a429_import.specs.NumberRanges.{HaveRanges};
 ghost use Rattle.a429_import.specs.Renamed.{all_renamed};
 ghost use Rattle.a429_import.specs.SheetReading.{ReadsSheet};
@@ -168,28 +166,6 @@ fn table_of_text<W: Watch>(
     table
 }
 
-/// The line on which the first field begins whose quotes are wrong. If there is none, that of the first row of data above the
-/// heading.
-fn unfit_line(
-    alloc: Global,
-    maps: &[&str],
-    text: &[u8],
-    form: Form<'_>,
-    refused: &mut Option<RefusedRows>,
-) -> Result<Option<u64>, AllocError>
-    requires { IsEnd text.now form.text.now }
-    ensures { IfOk result (λ line. line
-        ≡ fault_line (separated form.entry.separator) (given_texts maps.now) form.entry.text.now text.now) }
-{
-    match misquoted_line_of(text, form) {
-        Some(line) => {
-            *refused = Some(misquoted_rows(alloc));
-            Ok(Some(line))
-        }
-        None => line_above(alloc, maps, text, form, refused),
-    }
-}
-
 /// The equipment table, as TOML of version 2, that rows of comma-separated values describe (profile: import): a row of
 /// column names, and a row for each output, or for a source that no group sends. Columns may come in any order; columns
 /// that `ImportColumn` does not have are skipped. So are lines above the heading, such as titles, but a row of data there is
@@ -221,7 +197,11 @@ pub fn import_table<W: Watch>(
 {
     let form = form_of(maps, bytes);
     watch.show_done(0, bytes.len());
-    match unfit_line(alloc, maps, bytes, form, refused)? {
+    if let Some(line) = misquoted_line_of(bytes, form) {
+        *refused = Some(misquoted_rows(alloc));
+        return Err(csv_fault(line, CsvFaultKind::Form, None));
+    }
+    match line_above(alloc, maps, bytes, form, refused)? {
         Some(line) => Err(csv_fault(line, CsvFaultKind::Form, None)),
         None => table_of_text(alloc, maps, options, bytes, form, watch, refused),
     }

@@ -17,7 +17,7 @@ const ROWS_BELOW: usize = 2000;
 #[derive(Drop)]
 pub struct RefusedRows {
     /// The heading as it is written. `None` if there is none.
-    titles: Option<CsvLine>,
+    pub titles: Option<CsvLine>,
     /// The heading by the names of its columns. `None` if no row was looked at.
     pub heading: Option<CsvLine>,
     /// The rows above the first fault that say something new, in order. Below a heading with a fault, its first rows.
@@ -49,11 +49,6 @@ impl RefusedRows {
             is_labelled: false,
             settled_count: 0,
         }
-    }
-
-    /// Takes the heading as it is written. `None` if there is none.
-    pub fn take_titles(&mut self) -> Result<Option<CsvLine>, AllocError> {
-        Ok(self.titles.take())
     }
 
     /// Notes a heading as it is written. Error: an allocation failed.

@@ -6,7 +6,7 @@ ghost use Rattle.a429_import.specs.ImportFields.{field_in, utf8_in};
 ghost use Rattle.a429_import.specs.ImportTables.{name_in};
 ghost use Rattle.a429_import.specs.ImportRows.{texts_view};
 ghost use Rattle.a429_import.specs.IndexedRows.{IsIndexed};
-ghost use Rattle.a429_import.specs.Renamed.{AreNames, all_renamed, base_of, chosen, end_of, is_alone, is_taken, long_name, name_for, names_in, names_of_row, plain_of, plains_of, source_text, text_of, texts_of};
+ghost use Rattle.a429_import.specs.Renamed.{AreNames, all_renamed, base_of, chosen, end_of, is_alone, is_taken, long_name, name_for, names_in, names_of_row, plain_of, plains_of, text_of, texts_of};
 
 use crate::fields::utf8_in;
 use crate::firsts::Part;
@@ -32,22 +32,17 @@ pub fn name_in(part: Part, row: &ImportRow) -> &str
     }
 }
 
-/// The text of a row's source, without the rest of its key.
-fn source_text(row: &ImportRow) -> &[u8]
-    ensures { result.now ≡ source_text row.now }
-{
-    let end = 1 + row.texts.receiver.as_str().len() + label_end_len(row.numbers.sdi);
-    let source = row.texts.source.as_str().as_bytes();
-    &source[..source.len().saturating_sub(end)]
-}
-
-/// The text of a row's receiver, source or group.
+/// The text of a row's receiver, source or group; that of a source is without the rest of its key.
 pub fn text_of(part: Part, row: &ImportRow) -> &[u8]
     ensures { result.now ≡ text_of part row.now }
 {
+    let name = name_in(part, row).as_bytes();
     match part {
-        Part::Sources => source_text(row),
-        Part::Receivers | Part::Groups => name_in(part, row).as_bytes(),
+        Part::Sources => {
+            let end = 1 + row.texts.receiver.as_str().len() + label_end_len(row.numbers.sdi);
+            &name[..name.len().saturating_sub(end)]
+        }
+        Part::Receivers | Part::Groups => name,
     }
 }
 

@@ -1,4 +1,4 @@
-use Rattle.std.proofs.Common.{◌≡◌, ◌∙◌, Bool, List, ℕ, ap, drop, length, sym, take, true}
+use Rattle.std.proofs.Common.{◌∙◌, Bool, List, ℕ, ap, drop, length, sym, take}
 use Rattle.std.specs.Prelude.{◌==◌, ◌-◌, ◌&&◌}
 use Rattle.a429_import.specs.ImportWords.{back_blank, front_blank}
 use Rattle.a429_import.proofs.Trimmed.{none_if}

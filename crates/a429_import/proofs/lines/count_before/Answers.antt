@@ -1,6 +1,5 @@
 use Rattle.std.proofs.Common.{◌∙◌, ◌-◌, ℕ, List, ap, drop, length, sym}
 use Rattle.a429_text.specs.CutText.{without_byte_order_mark}
-use Rattle.a429_import.specs.ImportSteps.{state_of}
 use Rattle.a429_import.proofs.ImportQuotes.{same_mark}
 use Rattle.a429_import.proofs.RowLines.{end_of, end_place, mark_end}
 use Rattle.a429_import.proofs.lines.count_before.Goals as goal
