@@ -49,7 +49,10 @@ impl<'a> FileRows<'a> {
 
     /// The numbers of a row. `None` if one has a wrong form.
     pub fn numbers(self, row: &CsvLine) -> Option<RowNumbers> {
-        row_numbers(self.heading, row).ok()
+        match row_numbers(self.heading, row) {
+            Ok(numbers) => Some(numbers),
+            Err(_) => None,
+        }
     }
 
     /// Whether two rows have the same field in a column, and the same label and SDI. If SDIs may overlap, one of them can be any.
